@@ -1,0 +1,139 @@
+-- Laws of `All`, `Any`, `every`, `first` and `has`.
+use mathlib.Core.Bool.{Bool, true, false, not, cond, _&&_, _||_}
+use mathlib.Core.List.{List, [], _∷_, _++_, map, flatMap}
+use mathlib.Core.Logic.{_⊎_, inl, inr, _≢_}
+use mathlib.Core.Option.{Option, none, some, Option·none-ne-some}
+use mathlib.Core.Path.{_≡_, refl, sym, ap, subst, _∙_}
+use lib.Dec.{T}
+use Rattle.lists.specs.Key.{Key}
+use Rattle.lists.specs.Member.{All, Any, every, first, has, In, Distinct}
+use Rattle.lists.proofs.Test.{and-T, T-left, T-right, or-left, or-right, T-or, decided, T-true, T-false}
+
+module _ {ℓ} {A : Type 0} where
+  pub all-map {κ} : (P : A → Type ℓ) (Q : A → Type κ) → ((x : A) → P x → Q x) → (xs : List A) → All P xs → All Q xs
+  all-map P Q f [] a = tt
+  all-map P Q f (x ∷ xs) a = (f x (a .0), all-map P Q f xs (a .1))
+
+  pub all-zip {κ μ} : (P : A → Type ℓ) (Q : A → Type κ) (R : A → Type μ) → ((x : A) → P x → Q x → R x) → (xs : List A) → All P xs → All Q xs → All R xs
+  all-zip P Q R f [] a b = tt
+  all-zip P Q R f (x ∷ xs) a b = (f x (a .0) (b .0), all-zip P Q R f xs (a .1) (b .1))
+
+  pub all-append : (P : A → Type ℓ) (xs ys : List A) → All P xs → All P ys → All P (xs ++ ys)
+  all-append P [] ys a b = b
+  all-append P (x ∷ xs) ys a b = (a .0, all-append P xs ys (a .1) b)
+
+  pub append-left : (P : A → Type ℓ) (xs ys : List A) → All P (xs ++ ys) → All P xs
+  append-left P [] ys a = tt
+  append-left P (x ∷ xs) ys a = (a .0, append-left P xs ys (a .1))
+
+  pub append-right : (P : A → Type ℓ) (xs ys : List A) → All P (xs ++ ys) → All P ys
+  append-right P [] ys a = a
+  append-right P (x ∷ xs) ys a = append-right P xs ys (a .1)
+
+  pub all-of : (P : A → Type ℓ) → ((x : A) → P x) → (xs : List A) → All P xs
+  all-of P f [] = tt
+  all-of P f (x ∷ xs) = (f x, all-of P f xs)
+
+module _ {ℓ} {A B : Type 0} where
+  pub all-mapped : (f : A → B) (P : B → Type ℓ) (xs : List A) → All (λ x. P (f x)) xs → All P (map f xs)
+  all-mapped f P [] a = tt
+  all-mapped f P (x ∷ xs) a = (a .0, all-mapped f P xs (a .1))
+
+  pub mapped-all : (f : A → B) (P : B → Type ℓ) (xs : List A) → All P (map f xs) → All (λ x. P (f x)) xs
+  mapped-all f P [] a = tt
+  mapped-all f P (x ∷ xs) a = (a .0, mapped-all f P xs (a .1))
+
+  pub all-flat : (f : A → List B) (P : B → Type ℓ) (xs : List A) → All (λ x. All P (f x)) xs → All P (flatMap f xs)
+  unfolding flatMap
+  all-flat f P [] a = tt
+  all-flat f P (x ∷ xs) a = all-append P (f x) (flatMap f xs) (a .0) (all-flat f P xs (a .1))
+
+  pub flat-all : (f : A → List B) (P : B → Type ℓ) (xs : List A) → All P (flatMap f xs) → All (λ x. All P (f x)) xs
+  unfolding flatMap
+  flat-all f P [] a = tt
+  flat-all f P (x ∷ xs) a = (append-left P (f x) (flatMap f xs) a, flat-all f P xs (append-right P (f x) (flatMap f xs) a))
+
+module _ {A : Type 0} where
+  pub any-map : (P Q : A → Type 0) → ((x : A) → P x → Q x) → (xs : List A) → Any P xs → Any Q xs
+  any-map P Q f (x ∷ xs) (inl p) = inl (f x p)
+  any-map P Q f (x ∷ xs) (inr a) = inr (any-map P Q f xs a)
+
+  -- a member with a property, where every member has another
+  pub any-meets {ℓ} : (P : A → Type 0) (Q : A → Type ℓ) (C : Type 0) → ((x : A) → P x → Q x → C) → (xs : List A) → Any P xs → All Q xs → C
+  any-meets P Q C f (x ∷ xs) (inl p) a = f x p (a .0)
+  any-meets P Q C f (x ∷ xs) (inr p) a = any-meets P Q C f xs p (a .1)
+
+  pub every-all : (p : A → Bool) (xs : List A) → T (every p xs) → All (λ x. T (p x)) xs
+  every-all p [] t = tt
+  every-all p (x ∷ xs) t = (T-left (p x) (every p xs) t, every-all p xs (T-right (p x) (every p xs) t))
+
+  pub all-every : (p : A → Bool) (xs : List A) → All (λ x. T (p x)) xs → T (every p xs)
+  all-every p [] a = tt
+  all-every p (x ∷ xs) a = and-T (p x) (every p xs) (a .0) (all-every p xs (a .1))
+
+  -- where a test fails on the whole, it fails at some member
+  pub some-fails : (p : A → Bool) (xs : List A) → T (not (every p xs)) → Any (λ x. T (not (p x))) xs
+  some-fails p (x ∷ xs) t = go (p x) (λ u. some-fails p xs u) t
+    where
+      go : (b : Bool) → (T (not (every p xs)) → Any (λ y. T (not (p y))) xs) → T (not (b && every p xs)) → T (not b) ⊎ Any (λ y. T (not (p y))) xs
+      go true f u = inr (f u)
+      go false f u = inl tt
+
+  pub first-none : (p : A → Bool) (xs : List A) → first p xs ≡ none → All (λ x. T (not (p x))) xs
+  first-none p [] e = tt
+  first-none p (x ∷ xs) e = go (p x) (first-none p xs) e
+    where
+      go : (b : Bool) → (first p xs ≡ none → All (λ y. T (not (p y))) xs) → cond b (some x) (first p xs) ≡ none → T (not b) × All (λ y. T (not (p y))) xs
+      go true f u = absurd (Option·none-ne-some x (sym u))
+      go false f u = (tt, f u)
+
+  -- what holds of every member and is tested holds of the first that passes
+  pub first-some {ℓ} : (p : A → Bool) (P : A → Type ℓ) (xs : List A) → All (λ x. T (p x) → P x) xs → (x : A) → first p xs ≡ some x → P x
+  first-some p P [] a y e = absurd (Option·none-ne-some y e)
+  first-some p P (x ∷ xs) a y e = go (p x) (a .0) (first-some p P xs (a .1) y) e
+    where
+      go : (b : Bool) → (T b → P x) → (first p xs ≡ some y → P y) → cond b (some x) (first p xs) ≡ some y → P y
+      go true h f u = let q : x ≡ y = cc in subst P q (h tt)
+      go false h f u = f u
+
+  -- two tests that agree on every member find the same first one
+  pub first-same : (p q : A → Bool) (xs : List A) → All (λ x. p x ≡ q x) xs → first p xs ≡ first q xs
+  first-same p q [] a = refl
+  first-same p q (x ∷ xs) a = rw (a .0, first-same p q xs (a .1))
+
+  pub every-same : (p q : A → Bool) (xs : List A) → All (λ x. p x ≡ q x) xs → every p xs ≡ every q xs
+  every-same p q [] a = refl
+  every-same p q (x ∷ xs) a = rw (a .0, every-same p q xs (a .1))
+
+module _ {K : Type 0} (k : Key K) where
+  pub has-here : (x : K) (s : List K) → In k (x ∷ s) x
+  has-here x s = or-left (k .same x x) (has k s x) (k .same-refl x)
+
+  pub has-there : (y : K) (s : List K) (x : K) → In k s x → In k (y ∷ s) x
+  has-there y s x h = or-right (k .same y x) (has k s x) h
+
+  pub has-cases : (y : K) (s : List K) (x : K) → In k (y ∷ s) x → (y ≡ x) ⊎ In k s x
+  has-cases y s x h = go (T-or (k .same y x) (has k s x) h)
+    where
+      go : T (k .same y x) ⊎ In k s x → (y ≡ x) ⊎ In k s x
+      go (inl t) = inl (k .same-eq y x t)
+      go (inr t) = inr t
+
+  -- what holds of every member holds of each fact that the test finds
+  pub has-all {ℓ} : (P : K → Type ℓ) (s : List K) → All P s → (x : K) → In k s x → P x
+  has-all P [] a x h = absurd h
+  has-all P (y ∷ s) a x h = go (has-cases y s x h) (has-all P s (a .1) x)
+    where
+      go : (y ≡ x) ⊎ In k s x → (In k s x → P x) → P x
+      go (inl e) f = subst P e (a .0)
+      go (inr t) f = f t
+
+  pub all-has {ℓ} : (P : K → Type ℓ) (s : List K) → ((x : K) → In k s x → P x) → All P s
+  all-has P [] f = tt
+  all-has P (y ∷ s) f = (f y (has-here y s), all-has P s (λ x h. f x (has-there y s x h)))
+
+  pub all-in : (s : List K) → All (In k s) s
+  all-in s = all-has (In k s) s (λ x h. h)
+
+  pub all-grow : (y : K) (s xs : List K) → All (In k s) xs → All (In k (y ∷ s)) xs
+  all-grow y s xs a = all-map (In k s) (In k (y ∷ s)) (has-there y s) xs a

@@ -1,0 +1,53 @@
+-- Tests as types: what `&&`, `||`, `not` and a decided test give.
+use mathlib.Core.Bool.{Bool, true, false, not, _&&_, _||_}
+use mathlib.Core.Logic.{_⊎_, inl, inr}
+use mathlib.Core.Path.{_≡_, refl}
+use lib.Dec.{T}
+
+pub and-T : (a b : Bool) → T a → T b → T (a && b)
+and-T true b p q = q
+and-T false b p q = p
+
+pub T-left : (a b : Bool) → T (a && b) → T a
+T-left true b p = tt
+T-left false b p = p
+
+pub T-right : (a b : Bool) → T (a && b) → T b
+T-right true b p = p
+T-right false b p = absurd p
+
+pub or-left : (a b : Bool) → T a → T (a || b)
+or-left true b p = tt
+or-left false b p = absurd p
+
+pub or-right : (a b : Bool) → T b → T (a || b)
+or-right true b p = tt
+or-right false b p = p
+
+pub T-or : (a b : Bool) → T (a || b) → T a ⊎ T b
+T-or true b p = inl tt
+T-or false b p = inr p
+
+-- a test passes or fails
+pub decided : (b : Bool) → T b ⊎ T (not b)
+decided true = inl tt
+decided false = inr tt
+
+pub T-true : (b : Bool) → T b → b ≡ true
+T-true true p = refl
+T-true false p = absurd p
+
+pub T-false : (b : Bool) → T (not b) → b ≡ false
+T-false true p = absurd p
+T-false false p = refl
+
+pub fails : (b : Bool) → (T b → ⊥) → T (not b)
+fails true f = f tt
+fails false f = tt
+
+-- tests that pass alike are equal
+pub same-test : (a b : Bool) → (T a → T b) → (T b → T a) → a ≡ b
+same-test true true f g = refl
+same-test true false f g = absurd (f tt)
+same-test false true f g = absurd (g tt)
+same-test false false f g = refl

@@ -1,0 +1,37 @@
+-- What holds of every member of a list, of some member, and membership by an equality test.
+use mathlib.Core.Bool.{Bool, true, false, cond, _&&_, _||_}
+use mathlib.Core.List.{List, [], _∷_}
+use mathlib.Core.Logic.{_⊎_}
+use mathlib.Core.Option.{Option, none, some}
+use lib.Dec.{T}
+use Rattle.lists.specs.Key.{Key}
+
+abbrev pub All {ℓ} : {A : Type 0} → (A → Type ℓ) → List A → Type ℓ
+All P [] = Unit
+All P (x ∷ xs) = P x × All P xs
+
+abbrev pub Any : {A : Type 0} → (A → Type 0) → List A → Type 0
+Any P [] = ⊥
+Any P (x ∷ xs) = P x ⊎ Any P xs
+
+abbrev pub every : {A : Type 0} → (A → Bool) → List A → Bool
+every p [] = true
+every p (x ∷ xs) = p x && every p xs
+
+-- the first member that passes a test
+abbrev pub first : {A : Type 0} → (A → Bool) → List A → Option A
+first p [] = none
+first p (x ∷ xs) = cond (p x) (some x) (first p xs)
+
+abbrev pub has : {K : Type 0} → Key K → List K → K → Bool
+has k [] x = false
+has k (y ∷ s) x = k .same y x || has k s x
+
+-- x is a member of s
+abbrev pub In : {K : Type 0} → Key K → List K → K → Type 0
+In k s x = T (has k s x)
+
+-- no member stands twice
+abbrev pub Distinct : {K : Type 0} → Key K → List K → Type 0
+Distinct k [] = Unit
+Distinct k (x ∷ s) = (In k s x → ⊥) × Distinct k s

@@ -1,0 +1,7 @@
+pub mod Closure
+pub mod Problem
+pub mod Relevancy
+pub mod Magic
+pub mod Machine
+pub mod Claims
+pub mod Cases

@@ -1,0 +1,1 @@
+// The mathematics of the walk, with no code: definitions and claims are in specs/, their proofs in proofs/.
