@@ -1,3 +1,4 @@
 pub mod Closure
 pub mod Machine
+pub mod Path
 pub mod Cases

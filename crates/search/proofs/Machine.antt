@@ -1,16 +1,15 @@
--- Laws of the machine that hold for any way of finding a node: running on, the walk without a limit, and what a path keeps.
+-- Laws of the machine that hold for any way of finding a node: running on, and the walk without a limit.
 use Prim.Native.Nat.{ℕ, zero, suc, _+_, _≤_, _<_}
 use mathlib.Core.Bool.{Bool, true, false, cond}
-use mathlib.Core.List.{List, [], _∷_, _++_, map, append-assoc}
+use mathlib.Core.List.{List, [], _∷_, _++_, map}
 use mathlib.Core.Option.{Option, none, some, Option·none-ne-some}
 use mathlib.Core.Path.{_≡_, refl, sym, ap, subst, _∙_}
-use native.Mathlib.Nat.{add-zero, add-suc, zero-add, suc-add}
+use native.Mathlib.Nat.{add-zero, add-suc, zero-add, suc-add, add-assoc}
 use native.Mathlib.Omega.{arith}
 use lib.Dec.{T, ltb, leb·suc-suc}
-use lib.ListN.{length}
+use lib.ListN.{length, length-append}
 use borrow.Author.Tests.{lt-ltb, le-ltb}
 use Rattle.lists.specs.Member.{All}
-use Rattle.lists.proofs.Member.{append-right}
 use Rattle.search.specs.Problem.{Found, closed, opened, split}
 use Rattle.search.specs.Machine.{Branch, Place, entered, enter, back, after, nextPath, Outcome, Satisfied, Refuted, Exhausted, stopped, answerAt, answer, last, place, placed, advance, root, entries, trail, proceed, outcome, Whole, Genuine}
 
@@ -70,3 +69,54 @@ module _ {I : Type 0} (find : List ℕ → Found I) where
   last-append : (s : Place I) (es fs : List (Place I)) → last s (es ++ fs) ≡ last (last s es) fs
   last-append s [] fs = refl
   last-append s (t ∷ ts) fs = last-append t ts fs
+
+  pub proceed-on : (m n c : ℕ) (s : Place I) → proceed find (m + n) c s ≡ proceed find n (c + length (entries find m s)) (last s (entries find m s))
+  unfolding proceed
+  proceed-on m n c s = rw (entries-on m n s, last-append, length-append, add-assoc)
+
+  -- the walk without a limit is one
+  pub whole-unique : (s : Place I) (es fs : List (Place I)) → Whole find s es → Whole find s fs → es ≡ fs
+  whole-unique s [] [] w v = refl
+  whole-unique s [] (t ∷ ts) w v = absurd (Option·none-ne-some t (sym w ∙ v .0))
+  whole-unique s (t ∷ ts) [] w v = absurd (Option·none-ne-some t (sym v ∙ w .0))
+  whole-unique s (t ∷ ts) (u ∷ us) w v =
+      let same : t ≡ u = cc (w .0, v .0) in
+      rw (same, whole-unique u ts us (subst (λ (x : Place I). Whole find x ts) same (w .1)) (v .1))
+
+  -- a further entry can be made, and none has been allowed
+  answer-some : (s t : Place I) (c : ℕ) → advance find s ≡ some t → answer s c ≡ Exhausted c
+  answer-some s t c e = go (s .found) (s .path) e
+    where
+      stays : (o : Option (List (Branch I))) → placed find o ≡ some t → stopped o c ≡ Exhausted c
+      stays none q = absurd (Option·none-ne-some t q)
+      stays (some bs) q = refl
+
+      go : (f : Found I) (bs : List (Branch I)) → placed find (after f bs) ≡ some t → answerAt f (after f bs) c ≡ Exhausted c
+      go closed bs q = stays (back bs) q
+      go (opened b) bs q = absurd (Option·none-ne-some t q)
+      go (split i ds) bs q = stays (enter i ds bs (back bs)) q
+
+  -- where no further entry can be made the answer is not Exhausted
+  pub answer-none : (s : Place I) (c n : ℕ) → advance find s ≡ none → answer s c ≡ Exhausted n → ⊥
+  answer-none s c n e q = go (s .found) (s .path) e q
+    where
+      stays : (o : Option (List (Branch I))) → placed find o ≡ none → stopped o c ≡ Exhausted n → ⊥
+      stays none u w = let z : _≡_ {A = ℕ} 0 1 = cc in omega arith
+      stays (some bs) u w = Option·none-ne-some (place find bs) (sym u)
+
+      go : (f : Found I) (bs : List (Branch I)) → placed find (after f bs) ≡ none → answerAt f (after f bs) c ≡ Exhausted n → ⊥
+      go closed bs u w = stays (back bs) u w
+      go (opened b) bs u w = let z : _≡_ {A = ℕ} 0 1 = cc in omega arith
+      go (split i ds) bs u w = stays (enter i ds bs (back bs)) u w
+
+  pub whole-over : (s : Place I) (es : List (Place I)) → Whole find s es → advance find (last s es) ≡ none
+  whole-over s [] w = w
+  whole-over s (t ∷ ts) w = whole-over t ts (w .1)
+
+  -- under a limit: spent exactly where the walk without one makes more entries
+  pub proceed-limit : (s : Place I) (es : List (Place I)) → Whole find s es → (n c : ℕ)
+      → proceed find n c s ≡ cond (ltb n (length es)) (Exhausted (c + n)) (answer (last s es) (c + length es))
+  proceed-limit s [] w n c = rw (proceed-none n c s w, le-ltb n 0 (omega arith), add-zero)
+  proceed-limit s (t ∷ ts) w zero c = rw (proceed-zero c s, answer-some s t c (w .0), lt-ltb 0 (suc (length ts)) (omega arith), add-zero)
+  proceed-limit s (t ∷ ts) w (suc n) c =
+      rw (proceed-some n c s t (w .0), proceed-limit t ts (w .1) n (suc c), leb·suc-suc (suc n) (length ts), suc-add c n, suc-add c (length ts), add-suc c n, add-suc c (length ts))
