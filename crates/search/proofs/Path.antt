@@ -24,7 +24,7 @@ module _ {I : Type 0} (find : List ℕ → Found I) where
   back-genuine (b ∷ bs) cs g q =
       enter-genuine (b .site) (g .0 .0 ++ (b .atom ∷ [])) (b .rest) bs (back bs) cs (rw append-assoc (g .0 .1)) (g .1) (back-genuine bs cs (g .1)) q
 
-  next-genuine : (bs cs : List (Branch I)) → Genuine find bs → nextPath (place find bs) ≡ some cs → Genuine find cs
+  pub next-genuine : (bs cs : List (Branch I)) → Genuine find bs → nextPath (place find bs) ≡ some cs → Genuine find cs
   next-genuine bs cs g q = go (find (entered bs)) refl q
     where
       go : (f : Found I) → find (entered bs) ≡ f → after f bs ≡ some cs → Genuine find cs
