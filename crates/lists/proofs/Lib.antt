@@ -1,3 +1,4 @@
 pub mod Test
 pub mod Member
+pub mod Tabulate
 pub mod Pigeonhole

@@ -54,14 +54,10 @@ module _ {ℓ} {A B : Type 0} where
   flat-all f P (x ∷ xs) a = (append-left P (f x) (flatMap f xs) a, flat-all f P xs (append-right P (f x) (flatMap f xs) a))
 
 module _ {A : Type 0} where
-  pub any-map : (P Q : A → Type 0) → ((x : A) → P x → Q x) → (xs : List A) → Any P xs → Any Q xs
-  any-map P Q f (x ∷ xs) (inl p) = inl (f x p)
-  any-map P Q f (x ∷ xs) (inr a) = inr (any-map P Q f xs a)
-
   -- a member with a property, where every member has another
-  pub any-meets {ℓ} : (P : A → Type 0) (Q : A → Type ℓ) (C : Type 0) → ((x : A) → P x → Q x → C) → (xs : List A) → Any P xs → All Q xs → C
-  any-meets P Q C f (x ∷ xs) (inl p) a = f x p (a .0)
-  any-meets P Q C f (x ∷ xs) (inr p) a = any-meets P Q C f xs p (a .1)
+  pub any-zip {ℓ} : (P : A → Type 0) (Q : A → Type ℓ) (R : A → Type 0) → ((x : A) → P x → Q x → R x) → (xs : List A) → Any P xs → All Q xs → Any R xs
+  any-zip P Q R f (x ∷ xs) (inl p) a = inl (f x p (a .0))
+  any-zip P Q R f (x ∷ xs) (inr p) a = inr (any-zip P Q R f xs p (a .1))
 
   pub every-all : (p : A → Bool) (xs : List A) → T (every p xs) → All (λ x. T (p x)) xs
   every-all p [] t = tt

@@ -3,4 +3,7 @@ pub mod Machine
 pub mod Path
 pub mod Refuted
 pub mod Relevancy
+pub mod Found
+pub mod Walk
+pub mod Model
 pub mod Cases

@@ -5,7 +5,8 @@ use mathlib.Core.List.{List, [], _∷_, _++_, map}
 use mathlib.Core.Path.{_≡_}
 use lib.ListN.{length, getD}
 use Rattle.lists.specs.Key.{natKey}
-use Rattle.search.specs.Problem.{Problem, tabulate}
+use Rattle.lists.specs.Tabulate.{tabulate}
+use Rattle.search.specs.Problem.{Problem}
 use Rattle.search.specs.Relevancy.{findR}
 use Rattle.search.specs.Magic.{findM, rewriting}
 use Rattle.search.specs.Machine.{Outcome, Satisfied, Refuted, Exhausted, outcome}

@@ -1,8 +1,8 @@
 -- The ground problem: what document 01, "Logic of a ticket", says of instances, chaining, splitting and a fitting.
 -- Ground atoms are the numbers below `atoms`, and "false" is the number `atoms`.
-use Prim.Native.Nat.{ℕ, zero, suc, _<_}
+use Prim.Native.Nat.{ℕ, _<_}
 use mathlib.Core.Bool.{Bool, true, false}
-use mathlib.Core.List.{List, [], _∷_, _++_}
+use mathlib.Core.List.{List, [], _∷_}
 use lib.Dec.{T}
 use lib.ListN.{getD}
 use Rattle.lists.specs.Member.{All, Any}
@@ -42,11 +42,6 @@ pub data Found (I : Type 0) : Type 0 where
   closed : Found I
   opened : List Bool → Found I
   split : I → List ℕ → Found I
-
--- f 0, f 1, .. f (n - 1)
-abbrev pub tabulate : {A : Type 0} → (ℕ → A) → ℕ → List A
-tabulate f zero = []
-tabulate f (suc n) = tabulate f n ++ (f n ∷ [])
 
 -- the set that bits stand for: atom a is in it where bit a is true
 abbrev pub Marked : List Bool → ℕ → Type 0

@@ -1,0 +1,110 @@
+-- The relevancy walk: its paths hold distinct atoms below A that are relevant; closed places bar every model, splits continue each, and an open
+-- place has one.
+use Prim.Native.Nat.{ℕ, zero, suc, _≤_, _<_}
+use mathlib.Core.Bool.{Bool, true, false, not, cond, _&&_, _||_}
+use mathlib.Core.HLevel.{⊥-prop, ×-prop, Π-prop}
+use mathlib.Core.List.{List, [], _∷_, _++_}
+use mathlib.Core.Logic.{_⊎_, inl, inr, ∥∥₁-prop, ∥∥₁-map, ∥∥₁-map₂, ∥∥₁-elim}
+use mathlib.Core.Option.{Option, none, some}
+use mathlib.Core.Path.{_≡_, refl, sym, ap, subst, _∙_}
+use native.Mathlib.Omega.{arith}
+use lib.Dec.{T, T-not}
+use lib.ListN.{length, getD, length-map}
+use Rattle.lists.specs.Key.{natKey}
+use Rattle.lists.specs.Member.{All, Any, every, first, has, In, Distinct}
+use Rattle.lists.proofs.Test.{and-T, T-left, T-right, decided, T-true, T-false}
+use Rattle.lists.proofs.Member.{all-map, all-zip, every-all, all-every, some-fails, first-none, first-some, has-all, has-here, has-there}
+use Rattle.lists.proofs.Pigeonhole.{pigeonhole}
+use Rattle.search.specs.Problem.{Problem, Proper, Model, Marked, Found, closed, opened, split, goals, orFalse, disjunctive}
+use Rattle.search.specs.Relevancy.{trueSet, relevantSet, isTrue, isRelevant, asked, splittable, branches, modelBits, findR}
+use Rattle.search.specs.Machine.{Branch, entered, Genuine}
+use Rattle.search.proofs.Relevancy.{HornClosed, true-entered, true-closed, true-ind, true-grows, relevant-false, relevant-closed, relevant-grows}
+use Rattle.search.proofs.Found.{findR-closed, findR-opened, findR-split}
+use Rattle.search.proofs.Path.{genuine-ind}
+
+-- the parts of `splittable`
+pub record Splits {I : Type 0} (p : Problem I) (t r : ℕ → Bool) (i : I) : Type 0 where
+  pub many : T (disjunctive (p .alts i))
+  pub conds-true : All (λ a. T (t a)) (p .conds i)
+  pub alts-relevant : All (λ a. T (r a)) (p .alts i)
+  pub alts-untrue : All (λ a. T (not (t a))) (p .alts i)
+
+module _ {I : Type 0} (p : Problem I) where
+  splits : (t r : ℕ → Bool) (i : I) → T (splittable p t r i) → Splits p t r i
+  splits t r i h =
+      let a = disjunctive (p .alts i) in
+      let b = every t (p .conds i) in
+      let c = every r (p .alts i) in
+      let d = every (λ x. not (t x)) (p .alts i) in
+      let abc : T (a && b && c) = T-left (a && b && c) d h in
+      let ab : T (a && b) = T-left (a && b) c abc in
+      record
+      { many = T-left a b ab
+      ; conds-true = every-all t (p .conds i) (T-right a b ab)
+      ; alts-relevant = every-all r (p .alts i) (T-right (a && b) c abc)
+      ; alts-untrue = every-all (λ x. not (t x)) (p .alts i) (T-right (a && b && c) d h)
+      }
+
+  -- what holds of every instance that can be split holds of the one that is
+  pub at-split {ℓ} : (l : List ℕ) (P : I → Type ℓ) → All (λ i. Splits p (isTrue p l) (isRelevant p l) i → P i) (p .instances) → (i : I) (ds : List ℕ) → findR p l ≡ split i ds → P i
+  at-split l P a i ds e =
+      first-some
+      (splittable p (isTrue p l) (isRelevant p l))
+      P
+      (p .instances)
+      (all-map (λ j. Splits p (isTrue p l) (isRelevant p l) j → P j) (λ j. T (splittable p (isTrue p l) (isRelevant p l) j) → P j) (λ j f t. f (splits (isTrue p l) (isRelevant p l) j t)) (p .instances) a)
+      i
+      ((findR-split p l i ds e) .0)
+
+  pub split-splits : (l : List ℕ) (i : I) (ds : List ℕ) → findR p l ≡ split i ds → Splits p (isTrue p l) (isRelevant p l) i
+  split-splits l i ds e = at-split l (Splits p (isTrue p l) (isRelevant p l)) (all-of′ (p .instances)) i ds e
+    where
+      all-of′ : (js : List I) → All (λ j. Splits p (isTrue p l) (isRelevant p l) j → Splits p (isTrue p l) (isRelevant p l) j) js
+      all-of′ [] = tt
+      all-of′ (j ∷ js) = (λ s. s, all-of′ js)
+
+  -- distinct atoms below A
+  abbrev pub Small : List ℕ → Type 0
+  Small l = Distinct natKey l × All (λ a. a < p .atoms) l
+
+  fresh : (l : List ℕ) (a : ℕ) → T (not (isTrue p l a)) → In natKey l a → ⊥
+  fresh l a t h = T-not (isTrue p l a) t (has-all natKey (In natKey (trueSet p l)) l (true-entered p l) a h)
+
+  pub path-small : Proper p → (bs : List (Branch I)) → Genuine (findR p) bs → Small (entered bs)
+  path-small proper = genuine-ind (findR p) Small (tt, tt) step
+    where
+      step : (l : List ℕ) (i : I) (ds : List ℕ) → Small l → findR p l ≡ split i ds → All (λ a. Small (a ∷ l)) ds
+      step l i ds s e =
+          let below : All (λ a. a < p .atoms) (p .alts i) = at-split l (λ j. All (λ a. a < p .atoms) (p .alts j)) (all-map (λ j. All (λ a. a < p .atoms) (p .conds j) × All (λ a. a < p .atoms) (p .alts j)) (λ j. Splits p (isTrue p l) (isRelevant p l) j → All (λ a. a < p .atoms) (p .alts j)) (λ j h q. h .1) (p .instances) proper) i ds e in
+          let untrue = (split-splits l i ds e) .alts-untrue in
+          subst
+          (All (λ a. Small (a ∷ l)))
+          (sym ((findR-split p l i ds e) .1))
+          (all-zip (λ a. a < p .atoms) (λ a. T (not (isTrue p l a))) (λ a. Small (a ∷ l)) (λ a b u. ((fresh l a u, s .0), (b, s .1))) (p .alts i) below untrue)
+
+  pub path-short : Proper p → (bs : List (Branch I)) → Genuine (findR p) bs → length bs ≤ p .atoms
+  path-short proper bs g =
+      let s = path-small proper bs g in
+      rw (← (length-map bs (λ b. b .atom))) (pigeonhole (p .atoms) (entered bs) (s .0) (s .1))
+
+  -- every entered atom is relevant
+  abbrev pub AllRelevant : List ℕ → Type 0
+  AllRelevant l = All (In natKey (relevantSet p (isTrue p l))) l
+
+  deeper : (l : List ℕ) (a x : ℕ) → In natKey (relevantSet p (isTrue p l)) x → In natKey (relevantSet p (isTrue p (a ∷ l))) x
+  deeper l a = relevant-grows p (isTrue p l) (isTrue p (a ∷ l)) (true-grows p l (a ∷ l) ((true-entered p (a ∷ l)) .1))
+
+  pub path-relevant : (bs : List (Branch I)) → Genuine (findR p) bs → AllRelevant (entered bs)
+  path-relevant = genuine-ind (findR p) AllRelevant tt step
+    where
+      step : (l : List ℕ) (i : I) (ds : List ℕ) → AllRelevant l → findR p l ≡ split i ds → All (λ a. AllRelevant (a ∷ l)) ds
+      step l i ds s e =
+          subst
+          (All (λ a. AllRelevant (a ∷ l)))
+          (sym ((findR-split p l i ds e) .1))
+          (all-map
+          (λ a. T (isRelevant p l a))
+          (λ a. AllRelevant (a ∷ l))
+          (λ a r. (deeper l a a r, all-map (In natKey (relevantSet p (isTrue p l))) (In natKey (relevantSet p (isTrue p (a ∷ l)))) (deeper l a) l s))
+          (p .alts i)
+          ((split-splits l i ds e) .alts-relevant))
