@@ -6,4 +6,5 @@ pub mod Relevancy
 pub mod Found
 pub mod Walk
 pub mod Model
+pub mod Magic
 pub mod Cases
