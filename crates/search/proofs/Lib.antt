@@ -7,4 +7,6 @@ pub mod Found
 pub mod Walk
 pub mod Model
 pub mod Magic
+pub mod Agree
 pub mod Cases
+pub mod Theorems

@@ -86,7 +86,6 @@ not-chosen false true u = (tt, tt)
 not-chosen false false u = absurd u
 
 module _ {I : Type 0} (p : Problem I) (proper : Proper p) (l : List ℕ) where
-
   -- an instance of which no alternative is in the model given has no violated condition, if the node is open
   instance-met : (cs ds : List ℕ) → T (not (isTrue p l (p .atoms)))
       → HornClosed (λ a. T (isTrue p l a)) cs (orFalse (p .atoms) ds)

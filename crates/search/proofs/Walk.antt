@@ -38,11 +38,11 @@ module _ {I : Type 0} (p : Problem I) where
       let d = every (λ x. not (t x)) (p .alts i) in
       let abc : T (a && b && c) = T-left (a && b && c) d h in
       let ab : T (a && b) = T-left (a && b) c abc in
-      record
-      { many = T-left a b ab
-      ; conds-true = every-all t (p .conds i) (T-right a b ab)
-      ; alts-relevant = every-all r (p .alts i) (T-right (a && b) c abc)
-      ; alts-untrue = every-all (λ x. not (t x)) (p .alts i) (T-right (a && b && c) d h)
+      record {
+        many = T-left a b ab;
+        conds-true = every-all t (p .conds i) (T-right a b ab);
+        alts-relevant = every-all r (p .alts i) (T-right (a && b) c abc);
+        alts-untrue = every-all (λ x. not (t x)) (p .alts i) (T-right (a && b && c) d h);
       }
 
   -- what holds of every instance that can be split holds of the one that is

@@ -1,0 +1,75 @@
+-- What is claimed of the two walks. `proofs/Theorems.antt` proves `Theorems`.
+use Prim.Native.Nat.{ℕ, _+_, _≤_, _<_}
+use mathlib.Core.Bool.{Bool, cond, _&&_}
+use mathlib.Core.List.{List, _++_}
+use mathlib.Core.Option.{none}
+use mathlib.Core.Path.{_≡_}
+use lib.Dec.{ltb}
+use lib.ListN.{length}
+use Rattle.lists.specs.Key.{Key, natKey}
+use Rattle.lists.specs.Member.{All, In, Distinct}
+use Rattle.search.specs.Closure.{Rule, Closed, least}
+use Rattle.search.specs.Problem.{Problem, Proper, Model, Marked, Found}
+use Rattle.search.specs.Relevancy.{isTrue, isRelevant, modelBits, findR}
+use Rattle.search.specs.Magic.{tru, rel, rewriting, holds, findM}
+use Rattle.search.specs.Machine.{Place, entered, Outcome, Satisfied, Refuted, Exhausted, answer, last, root, entries, trail, proceed, outcome, Whole}
+use Rattle.search.specs.Cases.{CasesHold}
+
+-- `least` is the smallest set that holds the seeds and is closed under the rules: it lies inside every such set, decidable or not
+pub record Smallest {F : Type 0} (k : Key F) (rs : List (Rule F)) (seeds : List F) : Type 1 where
+  pub seeds-in : All (In k (least k rs seeds)) seeds
+  pub closed : Closed rs (In k (least k rs seeds))
+  pub inside : (P : F → Type 0) → Closed rs P → All P seeds → (x : F) → In k (least k rs seeds) x → P x
+
+-- Of any way of finding a node
+pub record AnyWalk {I : Type 0} (find : List ℕ → Found I) : Type 0 where
+  -- running under m + n is running on by n after m: the same entries, and the same answer
+  pub entries-on : (m n : ℕ) (s : Place I) → entries find (m + n) s ≡ entries find m s ++ entries find n (last s (entries find m s))
+  pub runs-on : (m n count : ℕ) (s : Place I)
+      → proceed find (m + n) count s ≡ proceed find n (count + length (entries find m s)) (last s (entries find m s))
+  -- there is one walk without a limit at most, and it does not end as spent
+  pub whole-one : (es fs : List (Place I)) → Whole find (root find) es → Whole find (root find) fs → es ≡ fs
+  pub whole-settled : (es : List (Place I)) → Whole find (root find) es → (n : ℕ) → answer (last (root find) es) (length es) ≡ Exhausted n → ⊥
+  -- Exhausted exactly where that walk makes more than L entries, and the count is then L; else verdict, count and model are that walk's
+  pub limited : (es : List (Place I)) → Whole find (root find) es → (limit : ℕ)
+      → outcome find limit ≡ cond (ltb limit (length es)) (Exhausted limit) (answer (last (root find) es) (length es))
+
+-- a path holds distinct atoms below A, so never more than A
+pub record PathFits {I : Type 0} (p : Problem I) (s : Place I) : Type 0 where
+  pub distinct : Distinct natKey (entered (s .path))
+  pub below : All (λ a. a < p .atoms) (entered (s .path))
+  pub short : length (s .path) ≤ p .atoms
+
+-- the bits given are those of every atom that is true and every atom that is not relevant, at the last place; and they are a model
+pub record ModelGiven {I : Type 0} (p : Problem I) (s : Place I) (bits : List Bool) : Type 0 where
+  pub true-or-not-relevant : bits ≡ modelBits (p .atoms) (isTrue p (entered (s .path))) (isRelevant p (entered (s .path)))
+  pub model : Model p (Marked bits)
+
+-- Of the walk of a ground problem
+pub record RelevancyWalk {I : Type 0} (p : Problem I) : Type 1 where
+  pub paths-fit : (limit : ℕ) → All (PathFits p) (trail (findR p) limit)
+  -- the walk without a limit ends
+  pub ends : (es : List (Place I)) × Whole (findR p) (root (findR p)) es
+  -- none only where no set of atoms at all is a model
+  pub refuted : (limit n : ℕ) → outcome (findR p) limit ≡ Refuted n → (M : ℕ → Type 0) → Model p M → ⊥
+  pub satisfied : (limit n : ℕ) (bits : List Bool) → outcome (findR p) limit ≡ Satisfied n bits
+      → ModelGiven p (last (root (findR p)) (entries (findR p) limit (root (findR p)))) bits
+
+-- at a place, for every atom and "false": held relevant = relevant, and held true = true and relevant
+pub record SameFacts {I : Type 0} (k : Key I) (p : Problem I) (s : Place I) (x : ℕ) : Type 0 where
+  pub relevant : holds k (p .atoms) (rewriting p) (entered (s .path)) (rel x) ≡ isRelevant p (entered (s .path)) x
+  pub true-relevant : holds k (p .atoms) (rewriting p) (entered (s .path)) (tru x) ≡ (isTrue p (entered (s .path)) x && isRelevant p (entered (s .path)) x)
+
+-- Demand 3: the two whole trails are equal, place by place, with lists and findings; at every place the facts agree; and so do verdict, count and model
+pub record OneTrail {I : Type 0} (k : Key I) (p : Problem I) (limit : ℕ) : Type 0 where
+  pub trails : trail (findM k (p .atoms) (rewriting p)) limit ≡ trail (findR p) limit
+  pub facts : All (λ s. (x : ℕ) → SameFacts k p s x) (trail (findR p) limit)
+  pub outcomes : outcome (findM k (p .atoms) (rewriting p)) limit ≡ outcome (findR p) limit
+
+-- All of it, over every ground problem and every limit
+pub record Theorems : Type 1 where
+  pub smallest : {F : Type 0} (k : Key F) (rs : List (Rule F)) (seeds : List F) → Smallest k rs seeds
+  pub any-walk : {I : Type 0} (find : List ℕ → Found I) → AnyWalk find
+  pub relevancy-walk : {I : Type 0} (p : Problem I) → Proper p → RelevancyWalk p
+  pub one-trail : {I : Type 0} (k : Key I) (p : Problem I) (limit : ℕ) → OneTrail k p limit
+  pub cases-hold : CasesHold
