@@ -1,12 +1,12 @@
--- K1 to K9, by computing both walks.
-use mathlib.Core.Path.{refl}
+-- K1 to K9, and the problems at which two mistakes show, by computing both walks.
 use mathlib.Core.List.{flatMap}
-use Rattle.search.specs.Closure.{grow, least}
-use Rattle.search.specs.Relevancy.{hornRules, trueSet, relevantRules, relevantSet, findR}
-use Rattle.search.specs.Magic.{rewriting, heldSet, findM}
-use Rattle.search.specs.Machine.{entries, proceed}
+use mathlib.Core.Path.{refl}
 use Rattle.search.specs.Cases.{CasesHold}
+use Rattle.search.specs.Closure.{grow, least}
+use Rattle.search.specs.Machine.{entries, proceed}
+use Rattle.search.specs.Magic.{rewriting, heldSet, findM}
+use Rattle.search.specs.Relevancy.{hornRules, trueSet, relevantRules, relevantSet, findR}
 
 pub cases-hold : CasesHold
 unfolding flatMap grow least hornRules trueSet relevantRules relevantSet findR rewriting heldSet findM entries proceed
-cases-hold = record { relevancy = refl; magic = refl }
+cases-hold = record { relevancy = refl; magic = refl; relevancy-mistakes = refl; magic-mistakes = refl }

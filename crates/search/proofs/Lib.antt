@@ -7,6 +7,7 @@ pub mod Found
 pub mod Walk
 pub mod Model
 pub mod Magic
-pub mod Agree
+pub mod Regroup
+pub mod OneTrail
 pub mod Cases
 pub mod Theorems

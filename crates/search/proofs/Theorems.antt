@@ -15,6 +15,7 @@ use Rattle.search.specs.Relevancy.{isTrue, isRelevant, modelBits, findR}
 use Rattle.search.specs.Magic.{rewriting, findM}
 use Rattle.search.specs.Machine.{Branch, Place, entered, Satisfied, Refuted, Exhausted, answer, last, place, root, entries, trail, proceed, outcome, Genuine}
 use Rattle.search.specs.Claims.{Smallest, AnyWalk, PathFits, ModelGiven, RelevancyWalk, SameFacts, OneTrail, Theorems}
+use Rattle.search.proofs.Cases.{cases-hold}
 use Rattle.search.proofs.Closure.{least-seeds, least-closed, least-ind}
 use Rattle.search.proofs.Machine.{entries-on, proceed-on, whole-unique, whole-over, answer-none, answer-satisfied, proceed-limit, last-all}
 use Rattle.search.proofs.Path.{Reached, entries-reached, root-reached, walk-ends}
@@ -23,8 +24,7 @@ use Rattle.search.proofs.Found.{findR-opened}
 use Rattle.search.proofs.Walk.{path-small, path-short, path-relevant}
 use Rattle.search.proofs.Model.{closed-bars, split-continues, opened-model}
 use Rattle.search.proofs.Magic.{same-relevant, same-true}
-use Rattle.search.proofs.Agree.{find-same, trail-same, outcome-same}
-use Rattle.search.proofs.Cases.{cases-hold}
+use Rattle.search.proofs.OneTrail.{find-same, trail-same, outcome-same}
 
 smallest : {F : Type 0} (k : Key F) (rs : List (Rule F)) (seeds : List F) → Smallest k rs seeds
 smallest k rs seeds = record { seeds-in = least-seeds k rs seeds; closed = least-closed k rs seeds; inside = least-ind k rs seeds }
@@ -104,11 +104,4 @@ module _ {I : Type 0} (p : Problem I) where
         }
 
 pub theorems : Theorems
-theorems =
-    record {
-      smallest = smallest;
-      any-walk = any-walk;
-      relevancy-walk = relevancy-walk;
-      one-trail = λ k p. one-trail p k;
-      cases-hold = cases-hold;
-    }
+theorems = record { smallest = smallest; any-walk = any-walk; relevancy-walk = relevancy-walk; one-trail = λ k p. one-trail p k; cases-hold = cases-hold }

@@ -8,7 +8,7 @@ use Rattle.lists.specs.Key.{natKey}
 use Rattle.lists.specs.Tabulate.{tabulate}
 use Rattle.search.specs.Problem.{Problem}
 use Rattle.search.specs.Relevancy.{findR}
-use Rattle.search.specs.Magic.{findM, rewriting}
+use Rattle.search.specs.Magic.{rewriting, findM}
 use Rattle.search.specs.Machine.{Outcome, Satisfied, Refuted, Exhausted, outcome}
 
 -- an instance: its conditions, and its alternatives
@@ -61,7 +61,26 @@ byRelevancy k = outcome (findR (problemOf k)) (k .limit)
 abbrev pub byMagic : Case → Outcome
 byMagic k = outcome (findM natKey (k .atoms) (rewriting (problemOf k))) (k .limit)
 
+-- Two of the mistakes that document 01 names do not show in K1 to K9. These problems show them.
+abbrev pub mistakes : List Case
+mistakes =
+    -- Not 0 and 1. Wanting the later condition too early takes atom 1 out of the model
+    record { atoms = 2; instances = (0 ∷ 1 ∷ [], []) ∷ []; limit = 100; expected = Satisfied 0 (false ∷ true ∷ []) }
+    -- 0 or 1. Not 0 and 3. Not 1 and 3. 2 gives 0. Dropping the mark of 0 once it is entered puts atom 2 into the model
+    ∷ record {
+      atoms = 4;
+      instances = ([], 0 ∷ 1 ∷ []) ∷ (0 ∷ 3 ∷ [], []) ∷ (1 ∷ 3 ∷ [], []) ∷ (2 ∷ [], 0 ∷ []) ∷ [];
+      limit = 100;
+      expected = Satisfied 1 (true ∷ false ∷ false ∷ false ∷ []);
+    }
+    ∷ []
+
 -- each walk ends in every case as document 01 prints it
+abbrev pub AsExpected : List Case → (Case → Outcome) → Type 0
+AsExpected ks walk = map walk ks ≡ map (λ k. k .expected) ks
+
 pub record CasesHold : Type 0 where
-  pub relevancy : map byRelevancy cases ≡ map (λ k. k .expected) cases
-  pub magic : map byMagic cases ≡ map (λ k. k .expected) cases
+  pub relevancy : AsExpected cases byRelevancy
+  pub magic : AsExpected cases byMagic
+  pub relevancy-mistakes : AsExpected mistakes byRelevancy
+  pub magic-mistakes : AsExpected mistakes byMagic
