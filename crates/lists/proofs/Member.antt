@@ -1,13 +1,13 @@
 -- Laws of `All`, `Any`, `every`, `first` and `has`.
-use mathlib.Core.Bool.{Bool, true, false, not, cond, _&&_, _||_}
+use mathlib.Core.Bool.{Bool, true, false, not, cond, _&&_}
 use mathlib.Core.List.{List, [], _∷_, _++_, map, flatMap}
-use mathlib.Core.Logic.{_⊎_, inl, inr, _≢_}
-use mathlib.Core.Option.{Option, none, some, Option·none-ne-some}
-use mathlib.Core.Path.{_≡_, refl, sym, ap, subst, _∙_}
+use mathlib.Core.Logic.{_⊎_, inl, inr}
+use mathlib.Core.Option.{none, some, Option·none-ne-some}
+use mathlib.Core.Path.{_≡_, refl, sym, subst}
 use lib.Dec.{T}
 use Rattle.lists.specs.Key.{Key}
-use Rattle.lists.specs.Member.{All, Any, every, first, has, In, Distinct}
-use Rattle.lists.proofs.Test.{and-T, T-left, T-right, or-left, or-right, T-or, decided, T-true, T-false}
+use Rattle.lists.specs.Member.{All, Any, every, first, has, In}
+use Rattle.lists.proofs.Test.{and-T, T-left, T-right, or-left, or-right, T-or}
 
 module _ {ℓ} {A : Type 0} where
   pub all-map {κ} : (P : A → Type ℓ) (Q : A → Type κ) → ((x : A) → P x → Q x) → (xs : List A) → All P xs → All Q xs

@@ -1,16 +1,15 @@
 -- A list of distinct numbers below n is at most n long.
 use Prim.Native.Nat.{ℕ, zero, suc, _≤_, _<_}
-use mathlib.Core.Bool.{Bool, true, false, not, cond}
+use mathlib.Core.Bool.{Bool, true, false, cond}
 use mathlib.Core.List.{List, [], _∷_}
 use mathlib.Core.Logic.{_⊎_, inl, inr}
-use mathlib.Core.Path.{_≡_, refl, sym, subst}
+use mathlib.Core.Path.{_≡_, subst}
 use native.Mathlib.Omega.{arith}
 use lib.Dec.{T, eqb, eqb→eq, eqb-refl}
 use lib.ListN.{length}
-use Rattle.lists.specs.Key.{Key, natKey}
-use Rattle.lists.specs.Member.{All, has, In, Distinct}
-use Rattle.lists.proofs.Test.{decided, T-true, T-false}
-use Rattle.lists.proofs.Member.{all-map, all-zip, has-cases, has-there, has-here, has-all, all-has}
+use Rattle.lists.specs.Key.{natKey}
+use Rattle.lists.specs.Member.{All, In, Distinct}
+use Rattle.lists.proofs.Member.{has-cases, has-there, has-here, has-all, all-has}
 
 -- the list without n
 abbrev without : ℕ → List ℕ → List ℕ

@@ -7,7 +7,7 @@ use mathlib.Core.Path.{_≡_, refl, sym, ap, subst, _∙_}
 use native.Mathlib.Omega.{arith}
 use lib.Dec.{T}
 use Rattle.lists.specs.Member.{first}
-use Rattle.search.specs.Problem.{Problem, Found, closed, opened, split}
+use Rattle.search.specs.Problem.{Problem, closed, opened, split}
 use Rattle.search.specs.Relevancy.{isTrue, isRelevant, splittable, branches, modelBits, foundAs, withAlts, findR}
 
 module _ {I : Type 0} where

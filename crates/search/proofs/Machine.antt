@@ -1,17 +1,17 @@
 -- Laws of the machine that hold for any way of finding a node: running on, and the walk without a limit.
-use Prim.Native.Nat.{ℕ, zero, suc, _+_, _≤_, _<_}
-use mathlib.Core.Bool.{Bool, true, false, cond}
-use mathlib.Core.List.{List, [], _∷_, _++_, map}
+use Prim.Native.Nat.{ℕ, zero, suc, _+_}
+use mathlib.Core.Bool.{Bool, cond}
+use mathlib.Core.List.{List, [], _∷_, _++_}
 use mathlib.Core.Option.{Option, none, some, Option·none-ne-some}
 use mathlib.Core.Path.{_≡_, refl, sym, ap, subst, _∙_}
 use native.Mathlib.Nat.{add-zero, add-suc, zero-add, suc-add, add-assoc}
 use native.Mathlib.Omega.{arith}
-use lib.Dec.{T, ltb, leb·suc-suc}
+use lib.Dec.{ltb, leb·suc-suc}
 use lib.ListN.{length, length-append}
 use borrow.Author.Tests.{lt-ltb, le-ltb}
 use Rattle.lists.specs.Member.{All}
 use Rattle.search.specs.Problem.{Found, closed, opened, split}
-use Rattle.search.specs.Machine.{Branch, Place, entered, enter, back, after, nextPath, Outcome, Satisfied, Refuted, Exhausted, stopped, answerAt, answer, last, place, placed, advance, root, entries, trail, proceed, outcome, Whole, Genuine}
+use Rattle.search.specs.Machine.{Branch, Place, enter, back, after, nextPath, Satisfied, Exhausted, stopped, answerAt, answer, last, place, placed, advance, entries, proceed, Whole}
 
 pub last-all {ℓ} : {I : Type 0} (P : Place I → Type ℓ) (s : Place I) (es : List (Place I)) → P s → All P es → P (last s es)
 last-all P s [] h a = h

@@ -1,21 +1,21 @@
 -- Models and the relevancy walk: a closed place bars every model, a split continues each, and an open place's bits are one.
-use Prim.Native.Nat.{ℕ, zero, suc, _≤_, _<_}
+use Prim.Native.Nat.{ℕ, _<_}
 use mathlib.Core.Bool.{Bool, true, false, not, cond, _&&_, _||_}
 use mathlib.Core.HLevel.{⊥-prop}
-use mathlib.Core.List.{List, [], _∷_, _++_}
+use mathlib.Core.List.{List, [], _∷_}
 use mathlib.Core.Logic.{_⊎_, inl, inr, ∥∥₁-prop, ∥∥₁-map, ∥∥₁-map₂, ∥∥₁-elim}
-use mathlib.Core.Option.{Option, none, some}
+use mathlib.Core.Option.{none}
 use mathlib.Core.Path.{_≡_, refl, sym, ap, subst, _∙_}
 use native.Mathlib.Omega.{arith}
 use lib.Dec.{T, T-not}
 use lib.ListN.{getD}
 use Rattle.lists.specs.Key.{natKey}
 use Rattle.lists.specs.Member.{All, Any, every, first, has, In}
-use Rattle.lists.proofs.Test.{and-T, T-left, T-right, T-or, or-left, or-right, decided, T-true, T-false}
+use Rattle.lists.proofs.Test.{and-T, decided}
 use Rattle.lists.proofs.Member.{all-map, all-zip, any-zip, every-all, all-every, some-fails, first-none}
-use Rattle.lists.proofs.Tabulate.{tabulate-length, tabulate-at}
-use Rattle.search.specs.Problem.{Problem, Proper, Model, Marked, Found, closed, opened, split, goals, orFalse, disjunctive}
-use Rattle.search.specs.Relevancy.{trueSet, relevantSet, isTrue, isRelevant, asked, splittable, branches, modelBits, findR}
+use Rattle.lists.proofs.Tabulate.{tabulate-at}
+use Rattle.search.specs.Problem.{Problem, Proper, Model, Marked, closed, opened, split, goals, orFalse, disjunctive}
+use Rattle.search.specs.Relevancy.{trueSet, relevantSet, isTrue, isRelevant, asked, splittable, modelBits, findR}
 use Rattle.search.proofs.Relevancy.{HornClosed, true-closed, true-ind, relevant-false, relevant-closed}
 use Rattle.search.proofs.Found.{findR-closed, findR-opened, findR-split}
 use Rattle.search.proofs.Walk.{Splits, split-splits, at-split}

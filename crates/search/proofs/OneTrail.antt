@@ -6,19 +6,19 @@ use mathlib.Core.Option.{Option, none, some}
 use mathlib.Core.Path.{_≡_, refl, sym, ap, subst, fun-ext, _∙_}
 use lib.Dec.{T, T-not}
 use lib.ListN.{length}
-use Rattle.lists.specs.Key.{Key, natKey}
-use Rattle.lists.specs.Member.{All, every, first, has, In}
+use Rattle.lists.specs.Key.{Key}
+use Rattle.lists.specs.Member.{All, every, first}
 use Rattle.lists.specs.Tabulate.{tabulate}
 use Rattle.lists.proofs.Test.{and-T, T-left, T-right, same-test, fails, T-true}
 use Rattle.lists.proofs.Member.{all-map, all-zip, every-all, all-every}
 use Rattle.search.specs.Problem.{Problem, Found, split, goals, orFalse, disjunctive}
 use Rattle.search.specs.Relevancy.{isTrue, isRelevant, splittable, modelBits, foundAs, withAlts, findR}
-use Rattle.search.specs.Magic.{Magic, tru, rel, cont, next, heads, MagicRule, stages, rewriteInstance, rewriting, headsOf, holds, ready, withHeads, findM}
-use Rattle.search.specs.Machine.{Branch, Place, entered, after, nextPath, answer, last, place, placed, advance, root, entries, trail, outcome, proceed, Genuine}
+use Rattle.search.specs.Magic.{Magic, tru, rel, cont, heads, MagicRule, stages, rewriteInstance, rewriting, holds, ready, withHeads, findM}
+use Rattle.search.specs.Machine.{Branch, Place, entered, nextPath, answer, last, place, placed, root, entries, trail, outcome, proceed, Genuine}
 use Rattle.search.proofs.Machine.{entries-zero, entries-none, entries-some}
 use Rattle.search.proofs.Path.{next-genuine}
 use Rattle.search.proofs.Relevancy.{relevant-false}
-use Rattle.search.proofs.Walk.{AllRelevant, path-relevant}
+use Rattle.search.proofs.Walk.{AllRelevant}
 use Rattle.search.proofs.Magic.{lastAsks, same-relevant, same-true, last-from, last-to}
 
 -- of an instance's rules only the last can split

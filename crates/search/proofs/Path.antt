@@ -1,7 +1,6 @@
 -- What the walk's paths keep, for any way of finding a node; and the walk ends where its paths are short.
 use Prim.Native.Nat.{ℕ, zero, suc, _+_, _≤_, _<_}
-use mathlib.Core.Bool.{Bool}
-use mathlib.Core.List.{List, [], _∷_, _++_, map, append-assoc}
+use mathlib.Core.List.{List, [], _∷_, _++_, append-assoc}
 use mathlib.Core.Option.{Option, none, some, Option·none-ne-some}
 use mathlib.Core.Path.{_≡_, refl, ap, subst}
 use native.Mathlib.Omega.{arith}
@@ -9,7 +8,7 @@ use lib.ListN.{length}
 use Rattle.lists.specs.Member.{All}
 use Rattle.lists.proofs.Member.{append-right}
 use Rattle.search.specs.Problem.{Found, closed, opened, split}
-use Rattle.search.specs.Machine.{Branch, Place, entered, enter, back, after, nextPath, place, placed, advance, root, entries, trail, Whole, Genuine}
+use Rattle.search.specs.Machine.{Branch, Place, entered, enter, back, after, nextPath, place, placed, advance, root, entries, Whole, Genuine}
 use Rattle.search.proofs.Machine.{entries-zero, entries-none, entries-some}
 
 module _ {I : Type 0} (find : List ℕ → Found I) where

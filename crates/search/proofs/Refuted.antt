@@ -3,13 +3,13 @@ use Prim.Native.Nat.{ℕ, zero, suc}
 use mathlib.Core.Bool.{Bool}
 use mathlib.Core.HLevel.{⊥-prop}
 use mathlib.Core.List.{List, [], _∷_}
-use mathlib.Core.Logic.{_⊎_, inl, inr, ∥∥₁-prop, ∥∥₁-map, ∥∥₁-elim}
+use mathlib.Core.Logic.{_⊎_, inl, inr, ∥∥₁-prop, ∥∥₁-elim}
 use mathlib.Core.Option.{Option, none, some, Option·none-ne-some}
 use mathlib.Core.Path.{_≡_, refl, sym, ap, subst, _∙_}
 use native.Mathlib.Omega.{arith}
 use Rattle.lists.specs.Member.{All, Any}
 use Rattle.search.specs.Problem.{Found, closed, opened, split}
-use Rattle.search.specs.Machine.{Branch, Place, entered, enter, back, after, nextPath, Outcome, Refuted, stopped, answerAt, answer, place, placed, advance, root, proceed, outcome, Genuine}
+use Rattle.search.specs.Machine.{Branch, entered, enter, back, after, nextPath, Refuted, stopped, answerAt, answer, place, placed, proceed, outcome, Genuine}
 use Rattle.search.proofs.Machine.{proceed-zero, proceed-none, proceed-some}
 use Rattle.search.proofs.Path.{next-genuine}
 

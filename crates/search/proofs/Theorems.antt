@@ -1,19 +1,18 @@
 -- The claims of `specs/Claims.antt`, proved.
-use Prim.Native.Nat.{ℕ, _+_, _≤_, _<_}
-use mathlib.Core.Bool.{Bool, cond}
-use mathlib.Core.List.{List, [], _∷_, _++_}
-use mathlib.Core.Path.{_≡_, refl, sym, ap, subst, _∙_}
+use Prim.Native.Nat.{ℕ}
+use mathlib.Core.Bool.{Bool}
+use mathlib.Core.List.{List}
+use mathlib.Core.Path.{_≡_, sym, ap, _∙_}
 use native.Mathlib.Nat.{zero-add}
-use lib.Dec.{ltb}
 use lib.ListN.{length}
 use Rattle.lists.specs.Key.{Key}
-use Rattle.lists.specs.Member.{All, In}
+use Rattle.lists.specs.Member.{All}
 use Rattle.lists.proofs.Member.{all-map}
 use Rattle.search.specs.Closure.{Rule}
 use Rattle.search.specs.Problem.{Problem, Proper, Model, Found, opened}
-use Rattle.search.specs.Relevancy.{isTrue, isRelevant, modelBits, findR}
+use Rattle.search.specs.Relevancy.{findR}
 use Rattle.search.specs.Magic.{rewriting, findM}
-use Rattle.search.specs.Machine.{Branch, Place, entered, Satisfied, Refuted, Exhausted, answer, last, place, root, entries, trail, proceed, outcome, Genuine}
+use Rattle.search.specs.Machine.{Branch, Place, entered, Satisfied, Refuted, last, root, entries, trail, proceed, outcome, Genuine}
 use Rattle.search.specs.Claims.{Smallest, AnyWalk, PathFits, ModelGiven, RelevancyWalk, SameFacts, OneTrail, Theorems}
 use Rattle.search.proofs.Cases.{cases-hold}
 use Rattle.search.proofs.Closure.{least-seeds, least-closed, least-ind}

@@ -1,25 +1,21 @@
 -- The relevancy walk: its paths hold distinct atoms below A that are relevant; closed places bar every model, splits continue each, and an open
 -- place has one.
-use Prim.Native.Nat.{ℕ, zero, suc, _≤_, _<_}
-use mathlib.Core.Bool.{Bool, true, false, not, cond, _&&_, _||_}
-use mathlib.Core.HLevel.{⊥-prop, ×-prop, Π-prop}
-use mathlib.Core.List.{List, [], _∷_, _++_}
-use mathlib.Core.Logic.{_⊎_, inl, inr, ∥∥₁-prop, ∥∥₁-map, ∥∥₁-map₂, ∥∥₁-elim}
-use mathlib.Core.Option.{Option, none, some}
-use mathlib.Core.Path.{_≡_, refl, sym, ap, subst, _∙_}
-use native.Mathlib.Omega.{arith}
+use Prim.Native.Nat.{ℕ, _≤_, _<_}
+use mathlib.Core.Bool.{Bool, not, _&&_}
+use mathlib.Core.List.{List, [], _∷_}
+use mathlib.Core.Path.{_≡_, sym, subst}
 use lib.Dec.{T, T-not}
-use lib.ListN.{length, getD, length-map}
+use lib.ListN.{length, length-map}
 use Rattle.lists.specs.Key.{natKey}
-use Rattle.lists.specs.Member.{All, Any, every, first, has, In, Distinct}
-use Rattle.lists.proofs.Test.{and-T, T-left, T-right, decided, T-true, T-false}
-use Rattle.lists.proofs.Member.{all-map, all-zip, every-all, all-every, some-fails, first-none, first-some, has-all, has-here, has-there}
+use Rattle.lists.specs.Member.{All, every, has, In, Distinct}
+use Rattle.lists.proofs.Test.{T-left, T-right}
+use Rattle.lists.proofs.Member.{all-map, all-zip, every-all, first-some, has-all}
 use Rattle.lists.proofs.Pigeonhole.{pigeonhole}
-use Rattle.search.specs.Problem.{Problem, Proper, Model, Marked, Found, closed, opened, split, goals, orFalse, disjunctive}
-use Rattle.search.specs.Relevancy.{trueSet, relevantSet, isTrue, isRelevant, asked, splittable, branches, modelBits, findR}
+use Rattle.search.specs.Problem.{Problem, Proper, closed, split, disjunctive}
+use Rattle.search.specs.Relevancy.{trueSet, relevantSet, isTrue, isRelevant, splittable, findR}
 use Rattle.search.specs.Machine.{Branch, entered, Genuine}
-use Rattle.search.proofs.Relevancy.{HornClosed, true-entered, true-closed, true-ind, true-grows, relevant-false, relevant-closed, relevant-grows}
-use Rattle.search.proofs.Found.{findR-closed, findR-opened, findR-split}
+use Rattle.search.proofs.Relevancy.{true-entered, true-grows, relevant-grows}
+use Rattle.search.proofs.Found.{findR-split}
 use Rattle.search.proofs.Path.{genuine-ind}
 
 -- the parts of `splittable`

@@ -12,7 +12,7 @@ use Rattle.search.specs.Closure.{Rule, Closed, least}
 use Rattle.search.specs.Problem.{Problem, Proper, Model, Marked, Found}
 use Rattle.search.specs.Relevancy.{isTrue, isRelevant, modelBits, findR}
 use Rattle.search.specs.Magic.{tru, rel, rewriting, holds, findM}
-use Rattle.search.specs.Machine.{Place, entered, Outcome, Satisfied, Refuted, Exhausted, answer, last, root, entries, trail, proceed, outcome, Whole}
+use Rattle.search.specs.Machine.{Place, entered, Satisfied, Refuted, Exhausted, answer, last, root, entries, trail, proceed, outcome, Whole}
 use Rattle.search.specs.Cases.{CasesHold}
 
 -- `least` is the smallest set that holds the seeds and is closed under the rules: it lies inside every such set, decidable or not
