@@ -7,7 +7,7 @@ use mathlib.Core.Path.{_≡_, refl, sym, ap, subst, _∙_}
 use native.Mathlib.Omega.{arith}
 use lib.Dec.{T}
 use Rattle.lists.specs.Member.{first}
-use Rattle.search.specs.Problem.{Problem, closed, opened, split}
+use Rattle.search.specs.Ground.{Ground, closed, opened, split}
 use Rattle.search.specs.Relevancy.{isTrue, isRelevant, splittable, branches, modelBits, foundAs, withAlts, findR}
 
 module _ {I : Type 0} where
@@ -27,15 +27,15 @@ module _ {I : Type 0} where
   foundAs-split false none bits i ds e = let z : _≡_ {A = ℕ} 0 1 = cc in absurd (omega arith)
   foundAs-split false (some s) bits i ds e = (tt, (s, refl, (cc), (cc)))
 
-  withAlts-none : (p : Problem I) (o : Option I) → withAlts p o ≡ none → o ≡ none
+  withAlts-none : (p : Ground I) (o : Option I) → withAlts p o ≡ none → o ≡ none
   withAlts-none p none e = refl
   withAlts-none p (some i) e = absurd (Option·none-ne-some (i, p .alts i) (sym e))
 
-  withAlts-some : (p : Problem I) (o : Option I) (s : I × List ℕ) → withAlts p o ≡ some s → (o ≡ some (s .0)) × (p .alts (s .0) ≡ s .1)
+  withAlts-some : (p : Ground I) (o : Option I) (s : I × List ℕ) → withAlts p o ≡ some s → (o ≡ some (s .0)) × (p .alts (s .0) ≡ s .1)
   withAlts-some p none s e = absurd (Option·none-ne-some s e)
   withAlts-some p (some i) s e = let q : (i, p .alts i) ≡ s = cc in (ap (λ x. some (x .0)) q, subst (λ (x : I × List ℕ). p .alts (x .0) ≡ x .1) q refl)
 
-module _ {I : Type 0} (p : Problem I) (l : List ℕ) where
+module _ {I : Type 0} (p : Ground I) (l : List ℕ) where
   pub findR-closed : findR p l ≡ closed → T (isTrue p l (p .atoms))
   unfolding findR
   findR-closed e = foundAs-closed (isTrue p l (p .atoms)) _ _ e

@@ -14,7 +14,7 @@ use Rattle.lists.specs.Member.{All, Any, every, first, has, In}
 use Rattle.lists.proofs.Test.{and-T, decided}
 use Rattle.lists.proofs.Member.{all-map, all-zip, any-zip, every-all, all-every, some-fails, first-none}
 use Rattle.lists.proofs.Tabulate.{tabulate-at}
-use Rattle.search.specs.Problem.{Problem, Proper, Model, Marked, closed, opened, split, goals, orFalse, disjunctive}
+use Rattle.search.specs.Ground.{Ground, Proper, Model, Marked, closed, opened, split, goals, orFalse, disjunctive}
 use Rattle.search.specs.Relevancy.{trueSet, relevantSet, isTrue, isRelevant, asked, splittable, modelBits, findR}
 use Rattle.search.proofs.Relevancy.{HornClosed, true-closed, true-ind, relevant-false, relevant-closed}
 use Rattle.search.proofs.Found.{findR-closed, findR-opened, findR-split}
@@ -25,7 +25,7 @@ merely : (M : ℕ → Type 0) (cs : List ℕ) → All (λ a. ∥ M a ∥₁) cs 
 merely M [] a = ∣ tt ∣₁
 merely M (c ∷ cs) a = ∥∥₁-map₂ (a .0) (merely M cs (a .1)) (λ m ms. (m, ms))
 
-module _ {I : Type 0} (p : Problem I) (proper : Proper p) (M : ℕ → Type 0) (model : Model p M) (l : List ℕ) (small : All (λ a. a < p .atoms) l) (held : All M l) where
+module _ {I : Type 0} (p : Ground I) (proper : Proper p) (M : ℕ → Type 0) (model : Model p M) (l : List ℕ) (small : All (λ a. a < p .atoms) l) (held : All M l) where
   -- what is true is in every model that holds the entered atoms, and "false" is in none
   Kept : ℕ → Type 0
   Kept x = ∥ M x ∥₁ × (x ≡ p .atoms → ⊥)
@@ -85,7 +85,7 @@ not-chosen true d u = absurd u
 not-chosen false true u = (tt, tt)
 not-chosen false false u = absurd u
 
-module _ {I : Type 0} (p : Problem I) (proper : Proper p) (l : List ℕ) where
+module _ {I : Type 0} (p : Ground I) (proper : Proper p) (l : List ℕ) where
   -- an instance of which no alternative is in the model given has no violated condition, if the node is open
   instance-met : (cs ds : List ℕ) → T (not (isTrue p l (p .atoms)))
       → HornClosed (λ a. T (isTrue p l a)) cs (orFalse (p .atoms) ds)

@@ -7,7 +7,7 @@ use native.Mathlib.Omega.{arith}
 use lib.ListN.{length}
 use Rattle.lists.specs.Member.{All}
 use Rattle.lists.proofs.Member.{append-right}
-use Rattle.search.specs.Problem.{Found, closed, opened, split}
+use Rattle.search.specs.Ground.{Found, closed, opened, split}
 use Rattle.search.specs.Machine.{Branch, Place, entered, enter, back, after, nextPath, place, placed, advance, root, entries, Whole, Genuine}
 use Rattle.search.proofs.Machine.{entries-zero, entries-none, entries-some}
 

@@ -8,7 +8,7 @@ use mathlib.Core.Option.{Option, none, some, Option·none-ne-some}
 use mathlib.Core.Path.{_≡_, refl, sym, ap, subst, _∙_}
 use native.Mathlib.Omega.{arith}
 use Rattle.lists.specs.Member.{All, Any}
-use Rattle.search.specs.Problem.{Found, closed, opened, split}
+use Rattle.search.specs.Ground.{Found, closed, opened, split}
 use Rattle.search.specs.Machine.{Branch, entered, enter, back, after, nextPath, Refuted, stopped, answerAt, answer, place, placed, proceed, outcome, Genuine}
 use Rattle.search.proofs.Machine.{proceed-zero, proceed-none, proceed-some}
 use Rattle.search.proofs.Path.{next-genuine}

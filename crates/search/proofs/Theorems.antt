@@ -9,7 +9,7 @@ use Rattle.lists.specs.Key.{Key}
 use Rattle.lists.specs.Member.{All}
 use Rattle.lists.proofs.Member.{all-map}
 use Rattle.search.specs.Closure.{Rule}
-use Rattle.search.specs.Problem.{Problem, Proper, Model, Found, opened}
+use Rattle.search.specs.Ground.{Ground, Proper, Model, Found, opened}
 use Rattle.search.specs.Relevancy.{findR}
 use Rattle.search.specs.Magic.{rewriting, findM}
 use Rattle.search.specs.Machine.{Branch, Place, entered, Satisfied, Refuted, last, root, entries, trail, proceed, outcome, Genuine}
@@ -38,7 +38,7 @@ any-walk find =
       limited = λ es w limit. rw (zero-add limit, zero-add (length es)) at (proceed-limit find (root find) es w limit 0);
     }
 
-module _ {I : Type 0} (p : Problem I) where
+module _ {I : Type 0} (p : Ground I) where
   trail-reached : (limit : ℕ) → All (Reached (findR p)) (trail (findR p) limit)
   trail-reached limit = (root-reached (findR p), entries-reached (findR p) limit (root (findR p)) (root-reached (findR p)))
 

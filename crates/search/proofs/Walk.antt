@@ -11,7 +11,7 @@ use Rattle.lists.specs.Member.{All, every, has, In, Distinct}
 use Rattle.lists.proofs.Test.{T-left, T-right}
 use Rattle.lists.proofs.Member.{all-map, all-zip, every-all, first-some, has-all}
 use Rattle.lists.proofs.Pigeonhole.{pigeonhole}
-use Rattle.search.specs.Problem.{Problem, Proper, closed, split, disjunctive}
+use Rattle.search.specs.Ground.{Ground, Proper, closed, split, disjunctive}
 use Rattle.search.specs.Relevancy.{trueSet, relevantSet, isTrue, isRelevant, splittable, findR}
 use Rattle.search.specs.Machine.{Branch, entered, Genuine}
 use Rattle.search.proofs.Relevancy.{true-entered, true-grows, relevant-grows}
@@ -19,13 +19,13 @@ use Rattle.search.proofs.Found.{findR-split}
 use Rattle.search.proofs.Path.{genuine-ind}
 
 -- the parts of `splittable`
-pub record Splits {I : Type 0} (p : Problem I) (t r : ℕ → Bool) (i : I) : Type 0 where
+pub record Splits {I : Type 0} (p : Ground I) (t r : ℕ → Bool) (i : I) : Type 0 where
   pub many : T (disjunctive (p .alts i))
   pub conds-true : All (λ a. T (t a)) (p .conds i)
   pub alts-relevant : All (λ a. T (r a)) (p .alts i)
   pub alts-untrue : All (λ a. T (not (t a))) (p .alts i)
 
-module _ {I : Type 0} (p : Problem I) where
+module _ {I : Type 0} (p : Ground I) where
   splits : (t r : ℕ → Bool) (i : I) → T (splittable p t r i) → Splits p t r i
   splits t r i h =
       let a = disjunctive (p .alts i) in

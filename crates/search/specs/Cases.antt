@@ -6,7 +6,7 @@ use mathlib.Core.Path.{_≡_}
 use lib.ListN.{length, getD}
 use Rattle.lists.specs.Key.{natKey}
 use Rattle.lists.specs.Tabulate.{tabulate}
-use Rattle.search.specs.Problem.{Problem}
+use Rattle.search.specs.Ground.{Ground}
 use Rattle.search.specs.Relevancy.{findR}
 use Rattle.search.specs.Magic.{rewriting, findM}
 use Rattle.search.specs.Machine.{Outcome, Satisfied, Refuted, Exhausted, outcome}
@@ -18,7 +18,7 @@ pub record Case : Type 0 where
   pub limit : ℕ
   pub expected : Outcome
 
-abbrev pub problemOf : Case → Problem ℕ
+abbrev pub problemOf : Case → Ground ℕ
 problemOf k =
     record {
       atoms = k .atoms;

@@ -9,7 +9,7 @@ use lib.ListN.{length}
 use Rattle.lists.specs.Key.{Key, natKey}
 use Rattle.lists.specs.Member.{All, In, Distinct}
 use Rattle.search.specs.Closure.{Rule, Closed, least}
-use Rattle.search.specs.Problem.{Problem, Proper, Model, Marked, Found}
+use Rattle.search.specs.Ground.{Ground, Proper, Model, Marked, Found}
 use Rattle.search.specs.Relevancy.{isTrue, isRelevant, modelBits, findR}
 use Rattle.search.specs.Magic.{tru, rel, rewriting, holds, findM}
 use Rattle.search.specs.Machine.{Place, entered, Satisfied, Refuted, Exhausted, answer, last, root, entries, trail, proceed, outcome, Whole}
@@ -35,18 +35,18 @@ pub record AnyWalk {I : Type 0} (find : List ℕ → Found I) : Type 0 where
       → outcome find limit ≡ cond (ltb limit (length es)) (Exhausted limit) (answer (last (root find) es) (length es))
 
 -- a path holds distinct atoms below A, so never more than A
-pub record PathFits {I : Type 0} (p : Problem I) (s : Place I) : Type 0 where
+pub record PathFits {I : Type 0} (p : Ground I) (s : Place I) : Type 0 where
   pub distinct : Distinct natKey (entered (s .path))
   pub below : All (λ a. a < p .atoms) (entered (s .path))
   pub short : length (s .path) ≤ p .atoms
 
 -- the bits given are those of every atom that is true and every atom that is not relevant, at the last place; and they are a model
-pub record ModelGiven {I : Type 0} (p : Problem I) (s : Place I) (bits : List Bool) : Type 0 where
+pub record ModelGiven {I : Type 0} (p : Ground I) (s : Place I) (bits : List Bool) : Type 0 where
   pub true-or-not-relevant : bits ≡ modelBits (p .atoms) (isTrue p (entered (s .path))) (isRelevant p (entered (s .path)))
   pub model : Model p (Marked bits)
 
 -- Of the walk of a ground problem
-pub record RelevancyWalk {I : Type 0} (p : Problem I) : Type 1 where
+pub record RelevancyWalk {I : Type 0} (p : Ground I) : Type 1 where
   pub paths-fit : (limit : ℕ) → All (PathFits p) (trail (findR p) limit)
   -- the walk without a limit ends
   pub ends : (es : List (Place I)) × Whole (findR p) (root (findR p)) es
@@ -56,12 +56,12 @@ pub record RelevancyWalk {I : Type 0} (p : Problem I) : Type 1 where
       → ModelGiven p (last (root (findR p)) (entries (findR p) limit (root (findR p)))) bits
 
 -- at a place, for every atom and "false": held relevant = relevant, and held true = true and relevant
-pub record SameFacts {I : Type 0} (k : Key I) (p : Problem I) (s : Place I) (x : ℕ) : Type 0 where
+pub record SameFacts {I : Type 0} (k : Key I) (p : Ground I) (s : Place I) (x : ℕ) : Type 0 where
   pub relevant : holds k (p .atoms) (rewriting p) (entered (s .path)) (rel x) ≡ isRelevant p (entered (s .path)) x
   pub true-relevant : holds k (p .atoms) (rewriting p) (entered (s .path)) (tru x) ≡ (isTrue p (entered (s .path)) x && isRelevant p (entered (s .path)) x)
 
 -- Demand 3: the two whole trails are equal, place by place, with lists and findings; at every place the facts agree; and so do verdict, count and model
-pub record OneTrail {I : Type 0} (k : Key I) (p : Problem I) (limit : ℕ) : Type 0 where
+pub record OneTrail {I : Type 0} (k : Key I) (p : Ground I) (limit : ℕ) : Type 0 where
   pub trails : trail (findM k (p .atoms) (rewriting p)) limit ≡ trail (findR p) limit
   pub facts : All (λ s. (x : ℕ) → SameFacts k p s x) (trail (findR p) limit)
   pub outcomes : outcome (findM k (p .atoms) (rewriting p)) limit ≡ outcome (findR p) limit
@@ -70,6 +70,6 @@ pub record OneTrail {I : Type 0} (k : Key I) (p : Problem I) (limit : ℕ) : Typ
 pub record Theorems : Type 1 where
   pub smallest : {F : Type 0} (k : Key F) (rs : List (Rule F)) (seeds : List F) → Smallest k rs seeds
   pub any-walk : {I : Type 0} (find : List ℕ → Found I) → AnyWalk find
-  pub relevancy-walk : {I : Type 0} (p : Problem I) → Proper p → RelevancyWalk p
-  pub one-trail : {I : Type 0} (k : Key I) (p : Problem I) (limit : ℕ) → OneTrail k p limit
+  pub relevancy-walk : {I : Type 0} (p : Ground I) → Proper p → RelevancyWalk p
+  pub one-trail : {I : Type 0} (k : Key I) (p : Ground I) (limit : ℕ) → OneTrail k p limit
   pub cases-hold : CasesHold

@@ -1,5 +1,5 @@
 pub mod Closure
-pub mod Problem
+pub mod Ground
 pub mod Relevancy
 pub mod Magic
 pub mod Machine

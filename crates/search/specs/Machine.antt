@@ -5,7 +5,7 @@ use mathlib.Core.List.{List, [], _∷_, _++_, map}
 use mathlib.Core.Option.{Option, none, some}
 use mathlib.Core.Path.{_≡_}
 use lib.ListN.{length}
-use Rattle.search.specs.Problem.{Found, closed, opened, split}
+use Rattle.search.specs.Ground.{Found, closed, opened, split}
 
 -- a node of the path that has been split: where, the alternative entered, and those left to enter
 pub record Branch (I : Type 0) : Type 0 where

@@ -8,7 +8,7 @@ use lib.ListN.{getD}
 use Rattle.lists.specs.Member.{All, Any}
 
 -- I names the instances: a clause and the values of its variables
-pub record Problem (I : Type 0) : Type 0 where
+pub record Ground (I : Type 0) : Type 0 where
   pub atoms : ℕ
   -- in the walk's order
   pub instances : List I
@@ -16,11 +16,11 @@ pub record Problem (I : Type 0) : Type 0 where
   pub alts : I → List ℕ
 
 -- every condition and alternative is a ground atom
-abbrev pub Proper : {I : Type 0} → Problem I → Type 0
+abbrev pub Proper : {I : Type 0} → Ground I → Type 0
 Proper p = All (λ i. All (λ a. a < p .atoms) (p .conds i) × All (λ a. a < p .atoms) (p .alts i)) (p .instances)
 
 -- a model (01: fitting): each instance with all conditions in the set has an alternative in it. The set is any set of numbers, decidable or not
-abbrev pub Model : {I : Type 0} → Problem I → (ℕ → Type 0) → Type 0
+abbrev pub Model : {I : Type 0} → Ground I → (ℕ → Type 0) → Type 0
 Model p M = All (λ i. All M (p .conds i) → ∥ Any M (p .alts i) ∥₁) (p .instances)
 
 -- "No alternatives means the atom false"
@@ -28,7 +28,7 @@ abbrev pub orFalse : ℕ → List ℕ → List ℕ
 orFalse A [] = A ∷ []
 orFalse A (a ∷ ds) = a ∷ ds
 
-abbrev pub goals : {I : Type 0} → Problem I → I → List ℕ
+abbrev pub goals : {I : Type 0} → Ground I → I → List ℕ
 goals p i = orFalse (p .atoms) (p .alts i)
 
 -- m of 2 or more: disjunctive (01: a splitting clause). The others are Horn (01: chaining)
