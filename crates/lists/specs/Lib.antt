@@ -1,3 +1,4 @@
 pub mod Key
 pub mod Member
 pub mod Tabulate
+pub mod Bytes

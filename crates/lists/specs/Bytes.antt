@@ -1,0 +1,20 @@
+-- Lists of bytes: records of one length, and equality.
+use Prim.Native.Nat.{ℕ, _-_, _/_, _%_}
+use mathlib.Core.Bool.{Bool, true, false, _&&_}
+use mathlib.Core.List.{List, [], _∷_, _++_}
+use lib.Dec.{eqb}
+use lib.ListN.{length, replicate}
+
+-- xs, and zeros after it to the length n
+abbrev pub pad : ℕ → List ℕ → List ℕ
+pad n xs = xs ++ replicate (n - length xs) 0
+
+-- a number below 65,536 as two bytes, low byte first
+abbrev pub bytes2 : ℕ → List ℕ
+bytes2 n = n % 256 ∷ n / 256 % 256 ∷ []
+
+abbrev pub sameList : List ℕ → List ℕ → Bool
+sameList [] [] = true
+sameList [] (y ∷ ys) = false
+sameList (x ∷ xs) [] = false
+sameList (x ∷ xs) (y ∷ ys) = eqb x y && sameList xs ys

@@ -1,0 +1,9 @@
+pub mod Digit
+pub mod Line
+pub mod Problem
+pub mod Judge
+pub mod Parse
+pub mod Layout
+pub mod Print
+pub mod Table
+pub mod Claims

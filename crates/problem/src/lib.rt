@@ -1,0 +1,5 @@
+// The ticket's text and its table: reading, writing, and which tables are valid.
+pub mod judge;
+pub mod line;
+pub mod read;
+pub mod write;

@@ -1,0 +1,8 @@
+// One line of the text: pairs of digits, ended by byte 0A.
+
+// Where a line would start: no text is left, or the line is badly formed, or it holds this many bytes.
+pub enum Line {
+    Absent,
+    Bad,
+    Holds(usize),
+}
