@@ -1,5 +1,6 @@
 pub mod Test
 pub mod Member
 pub mod Tabulate
+pub mod Bytes
 pub mod Pigeonhole
 pub mod Loops

@@ -1,9 +1,9 @@
--- Lists of bytes: records of one length, and equality.
-use Prim.Native.Nat.{ℕ, _-_, _/_, _%_}
+-- Lists of bytes: padding, numbers of two bytes, equality, and bytes put over others.
+use Prim.Native.Nat.{ℕ, _+_, _-_, _/_, _%_}
 use mathlib.Core.Bool.{Bool, true, false, _&&_}
 use mathlib.Core.List.{List, [], _∷_, _++_}
 use lib.Dec.{eqb}
-use lib.ListN.{length, replicate}
+use lib.ListN.{length, take, drop, replicate}
 
 -- xs, and zeros after it to the length n
 abbrev pub pad : ℕ → List ℕ → List ℕ
@@ -18,3 +18,7 @@ sameList [] [] = true
 sameList [] (y ∷ ys) = false
 sameList (x ∷ xs) [] = false
 sameList (x ∷ xs) (y ∷ ys) = eqb x y && sameList xs ys
+
+-- a list with these bytes from a place on
+abbrev pub spliced : ℕ → List ℕ → List ℕ → List ℕ
+spliced at bytes xs = take at xs ++ bytes ++ drop (at + length bytes) xs

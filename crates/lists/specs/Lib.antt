@@ -2,3 +2,4 @@ pub mod Key
 pub mod Member
 pub mod Tabulate
 pub mod Bytes
+pub mod Digits

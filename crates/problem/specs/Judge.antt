@@ -17,18 +17,20 @@ abbrev pub present : {R : Type 0} → List ℕ → ℕ → R → R → R
 present f j missing r = cond (ltb j (length f)) r missing
 
 -- the first line: "01, version (01), constants c (0 to 32), predicates p (1 to 32), limit L (4 bytes, high byte first)"
+unfoldable pub judgeSizes : ℕ → List ℕ → Heading
+judgeSizes c f =
+    present f 3 (Wrong 3)
+    (cond (ltb 0 (getD f 3 0) && ltb (getD f 3 0) 33)
+    (cond (eqb (length f) 8) (Sizes c (getD f 3 0)) (Wrong 3))
+    (Wrong 5))
+
 unfoldable pub judgeHeading : List ℕ → Heading
 judgeHeading f =
     cond (eqb (getD f 0 0) 1)
     (present f 1 (Wrong 3)
     (cond (eqb (getD f 1 0) 1)
     (present f 2 (Wrong 3)
-    (cond (ltb (getD f 2 0) 33)
-    (present f 3 (Wrong 3)
-    (cond (ltb 0 (getD f 3 0) && ltb (getD f 3 0) 33)
-    (cond (eqb (length f) 8) (Sizes (getD f 2 0) (getD f 3 0)) (Wrong 3))
-    (Wrong 5)))
-    (Wrong 5)))
+    (cond (ltb (getD f 2 0) 33) (judgeSizes (getD f 2 0) f) (Wrong 5)))
     (Wrong 4)))
     (Wrong 2)
 
@@ -44,15 +46,16 @@ judgeArity c atoms f =
     (Fault 5)))
     (Fault 2)
 
--- "An argument is a constant (00 to 1F, below c) or a variable (80 to 83)", and "Variables first appear in a clause as 80, 81, 82, 83 in that order":
--- with v variables so far, how many there are with this argument
+-- "Variables first appear in a clause as 80, 81, 82, 83 in that order": with v variables so far and then variable x, how many there are
+unfoldable pub judgeVariable : ℕ → ℕ → Judged
+judgeVariable v x = cond (ltb x v) (Found v) (cond (eqb x v) (Found (suc v)) (Fault 7))
+
+-- "An argument is a constant (00 to 1F, below c) or a variable (80 to 83)"
 unfoldable pub judgeArg : ℕ → ℕ → ℕ → Judged
 judgeArg c v b =
     cond (ltb b 32)
     (cond (ltb b c) (Found v) (Fault 6))
-    (cond (leb 128 b && ltb b 132)
-    (cond (ltb (b - 128) v) (Found v) (cond (eqb (b - 128) v) (Found (suc v)) (Fault 7)))
-    (Fault 6))
+    (cond (leb 128 b && ltb b 132) (judgeVariable v (b - 128)) (Fault 6))
 
 -- n arguments from byte j on
 unfoldable pub judgeArgs : ℕ → List ℕ → ℕ → ℕ → ℕ → Span
@@ -69,15 +72,24 @@ unfoldable pub judgeAtoms : ℕ → List ℕ → List ℕ → ℕ → ℕ → �
 judgeAtoms c arities f zero j v = Reached j v
 judgeAtoms c arities f (suc n) j v = elim (judgeAtom c arities f j v) [ Broken e ↦ Broken e | Reached i w ↦ judgeAtoms c arities f n i w ]
 
--- after the alternatives, at byte j with w variables, of which v stand in conditions: 3 for bytes left over, 8 an alternative's variable in no
--- condition, 10 the sum now passes 16,384
-unfoldable pub judgeEnd : ℕ → ℕ → List ℕ → ℕ → ℕ → ℕ → Judged
-judgeEnd c sum f v j w =
-    cond (eqb j (length f))
+-- after the alternatives of a frame of so many bytes, at byte j with w variables, of which v stand in conditions: 3 for bytes left over, 8 an
+-- alternative's variable in no condition, 10 the sum now passes 16,384
+unfoldable pub judgeEnd : ℕ → ℕ → ℕ → ℕ → ℕ → ℕ → ℕ → Judged
+judgeEnd c sum size conds v j w =
+    cond (eqb j size)
     (cond (eqb w v)
-    (cond (leb (sum + getD f 1 0 * c ^ v) 16384) (Found v) (Fault 10))
+    (cond (leb (sum + conds * c ^ v) 16384) (Found v) (Fault 10))
     (Fault 8))
     (Fault 3)
+
+-- the atoms of a clause line with so many conditions and alternatives
+unfoldable pub judgeBody : ℕ → List ℕ → ℕ → ℕ → ℕ → List ℕ → Judged
+judgeBody c arities sum conds alts f =
+    elim (judgeAtoms c arities f conds 3 0) [
+      | Broken e ↦ Fault e
+      | Reached i v ↦
+          elim (judgeAtoms c arities f alts i v) [ Broken e ↦ Fault e | Reached j w ↦ judgeEnd c sum (length f) conds v j w ]
+    ]
 
 -- "03, n conditions (0 to 4), m alternatives (0 to 4), then n + m atoms", after the kind: how many variables the clause has
 unfoldable pub judgeClause : ℕ → List ℕ → ℕ → List ℕ → Judged
@@ -85,13 +97,7 @@ judgeClause c arities sum f =
     present f 1 (Fault 3)
     (cond (ltb (getD f 1 0) 5)
     (present f 2 (Fault 3)
-    (cond (ltb (getD f 2 0) 5)
-    (elim (judgeAtoms c arities f (getD f 1 0) 3 0) [
-      | Broken e ↦ Fault e
-      | Reached i v ↦
-          elim (judgeAtoms c arities f (getD f 2 0) i v) [ Broken e ↦ Fault e | Reached j w ↦ judgeEnd c sum f v j w ]
-    ])
-    (Fault 5)))
+    (cond (ltb (getD f 2 0) 5) (judgeBody c arities sum (getD f 1 0) (getD f 2 0) f) (Fault 5)))
     (Fault 5))
 
 -- the frame cut into its atoms, whatever its faults
@@ -110,11 +116,10 @@ abbrev pub afterAtoms : List ℕ → List ℕ → ℕ → ℕ → ℕ
 afterAtoms arities f zero j = j
 afterAtoms arities f (suc n) j = afterAtoms arities f n (afterAtom arities f j)
 
--- a clause line's frame as a clause with v variables
+-- a clause line's frame as a clause, with so many conditions, alternatives and variables
+abbrev pub clauseWith : List ℕ → List ℕ → ℕ → ℕ → ℕ → Clause
+clauseWith arities f conds alts v =
+    record { vars = v; conds = atomsAt arities f conds 3; alts = atomsAt arities f alts (afterAtoms arities f conds 3) }
+
 abbrev pub clauseAt : List ℕ → List ℕ → ℕ → Clause
-clauseAt arities f v =
-    record {
-      vars = v;
-      conds = atomsAt arities f (getD f 1 0) 3;
-      alts = atomsAt arities f (getD f 2 0) (afterAtoms arities f (getD f 1 0) 3);
-    }
+clauseAt arities f v = clauseWith arities f (getD f 1 0) (getD f 2 0) v

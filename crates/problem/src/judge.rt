@@ -1,5 +1,3 @@
-// The faults of a line's bytes, by document 01's numbers.
-
 // The number of the fault, or the number that was asked for.
 pub enum Judged {
     Fault(u8),

@@ -1,5 +1,3 @@
-// One line of the text: pairs of digits, ended by byte 0A.
-
 // Where a line would start: no text is left, or the line is badly formed, or it holds this many bytes.
 pub enum Line {
     Absent,

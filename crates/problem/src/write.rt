@@ -1,5 +1,3 @@
-// Writing a table out as text.
-
 // What writing says: a refusal's number, or how many bytes were written.
 pub enum Writing {
     Unwritten(u8),

@@ -1,0 +1,73 @@
+-- Laws of digits: a digit's byte and its value determine each other, and so do a byte and its pair of digits.
+use Prim.Native.Nat.{ℕ, zero, suc, _+_, _*_, _/_, _%_, _≤_, _<_}
+use mathlib.Core.Bool.{Bool, true, false, cond, _&&_}
+use mathlib.Core.List.{List, [], _∷_}
+use mathlib.Core.Logic.{_⊎_, inl, inr}
+use mathlib.Core.Path.{_≡_, subst}
+use native.Mathlib.Nat.{eq-or-lt-of-le}
+use native.Mathlib.Omega.{arith}
+use lib.Dec.{T, eqb, eqb→eq, ltb→lt}
+use lib.ListN.{length, getD}
+use Rattle.lists.proofs.Test.{T-left, T-right}
+use Rattle.problem.specs.Digit.{digits, placeOf, digitOf, isDigit, hexByte}
+
+pub place-le : (ds : List ℕ) (b : ℕ) → placeOf ds b ≤ length ds
+place-le [] b = omega arith
+place-le (d ∷ ds) b = go (eqb d b) (place-le ds b)
+  where
+    go : (t : Bool) → placeOf ds b ≤ length ds → cond t 0 (suc (placeOf ds b)) ≤ suc (length ds)
+    go true h = omega arith
+    go false h = omega arith
+
+-- what stands at the place of b is b
+pub place-back : (ds : List ℕ) (b : ℕ) → placeOf ds b < length ds → getD ds (placeOf ds b) 0 ≡ b
+place-back [] b h = absurd (omega arith)
+place-back (d ∷ ds) b h = go (eqb d b) (eqb→eq d b) (place-back ds b) h
+  where
+    go : (t : Bool) → (T t → d ≡ b) → (placeOf ds b < length ds → getD ds (placeOf ds b) 0 ≡ b)
+        → cond t 0 (suc (placeOf ds b)) < suc (length ds) → getD (d ∷ ds) (cond t 0 (suc (placeOf ds b))) 0 ≡ b
+    go true e f l = e tt
+    go false e f l = f (omega arith)
+
+-- the test passes at 0, 1, .. n - 1
+abbrev passes : (ℕ → Bool) → ℕ → Bool
+passes p zero = true
+passes p (suc n) = passes p n && p n
+
+passes-at : (p : ℕ → Bool) (n : ℕ) → T (passes p n) → (b : ℕ) → b < n → T (p b)
+passes-at p zero t b h = absurd (omega arith)
+passes-at p (suc n) t b h = go (eq-or-lt-of-le h) (passes-at p n (T-left (passes p n) (p n) t) b)
+  where
+    go : (suc b ≡ suc n) ⊎ (suc b < suc n) → (b < n → T (p b)) → T (p b)
+    go (inl e) f = let same : n ≡ b = omega arith in subst (λ (k : ℕ). T (p k)) same (T-right (passes p n) (p n) t)
+    go (inr l) f = f (omega arith)
+
+pub digit-value : (b : ℕ) → b < 16 → digitOf (getD digits b 0) ≡ b
+unfolding digitOf
+digit-value b h = eqb→eq (placeOf digits (getD digits b 0)) b (passes-at (λ k. eqb (placeOf digits (getD digits k 0)) k) 16 tt b h)
+
+pub digit-le : (b : ℕ) → digitOf b ≤ 16
+unfolding digitOf
+digit-le b = place-le digits b
+
+pub digit-small : (b : ℕ) → T (isDigit b) → digitOf b < 16
+unfolding isDigit
+digit-small b t = ltb→lt (digitOf b) 16 t
+
+-- a digit is the one of its value
+pub digit-back : (b : ℕ) → T (isDigit b) → getD digits (digitOf b) 0 ≡ b
+unfolding digitOf isDigit
+digit-back b t = place-back digits b (ltb→lt (placeOf digits b) 16 t)
+
+module _ (h l : ℕ) (p : T (isDigit h)) (q : T (isDigit l)) where
+  pub hex-small : 16 * digitOf h + digitOf l < 256
+  hex-small = omega (arith, digit-small h p, digit-small l q)
+
+  -- two digits are those of the byte that they stand for
+  pub hex-back : hexByte (16 * digitOf h + digitOf l) ≡ h ∷ l ∷ []
+  unfolding hexByte
+  hex-back =
+      let small : digitOf l < 16 = digit-small l q in
+      let high : (16 * digitOf h + digitOf l) / 16 ≡ digitOf h = omega arith in
+      let low : (16 * digitOf h + digitOf l) % 16 ≡ digitOf l = omega arith in
+      rw (high, low, digit-back h p, digit-back l q)

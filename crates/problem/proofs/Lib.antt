@@ -1,0 +1,7 @@
+pub mod Digits
+pub mod Lines
+pub mod Judges
+pub mod Parse
+pub mod TableLayout
+pub mod Access
+pub mod Theorems

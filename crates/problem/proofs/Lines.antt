@@ -1,0 +1,217 @@
+-- Laws of a line: what stands in the text where a line holds n bytes, and that its frame, printed, is that text.
+use Prim.Native.Nat.{ℕ, zero, suc, _+_, _-_, _*_, _/_, _%_, _≤_, _<_}
+use mathlib.Core.Bool.{Bool, true, false, not, cond, _&&_}
+use mathlib.Core.List.{List, [], _∷_, _++_, append-assoc, append-nil, flatMap}
+use mathlib.Core.Logic.{_⊎_, inl, inr}
+use mathlib.Core.Path.{_≡_, refl, subst, _∙_}
+use native.Mathlib.Nat.{add-zero, zero-add}
+use native.Mathlib.Omega.{arith}
+use lib.Dec.{T, eqb, ltb, eqb→eq, ltb→lt, nltb→le}
+use lib.ListN.{length, drop, getD, List·getD-eq-default}
+use lib.Seq.{drop-cons}
+use Rattle.lists.specs.Member.{All}
+use Rattle.lists.specs.Tabulate.{tabulate}
+use Rattle.lists.proofs.Test.{T-left, T-right, T-true, T-false, decided}
+use Rattle.lists.proofs.Member.{all-append}
+use Rattle.lists.proofs.Tabulate.{tabulate-length, tabulate-at}
+use Rattle.problem.specs.declared.line.Line.{Line}
+use Rattle.problem.specs.declared.line.Line.the-variants.{Absent, Bad, Holds}
+use Rattle.problem.specs.Digit.{digitOf, isDigit, hexByte, hexLine}
+use Rattle.problem.specs.Line.{run, isLine, lineOf, lineAt, byteAt, frameAt, afterLine}
+use Rattle.problem.proofs.Digits.{hex-small, hex-back}
+
+-- at most n are counted
+pub run-le : (x : List ℕ) (at n : ℕ) → run x at n ≤ n
+unfolding run
+run-le x at zero = omega arith
+run-le x at (suc n) = go (isDigit (getD x at 0)) (run-le x (suc at) n)
+  where
+    go : (b : Bool) → run x (suc at) n ≤ n → cond b (suc (run x (suc at) n)) 0 ≤ suc n
+    go true h = omega arith
+    go false h = omega arith
+
+-- counting goes on past a digit and stops at any other byte
+pub run-digit : (x : List ℕ) (at n : ℕ) → T (isDigit (getD x at 0)) → run x at (suc n) ≡ suc (run x (suc at) n)
+unfolding run
+run-digit x at n t = rw (T-true (isDigit (getD x at 0)) t)
+
+pub run-other : (x : List ℕ) (at n : ℕ) → T (not (isDigit (getD x at 0))) → run x at n ≡ 0
+unfolding run
+run-other x at zero t = refl
+run-other x at (suc n) t = rw (T-false (isDigit (getD x at 0)) t)
+
+-- each byte counted is a digit
+pub run-digits : (x : List ℕ) (at n j : ℕ) → j < run x at n → T (isDigit (getD x (at + j) 0))
+unfolding run
+run-digits x at zero j h = absurd (omega arith)
+run-digits x at (suc n) j h = go (isDigit (getD x at 0)) refl j (run-digits x (suc at) n) h
+  where
+    go : (b : Bool) → isDigit (getD x at 0) ≡ b → (j : ℕ) → ((i : ℕ) → i < run x (suc at) n → T (isDigit (getD x (suc at + i) 0)))
+        → j < cond b (suc (run x (suc at) n)) 0 → T (isDigit (getD x (at + j) 0))
+    go false e j f l = absurd (omega arith)
+    go true e zero f l = rw (add-zero, e) tt
+    go true e (suc i) f l =
+        let same : suc at + i ≡ at + suc i = omega arith in
+        subst (λ (k : ℕ). T (isDigit (getD x k 0))) same (f i (omega arith))
+
+-- a loop that has counted d of at most 71 digits
+module _ (x : List ℕ) (at : ℕ) where
+  pub run-start : run x at 71 ≡ 0 + run x (at + 0) (71 - 0)
+  run-start = rw (zero-add, add-zero)
+
+  pub run-more : (d : ℕ) → d < 71 → T (isDigit (getD x (at + d) 0)) → run x at 71 ≡ d + run x (at + d) (71 - d) → run x at 71 ≡ d + 1 + run x (at + (d + 1)) (71 - (d + 1))
+  run-more d h t e =
+      let left : 71 - d ≡ suc (71 - (d + 1)) = omega arith in
+      let next : suc (at + d) ≡ at + (d + 1) = omega arith in
+      let counted : run x (at + d) (71 - d) ≡ suc (run x (at + (d + 1)) (71 - (d + 1))) =
+      rw (left, run-digit x (at + d) (71 - (d + 1)) t, next)
+      in
+      omega arith
+
+  -- at 71, and at a byte that is no digit
+  pub run-full : (d : ℕ) → 71 ≤ d → run x at 71 ≡ d + run x (at + d) (71 - d) → run x at 71 ≡ d
+  run-full d h e = let none : 71 - d ≡ 0 = omega arith in omega (arith, run-le x (at + d) (71 - d))
+
+  pub run-stop : (d : ℕ) → T (not (isDigit (getD x (at + d) 0))) → run x at 71 ≡ d + run x (at + d) (71 - d) → run x at 71 ≡ d
+  run-stop d t e = omega (arith, run-other x (at + d) (71 - d) t)
+
+  -- at the text's end
+  pub run-end : (d : ℕ) → length x ≤ at + d → run x at 71 ≡ d + run x (at + d) (71 - d) → run x at 71 ≡ d
+  unfolding isDigit digitOf
+  run-end d h e = run-stop d (rw (List·getD-eq-default x 0 h) tt) e
+
+-- a byte that is not 0 stands in the text
+inside : (x : List ℕ) (i b : ℕ) → getD x i 0 ≡ suc b → i < length x
+inside x i b e = go (decided (ltb i (length x)))
+  where
+    go : T (ltb i (length x)) ⊎ T (not (ltb i (length x))) → i < length x
+    go (inl t) = ltb→lt i (length x) t
+    go (inr t) =
+        let out : getD x i 0 ≡ 0 = List·getD-eq-default x 0 (nltb→le i (length x) t) in
+        absurd (omega arith)
+
+-- what a line of n bytes says of the text
+pub record Held (x : List ℕ) (at n : ℕ) : Type 0 where
+  pub counted : run x at 71 ≡ 2 * n
+  pub some-byte : 0 < n
+  pub short : n < 36
+  pub ended : getD x (at + 2 * n) 0 ≡ 10
+
+module _ (x : List ℕ) (at : ℕ) where
+  line-of : (d n : ℕ) → run x at 71 ≡ d → lineOf x at d ≡ Holds n → Held x at n
+  line-of d n r e = go (isLine x at d) (λ t. t) e
+    where
+      go : (b : Bool) → (T b → T (isLine x at d)) → _≡_ {A = Line} (cond b (Holds (d / 2)) Bad) (Holds n) → Held x at n
+      go false f q = let z : _≡_ {A = ℕ} 0 1 = cc in absurd (omega arith)
+      go true f q =
+          let sized = ltb 0 d && ltb d 71 in
+          let even = eqb (d % 2) 0 in
+          let closed = eqb (getD x (at + d) 0) 10 in
+          let three : T (sized && even) = T-left (sized && even) closed (f tt) in
+          let two : T sized = T-left sized even three in
+          let low : 0 < d = ltb→lt 0 d (T-left (ltb 0 d) (ltb d 71) two) in
+          let high : d < 71 = ltb→lt d 71 (T-right (ltb 0 d) (ltb d 71) two) in
+          let whole : d % 2 ≡ 0 = eqb→eq (d % 2) 0 (T-right sized even three) in
+          let half : d / 2 ≡ n = cc in
+          let twice : d ≡ 2 * n = omega arith in
+          record {
+            counted = r ∙ twice;
+            some-byte = omega arith;
+            short = omega arith;
+            ended = subst (λ (k : ℕ). getD x (at + k) 0 ≡ 10) twice (eqb→eq (getD x (at + d) 0) 10 (T-right (sized && even) closed (f tt)));
+          }
+
+  pub line-holds : (n : ℕ) → lineAt x at ≡ Holds n → Held x at n
+  unfolding lineAt
+  line-holds n e = go (ltb at (length x)) e
+    where
+      go : (b : Bool) → _≡_ {A = Line} (cond b (lineOf x at (run x at 71)) Absent) (Holds n) → Held x at n
+      go true q = line-of (run x at 71) n refl q
+      go false q = let z : _≡_ {A = ℕ} 0 1 = cc in absurd (omega arith)
+
+  pub line-absent : lineAt x at ≡ Absent → length x ≤ at
+  unfolding lineAt
+  line-absent e = go (ltb at (length x)) (nltb→le at (length x)) e
+    where
+      of : (b : Bool) (n : ℕ) → _≡_ {A = Line} (cond b (Holds n) Bad) Absent → ⊥
+      of true n q = let z : _≡_ {A = ℕ} 0 1 = cc in omega arith
+      of false n q = let z : _≡_ {A = ℕ} 0 1 = cc in omega arith
+
+      go : (b : Bool) → (T (not b) → length x ≤ at) → _≡_ {A = Line} (cond b (lineOf x at (run x at 71)) Absent) Absent → length x ≤ at
+      go true f q = absurd (of (isLine x at (run x at 71)) (run x at 71 / 2) q)
+      go false f q = f tt
+
+  pub line-digits : (n : ℕ) → lineAt x at ≡ Holds n → (j : ℕ) → j < 2 * n → T (isDigit (getD x (at + j) 0))
+  line-digits n e j h = run-digits x at 71 j (rw ((line-holds n e) .counted) h)
+
+  pub line-size : (n : ℕ) → lineAt x at ≡ Holds n → (0 < n) × (n < 36)
+  line-size n e = ((line-holds n e) .some-byte, (line-holds n e) .short)
+
+  pub line-room : (n : ℕ) → lineAt x at ≡ Holds n → (at + 2 * n < length x) × (getD x (at + 2 * n) 0 ≡ 10)
+  line-room n e = let end = (line-holds n e) .ended in (inside x (at + 2 * n) 9 end, end)
+
+  pub frame-length : (n : ℕ) → length (frameAt x at n) ≡ n
+  unfolding frameAt
+  frame-length n = tabulate-length (λ j. byteAt x (at + 2 * j)) n
+
+  pub frame-byte : (n j : ℕ) → j < n → getD (frameAt x at n) j 0 ≡ byteAt x (at + 2 * j)
+  unfolding frameAt
+  frame-byte n j h = tabulate-at (λ k. byteAt x (at + 2 * k)) 0 n j h
+
+-- two digits of the text are those of the byte that they stand for
+module _ (x : List ℕ) (at : ℕ) (p : T (isDigit (getD x at 0))) (q : T (isDigit (getD x (suc at) 0))) where
+  byte-small : byteAt x at < 256
+  unfolding byteAt
+  byte-small = hex-small (getD x at 0) (getD x (suc at) 0) p q
+
+  byte-text : suc at < length x → drop at x ≡ hexByte (byteAt x at) ++ drop (suc (suc at)) x
+  unfolding byteAt
+  byte-text h =
+      let l : at < length x = omega arith in
+      drop-cons x at 0 l ∙ rw (drop-cons x (suc at) 0 h, hex-back (getD x at 0) (getD x (suc at) 0) p q)
+
+pub flat-append : {A B : Type 0} (f : A → List B) (xs ys : List A) → flatMap f (xs ++ ys) ≡ flatMap f xs ++ flatMap f ys
+unfolding flatMap
+flat-append f [] ys = refl
+flat-append f (x ∷ xs) ys = rw (flat-append f xs ys, append-assoc)
+
+all-tabulate : {A : Type 0} (P : A → Type 0) (f : ℕ → A) (n : ℕ) → ((j : ℕ) → j < n → P (f j)) → All P (tabulate f n)
+all-tabulate P f zero g = tt
+all-tabulate P f (suc n) g =
+    all-append P (tabulate f n) (f n ∷ []) (all-tabulate P f n (λ j h. g j (omega arith))) (g n (omega arith), tt)
+
+module _ (x : List ℕ) (at : ℕ) where
+  -- 2 n digits are those of the n bytes that they stand for
+  digits-text : (n : ℕ) → at + 2 * n ≤ length x → ((j : ℕ) → j < 2 * n → T (isDigit (getD x (at + j) 0)))
+      → drop at x ≡ flatMap hexByte (frameAt x at n) ++ drop (at + 2 * n) x
+  unfolding frameAt flatMap
+  digits-text zero h f = rw add-zero
+  digits-text (suc n) h f =
+      let place = at + 2 * n in
+      let next : suc (suc place) ≡ at + 2 * suc n = omega arith in
+      let one : suc (at + 2 * n) ≡ at + suc (2 * n) = omega arith in
+      let first : T (isDigit (getD x place 0)) = f (2 * n) (omega arith) in
+      let second : T (isDigit (getD x (suc place) 0)) = rw one (f (suc (2 * n)) (omega arith)) in
+      let byte : drop place x ≡ hexByte (byteAt x place) ++ drop (at + 2 * suc n) x =
+      subst (λ (k : ℕ). drop place x ≡ hexByte (byteAt x place) ++ drop k x) next (byte-text x place first second (omega arith))
+      in
+      digits-text n (omega arith) (λ j l. f j (omega arith))
+      ∙ rw (byte, flat-append hexByte (frameAt x at n) (byteAt x place ∷ []), append-assoc, append-nil)
+
+  pub frame-bytes : (n : ℕ) → lineAt x at ≡ Holds n → All (λ b. b < 256) (frameAt x at n)
+  unfolding frameAt
+  frame-bytes n e = all-tabulate (λ b. b < 256) (λ j. byteAt x (at + 2 * j)) n small
+    where
+      small : (j : ℕ) → j < n → byteAt x (at + 2 * j) < 256
+      small j h =
+          let one : suc (at + 2 * j) ≡ at + suc (2 * j) = omega arith in
+          byte-small x (at + 2 * j) (line-digits x at n e (2 * j) (omega arith)) (rw one (line-digits x at n e (suc (2 * j)) (omega arith)))
+
+  -- a line is its frame printed
+  pub line-text : (n : ℕ) → lineAt x at ≡ Holds n → drop at x ≡ hexLine (frameAt x at n) ++ drop (afterLine at n) x
+  unfolding hexLine
+  line-text n e =
+      let room = line-room x at n e in
+      let one : suc (at + 2 * n) ≡ at + 2 * n + 1 = omega arith in
+      let rest : drop (at + 2 * n) x ≡ 10 ∷ drop (at + 2 * n + 1) x = drop-cons x (at + 2 * n) 0 (room .0) ∙ rw (room .1, one) in
+      digits-text n (omega arith) (line-digits x at n e) ∙ rw (rest, append-assoc)

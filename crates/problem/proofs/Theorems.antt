@@ -1,0 +1,48 @@
+-- The claims of `specs/Claims.antt`, proved.
+use Prim.Native.Nat.{ℕ}
+use mathlib.Core.List.{List}
+use mathlib.Core.Path.{_≡_, refl, sym, ap, subst, _∙_}
+use lib.Dec.{T}
+use Rattle.lists.specs.Bytes.{sameList}
+use Rattle.lists.proofs.Bytes.{same-equal, same-refl}
+use Rattle.problem.specs.Problem.{Problem}
+use Rattle.problem.specs.Parse.{Parsed, refused, parsed, parse}
+use Rattle.problem.specs.Layout.{layout}
+use Rattle.problem.specs.Print.{textOf, print}
+use Rattle.problem.specs.Table.{Valid, readsTo, isValid}
+use Rattle.problem.specs.Claims.{Theorems}
+use Rattle.problem.proofs.Parse.{parse-text, parse-fits}
+use Rattle.problem.proofs.TableLayout.{layout-length, problem-back}
+
+pub print-back : (x : List ℕ) (q : Problem) → parse x ≡ parsed q → print (layout q) ≡ x
+unfolding print
+print-back x q e = ap textOf (problem-back q (parse-fits x q e)) ∙ parse-text x q e
+
+read-apart : (x y : List ℕ) (q r : Problem) → parse x ≡ parsed q → parse y ≡ parsed r → layout q ≡ layout r → x ≡ y
+read-apart x y q r e f s = sym (print-back x q e) ∙ ap print s ∙ print-back y r f
+
+pub valid-from : (tb : List ℕ) → T (isValid tb) → Valid tb
+unfolding isValid
+valid-from tb t = go (parse (print tb)) refl t
+  where
+    go : (o : Parsed) → parse (print tb) ≡ o → T (readsTo o tb) → Valid tb
+    go (refused e line) q u = absurd u
+    go (parsed p) q u = record { text = print tb; problem = p; accepted = q; bytes = same-equal (layout p) tb u }
+
+pub valid-to : (tb : List ℕ) → Valid tb → T (isValid tb)
+unfolding isValid
+valid-to tb v =
+    let back : print tb ≡ v .text = ap print (sym (v .bytes)) ∙ print-back (v .text) (v .problem) (v .accepted) in
+    subst (λ (o : Parsed). T (readsTo o tb)) (sym (ap parse back ∙ v .accepted)) (subst (λ (b : List ℕ). T (sameList (layout (v .problem)) b)) (v .bytes) (same-refl (layout (v .problem))))
+
+pub theorems : Theorems
+theorems =
+    record {
+      fits = parse-fits;
+      text-back = parse-text;
+      table-length = layout-length;
+      problem-back = problem-back;
+      print-back = print-back;
+      read-apart = read-apart;
+      valid = λ tb. (valid-from tb, valid-to tb);
+    }
