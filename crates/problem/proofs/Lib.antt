@@ -1,5 +1,6 @@
 pub mod Digits
 pub mod Lines
+pub mod Leaf
 pub mod Judges
 pub mod Parse
 pub mod TableLayout
