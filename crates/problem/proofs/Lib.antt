@@ -2,6 +2,7 @@ pub mod Digits
 pub mod Lines
 pub mod Leaf
 pub mod Judges
+pub mod ClauseLaws
 pub mod Parse
 pub mod TableLayout
 pub mod Access

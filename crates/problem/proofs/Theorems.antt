@@ -5,11 +5,11 @@ use mathlib.Core.Path.{_≡_, refl, sym, ap, subst, _∙_}
 use lib.Dec.{T}
 use Rattle.lists.specs.Bytes.{sameList}
 use Rattle.lists.proofs.Bytes.{same-equal, same-refl}
-use Rattle.problem.specs.Problem.{Problem}
+use Rattle.problem.specs.Problem.{Problem, Fits}
 use Rattle.problem.specs.Parse.{Parsed, refused, parsed, parse}
-use Rattle.problem.specs.Layout.{layout}
+use Rattle.problem.specs.Layout.{layout, problemIn}
 use Rattle.problem.specs.Print.{textOf, print}
-use Rattle.problem.specs.Table.{Valid, readsTo, isValid}
+use Rattle.problem.specs.Table.{Valid, Lawful, readsTo, isValid}
 use Rattle.problem.specs.Claims.{Theorems}
 use Rattle.problem.proofs.Parse.{parse-text, parse-fits}
 use Rattle.problem.proofs.TableLayout.{layout-length, problem-back}
@@ -29,6 +29,12 @@ valid-from tb t = go (parse (print tb)) refl t
     go (refused e line) q u = absurd u
     go (parsed p) q u = record { text = print tb; problem = p; accepted = q; bytes = same-equal (layout p) tb u }
 
+pub valid-lawful : (tb : List ℕ) → Valid tb → Lawful tb
+valid-lawful tb v =
+    let fits = parse-fits (v .text) (v .problem) (v .accepted) in
+    let back : problemIn tb ≡ v .problem = ap problemIn (sym (v .bytes)) ∙ problem-back (v .problem) fits in
+    record { fits = subst Fits (sym back) fits; laid = ap layout back ∙ v .bytes }
+
 pub valid-to : (tb : List ℕ) → Valid tb → T (isValid tb)
 unfolding isValid
 valid-to tb v =
@@ -45,4 +51,5 @@ theorems =
       print-back = print-back;
       read-apart = read-apart;
       valid = λ tb. (valid-from tb, valid-to tb);
+      lawful = valid-lawful;
     }

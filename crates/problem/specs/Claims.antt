@@ -9,7 +9,7 @@ use Rattle.problem.specs.Problem.{Problem, Fits}
 use Rattle.problem.specs.Parse.{parsed, parse}
 use Rattle.problem.specs.Layout.{layout, problemIn}
 use Rattle.problem.specs.Print.{textOf, print}
-use Rattle.problem.specs.Table.{Valid, isValid}
+use Rattle.problem.specs.Table.{Valid, Lawful, isValid}
 
 pub record Theorems : Type 0 where
   -- a problem that was read keeps every bound, and its text is the text that was read
@@ -23,3 +23,5 @@ pub record Theorems : Type 0 where
   pub read-apart : (x y : List ℕ) (q r : Problem) → parse x ≡ parsed q → parse y ≡ parsed r → layout q ≡ layout r → x ≡ y
   -- a table is valid exactly if it survives writing and reading
   pub valid : (tb : List ℕ) → T (isValid tb) ↔ Valid tb
+  -- and what is found in it then keeps every bound
+  pub lawful : (tb : List ℕ) → Valid tb → Lawful tb

@@ -10,9 +10,9 @@ use Rattle.problem.specs.declared.read.Reading.{Reading}
 use Rattle.problem.specs.declared.read.Reading.the-variants.{Refused, Accepted}
 use Rattle.problem.specs.declared.write.Writing.{Writing}
 use Rattle.problem.specs.declared.write.Writing.the-variants.{Unwritten, Written}
-use Rattle.problem.specs.Problem.{Problem}
+use Rattle.problem.specs.Problem.{Problem, Fits}
 use Rattle.problem.specs.Parse.{Parsed, refused, parsed, parse}
-use Rattle.problem.specs.Layout.{layout}
+use Rattle.problem.specs.Layout.{layout, problemIn}
 use Rattle.problem.specs.Print.{print}
 
 abbrev pub readingOf : Parsed → Reading
@@ -36,6 +36,11 @@ pub record Valid (tb : List ℕ) : Type 0 where
   pub problem : Problem
   pub accepted : parse text ≡ parsed problem
   pub bytes : layout problem ≡ tb
+
+-- so it is the table of a problem that keeps every bound: the one found in it
+pub record Lawful (tb : List ℕ) : Type 0 where
+  pub fits : Fits (problemIn tb)
+  pub laid : layout (problemIn tb) ≡ tb
 
 -- decided by writing it out and reading that
 abbrev pub readsTo : Parsed → List ℕ → Bool

@@ -1,4 +1,4 @@
--- K1 to K9, and the problems at which two mistakes show, by computing both walks.
+-- The problems at which mistakes show, by computing both walks.
 use mathlib.Core.List.{flatMap}
 use mathlib.Core.Path.{refl}
 use Rattle.search.specs.Cases.{CasesHold}
@@ -9,4 +9,4 @@ use Rattle.search.specs.Relevancy.{hornRules, trueSet, relevantRules, re
 
 pub cases-hold : CasesHold
 unfolding flatMap grow least hornRules trueSet relevantRules relevantSet findR rewriting heldSet findM entries proceed
-cases-hold = record { relevancy = refl; magic = refl; relevancy-mistakes = refl; magic-mistakes = refl }
+cases-hold = record { relevancy = refl; magic = refl }

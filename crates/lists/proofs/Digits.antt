@@ -1,0 +1,184 @@
+-- Laws of digits, to any base and of any width: digits and the number that they stand for determine each other, the lists of digits are as many as the
+-- numbers and stand in their order, and the next list stands for the next number.
+use Prim.Native.Nat.{ℕ, zero, suc, _+_, _-_, _*_, _^_, _/_, _%_, _≤_, _<_}
+use mathlib.Core.List.{List, [], _∷_, _++_, map, flatMap, append-assoc, append-nil, map-append}
+use mathlib.Core.Path.{_≡_, refl, sym, ap, _∙_}
+use native.Mathlib.Nat.{add-zero, zero-add, add-assoc, add-suc, mul-one, mul-assoc, add-mul, suc-mul, zero-mul, pow-zero, pow-succ', one-le-pow, mod-one, mod-lt, mod-eq-of-lt, mul-add-div-right, mul-add-mod-self-right}
+use native.Mathlib.Omega.{arith}
+use lib.Arith.{digits-lt, digits-div, mod-mul}
+use lib.ListN.{length, replicate, length-replicate}
+use Rattle.lists.specs.Digits.{hornerFrom, horner, digitsOf, tuples}
+use Rattle.lists.specs.Member.{All}
+use Rattle.lists.specs.Tabulate.{tabulate}
+use Rattle.lists.proofs.Member.{all-append, all-flat, all-mapped, all-map}
+use Rattle.lists.proofs.Tabulate.{tabulate-length}
+
+-- ---- the number that digits stand for
+
+pub horner-from : (c n : ℕ) (ds : List ℕ) → hornerFrom c n ds ≡ n * c ^ length ds + horner c ds
+horner-from c n [] = rw (pow-zero, mul-one, add-zero)
+horner-from c n (d ∷ ds) =
+    rw (horner-from c (n * c + d) ds, horner-from c (0 * c + d) ds, pow-succ', add-mul (n * c) d, ← mul-assoc, zero-mul, zero-add) (add-assoc _ _ _)
+
+pub horner-cons : (c d : ℕ) (ds : List ℕ) → horner c (d ∷ ds) ≡ d * c ^ length ds + horner c ds
+horner-cons c d ds = rw (zero-mul, zero-add) (horner-from c d ds)
+
+pub horner-append : (c : ℕ) (ds es : List ℕ) → horner c (ds ++ es) ≡ horner c ds * c ^ length es + horner c es
+horner-append c ds es = from 0 ds
+  where
+    from : (n : ℕ) (ds : List ℕ) → hornerFrom c n (ds ++ es) ≡ hornerFrom c n ds * c ^ length es + horner c es
+    from n [] = horner-from c n es
+    from n (d ∷ ds) = from (n * c + d) ds
+
+pub horner-snoc : (c d : ℕ) (ds : List ℕ) → horner c (ds ++ (d ∷ [])) ≡ horner c ds * c + d
+horner-snoc c d ds = from 0 ds
+  where
+    from : (n : ℕ) (ds : List ℕ) → hornerFrom c n (ds ++ (d ∷ [])) ≡ hornerFrom c n ds * c + d
+    from n [] = refl
+    from n (e ∷ ds) = from (n * c + e) ds
+
+pub horner-below : (c : ℕ) (ds : List ℕ) → All (λ d. d < c) ds → horner c ds < c ^ length ds
+horner-below c [] a = rw pow-zero (omega arith)
+horner-below c (d ∷ ds) a = rw (zero-mul, zero-add, horner-from c d ds, pow-succ') (digits-lt (a .0) (horner-below c ds (a .1)))
+
+-- ---- digits of a number
+
+pub digits-length : (c w n : ℕ) → length (digitsOf c w n) ≡ w
+digits-length c zero n = refl
+digits-length c (suc w) n = ap suc (digits-length c w n)
+
+pub digits-below : (c w n : ℕ) → 0 < c → All (λ d. d < c) (digitsOf c w n)
+digits-below c zero n h = tt
+digits-below c (suc w) n h = (mod-lt (n / c ^ w) h, digits-below c w n h)
+
+-- the last w digits do not depend on what stands before them
+pub digits-skip : (c w q r : ℕ) → 0 < c → digitsOf c w (q * c ^ w + r) ≡ digitsOf c w r
+digits-skip c zero q r h = refl
+digits-skip c (suc w) q r h =
+    rw (pow-succ', ← mul-assoc, mul-add-div-right (one-le-pow w c h) (q * c) r, mul-add-mod-self-right, digits-skip c w (q * c) r h)
+
+-- the digits of a digit before others
+pub digits-cons : (c w d r : ℕ) → d < c → r < c ^ w → digitsOf c (suc w) (d * c ^ w + r) ≡ d ∷ digitsOf c w r
+digits-cons c w d r hd hr = rw (digits-div d hr, mod-eq-of-lt hd, digits-skip c w d r (omega arith))
+
+pub horner-mod : (c w n : ℕ) → 0 < c → horner c (digitsOf c w n) ≡ n % c ^ w
+horner-mod c zero n h = rw (pow-zero, mod-one)
+horner-mod c (suc w) n h =
+    horner-cons c (n / c ^ w % c) (digitsOf c w n)
+    ∙ rw (digits-length, horner-mod c w n h, pow-succ', mod-mul n h (one-le-pow w c h))
+
+pub horner-digits : (c w n : ℕ) → n < c ^ w → horner c (digitsOf c w n) ≡ n
+horner-digits c zero n h = let z : n < 1 = rw pow-zero at h in omega arith
+horner-digits zero (suc w) n h = let z : n < 0 = rw (pow-succ', zero-mul) at h in absurd (omega arith)
+horner-digits (suc c) (suc w) n h = horner-mod (suc c) (suc w) n (omega arith) ∙ mod-eq-of-lt h
+
+-- a number below c ^ w shows that there is a digit to write, where one is written
+pub digits-fit : (c w n : ℕ) → n < c ^ w → All (λ d. d < c) (digitsOf c w n)
+digits-fit c zero n h = tt
+digits-fit zero (suc w) n h = let z : n < 0 = rw (pow-succ', zero-mul) at h in absurd (omega arith)
+digits-fit (suc c) (suc w) n h = digits-below (suc c) (suc w) n (omega arith)
+
+pub digits-horner : (c : ℕ) (ds : List ℕ) → All (λ d. d < c) ds → digitsOf c (length ds) (horner c ds) ≡ ds
+digits-horner c [] a = refl
+digits-horner c (d ∷ ds) a =
+    ap (digitsOf c (suc (length ds))) (horner-cons c d ds)
+    ∙ digits-cons c (length ds) d (horner c ds) (a .0) (horner-below c ds (a .1))
+    ∙ ap (λ (es : List ℕ). d ∷ es) (digits-horner c ds (a .1))
+
+pub horner-apart : (c : ℕ) (ds es : List ℕ) → length ds ≡ length es → All (λ d. d < c) ds → All (λ d. d < c) es → horner c ds ≡ horner c es → ds ≡ es
+horner-apart c ds es l a b e = sym (digits-horner c ds a) ∙ rw (l, e) (digits-horner c es b)
+
+-- ---- the digits that an odometer turns
+
+pub horner-zeros : (c k : ℕ) → horner c (replicate k 0) ≡ 0
+horner-zeros c zero = refl
+horner-zeros c (suc k) = horner-cons c 0 (replicate k 0) ∙ rw (zero-mul, zero-add) (horner-zeros c k)
+
+-- digits that cannot grow stand for one less than a power
+pub horner-full : (c w : ℕ) → 0 < c → horner c (replicate w (c - 1)) + 1 ≡ c ^ w
+horner-full c zero h = rw pow-zero
+horner-full c (suc w) h =
+    let rest : horner c (replicate w (c - 1)) + 1 ≡ c ^ w = horner-full c w h in
+    let whole : c ≡ suc (c - 1) = omega arith in
+    let power : c ^ suc w ≡ (c - 1) * c ^ w + c ^ w = pow-succ' c w ∙ ap (λ (x : ℕ). x * c ^ w) whole ∙ suc-mul (c - 1) (c ^ w) in
+    rw (horner-cons c (c - 1) (replicate w (c - 1)), length-replicate) (omega arith)
+
+-- one more: the last digit that can grow does, and those after it become 0
+pub horner-next : (c : ℕ) (ds front : List ℕ) (d k : ℕ) → ds ≡ front ++ (d ∷ replicate k (c - 1)) → 0 < c
+    → horner c (front ++ ((d + 1) ∷ replicate k 0)) ≡ horner c ds + 1
+horner-next c ds front d k e h =
+    let full : horner c (replicate k (c - 1)) + 1 ≡ c ^ k = horner-full c k h in
+    let before : horner c ds ≡ horner c front * c ^ suc k + (d * c ^ k + horner c (replicate k (c - 1))) =
+    rw (e, horner-append c front (d ∷ replicate k (c - 1)), horner-cons c d (replicate k (c - 1)), length-replicate) in
+    let after : horner c (front ++ ((d + 1) ∷ replicate k 0)) ≡ horner c front * c ^ suc k + ((d + 1) * c ^ k + 0) =
+    rw (horner-append c front ((d + 1) ∷ replicate k 0), horner-cons c (d + 1) (replicate k 0), length-replicate, horner-zeros c k) in
+    omega arith
+
+-- ---- all lists of digits, in order
+
+pub all-tabulate {ℓ} : {A : Type 0} (P : A → Type ℓ) (f : ℕ → A) (n : ℕ) → ((i : ℕ) → i < n → P (f i)) → All P (tabulate f n)
+all-tabulate P f zero h = tt
+all-tabulate P f (suc n) h = all-append P (tabulate f n) (f n ∷ []) (all-tabulate P f n (λ i l. h i (omega arith))) (h n (omega arith), tt)
+
+module _ {A : Type 0} where
+  pub tabulate-same : (f g : ℕ → A) (n : ℕ) → ((i : ℕ) → i < n → f i ≡ g i) → tabulate f n ≡ tabulate g n
+  tabulate-same f g zero e = refl
+  tabulate-same f g (suc n) e = rw (tabulate-same f g n (λ i l. e i (omega arith)), e n (omega arith))
+
+  pub tabulate-add : (f : ℕ → A) (n m : ℕ) → tabulate f (n + m) ≡ tabulate f n ++ tabulate (λ i. f (n + i)) m
+  tabulate-add f n zero = rw (add-zero, append-nil)
+  tabulate-add f n (suc m) = rw (add-suc, tabulate-add f n m, append-assoc)
+
+module _ {A B : Type 0} where
+  pub tabulate-map : (g : A → B) (f : ℕ → A) (n : ℕ) → map g (tabulate f n) ≡ tabulate (λ i. g (f i)) n
+  tabulate-map g f zero = refl
+  tabulate-map g f (suc n) = map-append g (tabulate f n) (f n ∷ []) ∙ rw (tabulate-map g f n)
+
+  pub flat-append : (f : A → List B) (xs ys : List A) → flatMap f (xs ++ ys) ≡ flatMap f xs ++ flatMap f ys
+  unfolding flatMap
+  flat-append f [] ys = refl
+  flat-append f (x ∷ xs) ys = rw (flat-append f xs ys, append-assoc)
+
+  pub flat-one : (f : A → List B) (x : A) → flatMap f (x ∷ []) ≡ f x
+  unfolding flatMap
+  flat-one f x = append-nil (f x)
+
+-- the tuples that begin with a given number
+module _ (c w : ℕ) (rest : tuples c w ≡ tabulate (digitsOf c w) (c ^ w)) where
+  abbrev from : ℕ → List (List ℕ)
+  from a = map (λ t. a ∷ t) (tuples c w)
+
+  tuples-from : (a : ℕ) → a < c → from a ≡ tabulate (λ i. digitsOf c (suc w) (a * c ^ w + i)) (c ^ w)
+  tuples-from a h =
+      ap {B = List (List ℕ)} (map (λ t. a ∷ t)) rest
+      ∙ tabulate-map (λ t. a ∷ t) (digitsOf c w) (c ^ w)
+      ∙ tabulate-same (λ i. a ∷ digitsOf c w i) (λ i. digitsOf c (suc w) (a * c ^ w + i)) (c ^ w) (λ i l. sym (digits-cons c w a i h l))
+
+  tuples-upto : (n : ℕ) → n ≤ c → flatMap from (tabulate (λ a. a) n) ≡ tabulate (digitsOf c (suc w)) (n * c ^ w)
+  unfolding flatMap
+  tuples-upto zero h = rw zero-mul
+  tuples-upto (suc n) h =
+      flat-append from (tabulate (λ a. a) n) (n ∷ [])
+      ∙ rw (flat-one from n, tuples-upto n (omega arith), tuples-from n h, suc-mul) (sym (tabulate-add (digitsOf c (suc w)) (n * c ^ w) (c ^ w)))
+
+-- the tuple at place i is the digits of i
+pub tuples-at : (c w : ℕ) → tuples c w ≡ tabulate (digitsOf c w) (c ^ w)
+tuples-at c zero = rw pow-zero
+tuples-at c (suc w) = tuples-upto c w (tuples-at c w) c (omega arith) ∙ rw pow-succ'
+
+pub tuples-count : (c w : ℕ) → length (tuples c w) ≡ c ^ w
+tuples-count c w = ap length (tuples-at c w) ∙ tabulate-length (digitsOf c w) (c ^ w)
+
+abbrev pub Tuple : ℕ → ℕ → List ℕ → Type 0
+Tuple c w t = (length t ≡ w) × All (λ d. d < c) t
+
+pub tuples-each : (c w : ℕ) → All (λ t. (length t ≡ w) × All (λ d. d < c) t) (tuples c w)
+tuples-each c zero = ((refl, tt), tt)
+tuples-each c (suc w) =
+    all-flat (λ a. map (λ t. a ∷ t) (tuples c w)) (Tuple c (suc w)) (tabulate (λ a. a) c)
+    (all-tabulate (λ a. All (Tuple c (suc w)) (map (λ t. a ∷ t) (tuples c w))) (λ a. a) c (before (tuples-each c w)))
+  where
+    before : All (Tuple c w) (tuples c w) → (a : ℕ) → a < c → All (Tuple c (suc w)) (map (λ t. a ∷ t) (tuples c w))
+    before each a h =
+        all-mapped (λ t. a ∷ t) (Tuple c (suc w)) (tuples c w)
+        (all-map (Tuple c w) (λ t. Tuple c (suc w) (a ∷ t)) (λ t p. (ap suc (p .0), (h, p .1))) (tuples c w) each)
