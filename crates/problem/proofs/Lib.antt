@@ -2,8 +2,13 @@ pub mod Digits
 pub mod Lines
 pub mod Leaf
 pub mod Judges
-pub mod ClauseLaws
 pub mod Parse
+pub mod ClauseLaws
 pub mod TableLayout
 pub mod Access
+pub mod FilledLaws
+pub mod ArityLaws
+pub mod TurnLaws
+pub mod ReadLaws
+pub mod WriteLaws
 pub mod Theorems

@@ -92,6 +92,7 @@ pub record Sized (c p : ℕ) (limit : List ℕ) : Type 0 where
   pub some-predicate : 1 ≤ p
   pub predicates-fit : p ≤ 32
   pub limit-four : length limit ≡ 4
+  pub limit-bytes : All (λ b. b < 256) limit
 
 -- the bounds that the arity lines give
 pub record Shaped (c p : ℕ) (limit arities : List ℕ) : Type 0 where

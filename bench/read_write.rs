@@ -1,0 +1,73 @@
+//! How long reading and checking take: the largest ticket, read by the library and by a reader in Rust; its
+//! table, checked by the library; and shorter tickets, to see that the time goes with the text's length.
+#[path = "../tests/library.rs"]
+mod library;
+#[path = "../tests/random.rs"]
+mod random;
+mod reader;
+#[path = "../tests/reference.rs"]
+mod reference;
+#[path = "../tests/tickets.rs"]
+mod tickets;
+
+use library::packed;
+use reference::{TABLE, TEXT_OUT};
+use std::hint::black_box;
+use std::time::Instant;
+
+const ROUNDS: usize = 60;
+const CALLS: u32 = 100;
+
+fn main() {
+    let mut largest = tickets::full(&mut random::Random::new(1));
+    println!("best of {ROUNDS} rounds of {CALLS} calls\n");
+    println!("   bytes   library, ns   ns a byte   Rust, ns   library / Rust   checking, ns   checking / reading");
+    let mut measured = Vec::new();
+    for clauses in [64, 32, 16, 8] {
+        largest.clauses.truncate(clauses);
+        let text = reference::print(&largest);
+        let times = measure(&text, &reference::encode(&largest));
+        let [library, rust, checking] = times;
+        println!(
+            "{:8} {library:13.0} {:11.2} {rust:10.0} {:16.2} {checking:14.0} {:20.2}",
+            text.len(),
+            library / text.len() as f64,
+            library / rust,
+            checking / library
+        );
+        measured.push((text.len() as f64, times));
+    }
+    let (whole, half) = (measured[0], measured[1]);
+    println!();
+    println!("the largest ticket to the one of half its clauses:");
+    let [library, rust, checking] = [0, 1, 2].map(|i| whole.1[i] / half.1[i]);
+    println!("  bytes {:.2}, library's reading {library:.2}, Rust's {rust:.2}, checking {checking:.2}", whole.0 / half.0);
+}
+
+/// Nanoseconds for reading by the library, reading in Rust, and checking the table, which is writing it.
+/// The three take turns, so that each meets the same conditions.
+fn measure(text: &[u8], table: &[u8]) -> [f64; 3] {
+    let mut best = [f64::MAX; 3];
+    let mut lent = vec![0; TABLE];
+    let mut out = vec![0; TEXT_OUT];
+    for _ in 0..ROUNDS {
+        lent.fill(0xA5);
+        best[0] = best[0].min(time(packed(0, 0), || library::read(black_box(text), black_box(&mut lent))));
+        assert_eq!(lent, table, "the library's table is another");
+        lent.fill(0xA5);
+        best[1] = best[1].min(time(packed(0, 0), || reader::read(black_box(text), black_box(&mut lent))));
+        assert_eq!(lent, table, "the table of the reader in Rust is another");
+        best[2] = best[2].min(time(packed(0, text.len() as u32), || library::write(black_box(table), black_box(&mut out))));
+        assert_eq!(&out[..text.len()], text, "the text written is another");
+    }
+    best
+}
+
+/// Nanoseconds for one call, each with the answer expected.
+fn time(answer: u64, mut call: impl FnMut() -> u64) -> f64 {
+    let start = Instant::now();
+    for _ in 0..CALLS {
+        assert_eq!(black_box(call()), answer);
+    }
+    start.elapsed().as_nanos() as f64 / CALLS as f64
+}

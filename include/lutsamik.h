@@ -1,0 +1,75 @@
+/* Lutsamik: reading and writing tickets.
+ *
+ * Link with liblutsamik.a (made by `rt staticlib lutsamik`, as target/staticlib/liblutsamik.a).
+ * The library keeps no state, takes no memory and calls nothing back: an operation works on the
+ * bytes that its caller lends for the time of the call. Calls on different buffers may run at
+ * the same time.
+ *
+ * A byte slice is a pointer and then a length. The pointer must not be null, not even where the
+ * length is 0, and all the bytes must be readable (where it is not const: writable). Slices of
+ * one call must not overlap. Nothing checks this.
+ *
+ * After a refusal each buffer holds what it held before the call.
+ */
+#ifndef LUTSAMIK_H
+#define LUTSAMIK_H
+
+#include <stddef.h>
+#include <stdint.h>
+
+#ifdef __cplusplus
+extern "C" {
+#endif
+
+/* What a buffer must hold at least. A longer one is fine: only this many bytes are used. */
+#define LUTSAMIK_TABLE_BYTES 4096
+#define LUTSAMIK_TEXT_BYTES 7168
+
+/* Refusals. 1 to 10 come from reading and name a line of the text; the others name none. */
+enum {
+    LUTSAMIK_OK = 0,
+    LUTSAMIK_BAD_LINE = 1,        /* no digits, an odd number, more than 70, a foreign byte, no 0A */
+    LUTSAMIK_BAD_KIND = 2,        /* kind unknown or out of place; a line after FF; FF missing */
+    LUTSAMIK_BAD_LENGTH = 3,      /* a byte is missing, or bytes are left over */
+    LUTSAMIK_BAD_VERSION = 4,     /* the version is not 01 */
+    LUTSAMIK_BAD_COUNT = 5,       /* a count or arity out of range, a wrong FF count, a 65th clause */
+    LUTSAMIK_UNKNOWN = 6,         /* an unknown predicate, constant or argument */
+    LUTSAMIK_BAD_NUMBERING = 7,   /* a variable out of the order 80, 81, 82, 83 */
+    LUTSAMIK_FREE_VARIABLE = 8,   /* a variable of an alternative that stands in no condition */
+    LUTSAMIK_TOO_MANY_ATOMS = 9,  /* more than 1,024 atoms */
+    LUTSAMIK_TOO_MANY_MARKS = 10, /* the sum of n * c^v over the clauses passes 16,384 */
+    LUTSAMIK_SHORT_BUFFER = 11,   /* a buffer is shorter than it must be; comes before all else */
+    LUTSAMIK_NO_TABLE = 31        /* the first 4,096 bytes are not what some accepted text reads to */
+};
+
+/* Reads a ticket's text into a table.
+ *
+ * Accepted: the answer is 0, and the first LUTSAMIK_TABLE_BYTES bytes of the table are written, with
+ * zero where unused. Refused: LUTSAMIK_SHORT_BUFFER, or one of 1 to 10 with the first faulty line.
+ * Any text is judged, of any length, the empty one too.
+ *
+ * The table's layout is the library's own. Hand it on as it is: a table changed otherwise is
+ * refused (LUTSAMIK_NO_TABLE), or is that of another ticket. */
+uint64_t lutsamik_read(const uint8_t *text, size_t text_len, uint8_t *table, size_t table_len);
+
+/* Writes the text of the ticket in a table, the very text that was read.
+ *
+ * Written: the answer has no refusal and the number of bytes written (at most 4,726); what follows
+ * them in out is untouched. Refused: LUTSAMIK_SHORT_BUFFER (out must hold LUTSAMIK_TEXT_BYTES, however
+ * short the text), then LUTSAMIK_NO_TABLE. */
+uint64_t lutsamik_write(const uint8_t *table, size_t table_len, uint8_t *out, size_t out_len);
+
+/* An answer, taken apart. Bits 0 to 7: the refusal, or 0. */
+static inline unsigned lutsamik_refusal(uint64_t answer) { return (unsigned)(answer & 0xFF); }
+
+/* Bits 32 to 63 of a reading refused by 1 to 10: the faulty line, the first line being 1. */
+static inline uint32_t lutsamik_line(uint64_t answer) { return (uint32_t)(answer >> 32); }
+
+/* Bits 32 to 63 of a writing that was not refused: the number of bytes written. */
+static inline uint32_t lutsamik_written(uint64_t answer) { return (uint32_t)(answer >> 32); }
+
+#ifdef __cplusplus
+}
+#endif
+
+#endif

@@ -1,0 +1,207 @@
+//! Random tickets of all sizes. Most are valid; those around a limit fall on either side of it.
+#![allow(dead_code)] // each program uses its own part
+
+use crate::random::Random;
+use crate::reference::{Atom, Clause, Ticket};
+
+pub fn ticket(random: &mut Random) -> Ticket {
+    match random.below(32) {
+        0..=15 => small(random),
+        16..=24 => medium(random),
+        25 => full(random),
+        26..=27 => many_clauses(random),
+        28..=29 => atoms_near_limit(random),
+        _ => marks_near_limit(random),
+    }
+}
+
+fn small(random: &mut Random) -> Ticket {
+    let constants = random.within(0, 4);
+    let predicates = random.within(1, 4);
+    let clauses = random.below(6);
+    with_clauses(random, constants, predicates, clauses)
+}
+
+fn medium(random: &mut Random) -> Ticket {
+    let constants = random.within(0, 32);
+    let predicates = random.within(1, 32);
+    let clauses = random.below(30);
+    with_clauses(random, constants, predicates, clauses)
+}
+
+/// 64 clauses, or one too many.
+fn many_clauses(random: &mut Random) -> Ticket {
+    let constants = random.within(0, 5);
+    let predicates = random.within(1, 32);
+    let clauses = random.within(63, 65);
+    with_clauses(random, constants, predicates, clauses)
+}
+
+/// The longest text there is: 32 predicates, 64 clauses, each atom with three arguments.
+pub fn full(random: &mut Random) -> Ticket {
+    let constants = random.within(1, 3) as u8; // with three variables to a clause these stay within the limits
+    let mut ticket = empty(random, constants, vec![3; 32]);
+    while ticket.clauses.len() < 64 {
+        let clause = clause(random, &ticket, 4, 4, 3);
+        ticket.clauses.push(clause);
+    }
+    ticket
+}
+
+fn empty(random: &mut Random, constants: u8, arities: Vec<u8>) -> Ticket {
+    let mut limit = [0; 4];
+    random.fill(&mut limit);
+    Ticket { constants, limit, arities, clauses: Vec::new() }
+}
+
+fn with_clauses(random: &mut Random, constants: usize, predicates: usize, clauses: usize) -> Ticket {
+    let mut ticket = empty(random, constants as u8, Vec::new());
+    while ticket.arities.len() < predicates && ticket.atoms() < 1024 {
+        ticket.arities.push(random.below(4) as u8);
+        if ticket.atoms() > 1024 && !random.once_in(100) {
+            *ticket.arities.last_mut().unwrap() = 0;
+        }
+    }
+    add_clauses(random, &mut ticket, clauses);
+    ticket
+}
+
+/// Clauses with which the ticket stays within its 16,384, but for a few that pass it.
+fn add_clauses(random: &mut Random, ticket: &mut Ticket, many: usize) {
+    let mut left = 16384;
+    for _ in 0..many {
+        let clause = fitting_clause(random, ticket, left);
+        left = left.saturating_sub(ticket.marks(&clause));
+        ticket.clauses.push(clause);
+    }
+}
+
+fn fitting_clause(random: &mut Random, ticket: &Ticket, left: u64) -> Clause {
+    for most_variables in [4, 3, 2, 1, 0] {
+        let (n, m) = (random.below(5), random.below(5));
+        let clause = clause(random, ticket, n, m, most_variables);
+        if ticket.marks(&clause) <= left || random.once_in(500) {
+            return clause;
+        }
+    }
+    clause(random, ticket, 0, 0, 0)
+}
+
+/// A clause of n conditions and m alternatives. Where no argument can be had, an atom is left out.
+fn clause(random: &mut Random, ticket: &Ticket, n: usize, m: usize, most_variables: u8) -> Clause {
+    let mut known = 0;
+    let conditions = (0..n).filter_map(|_| atom(random, ticket, &mut known, most_variables)).collect();
+    let most_variables = known;
+    let alternatives = (0..m).filter_map(|_| atom(random, ticket, &mut known, most_variables)).collect();
+    Clause { conditions, alternatives }
+}
+
+fn atom(random: &mut Random, ticket: &Ticket, known: &mut u8, most_variables: u8) -> Option<Atom> {
+    let predicate = random.below(ticket.arities.len());
+    let mut arguments = Vec::new();
+    for _ in 0..ticket.arities[predicate] {
+        let may_be_new = *known < most_variables;
+        let variables = *known + may_be_new as u8;
+        let choices = variables + ticket.constants.min(4);
+        if choices == 0 {
+            return None;
+        }
+        let choice = random.below(choices as usize) as u8;
+        if choice >= variables {
+            arguments.push(random.below(ticket.constants as usize) as u8);
+        } else {
+            arguments.push(0x80 + choice);
+            *known += (choice == *known) as u8;
+        }
+    }
+    Some(Atom { predicate: predicate as u8, arguments })
+}
+
+/// A is 1,024, or a little to either side.
+pub fn atoms_near_limit(random: &mut Random) -> Ticket {
+    loop {
+        let constants = random.within(4, 32) as u8;
+        let mut ticket = empty(random, constants, Vec::new());
+        let target = random.pick(&[1023, 1024, 1024, 1024, 1025, 1025, 1026]);
+        for arity in [3, 2, 1, 0] {
+            while ticket.atoms() + ticket.power(arity) <= target {
+                ticket.arities.push(arity as u8);
+            }
+        }
+        if ticket.arities.len() > 32 {
+            continue;
+        }
+        random.shuffle(&mut ticket.arities);
+        let clauses = random.below(4);
+        add_clauses(random, &mut ticket, clauses);
+        return ticket;
+    }
+}
+
+/// The sum of n * c^v is 16,384, or a little to either side.
+pub fn marks_near_limit(random: &mut Random) -> Ticket {
+    let constants = random.within(3, 32) as u8;
+    let arity = if constants <= 10 { 3 } else { 2 };
+    let mut ticket = empty(random, constants, vec![arity]);
+    let mut left = random.pick(&[16383, 16384, 16384, 16384, 16385, 16385, 16386]);
+    for variables in [4, 3, 2, 1, 0_usize] {
+        for n in [4, 3, 2, 1] {
+            let marks = n as u64 * ticket.power(variables);
+            while n * arity as usize >= variables && marks <= left {
+                let next = spread(random, &ticket, n, variables);
+                ticket.clauses.push(next);
+                left -= marks;
+            }
+        }
+    }
+    random.shuffle(&mut ticket.clauses);
+    ticket
+}
+
+/// A clause of n conditions, all of the one predicate there is, with exactly this many variables.
+fn spread(random: &mut Random, ticket: &Ticket, n: usize, variables: usize) -> Clause {
+    let arity = ticket.arities[0] as usize;
+    let argument = |random: &mut Random| match random.below(variables + 1) {
+        0 => random.below(ticket.constants as usize) as u8,
+        choice => 0x80 + choice as u8 - 1,
+    };
+    let mut arguments: Vec<u8> = (0..variables as u8).map(|i| 0x80 + i).collect();
+    while arguments.len() < n * arity {
+        arguments.push(argument(random));
+    }
+    let conditions = arguments.chunks(arity).map(|part| Atom { predicate: 0, arguments: part.to_vec() }).collect();
+    let alternative = |random: &mut Random| Atom { predicate: 0, arguments: (0..arity).map(|_| argument(random)).collect() };
+    let alternatives = (0..random.below(5)).map(|_| alternative(random)).collect();
+    Clause { conditions, alternatives }
+}
+
+/// One thing about a ticket changed, so that it is mostly one that no text reads to.
+pub fn spoil(random: &mut Random, ticket: &mut Ticket) {
+    let many = ticket.clauses.len();
+    let (k, other) = (random.below(many.max(1)), random.below(many.max(1)));
+    match random.below(6) {
+        0 => ticket.constants = ticket.constants.wrapping_add(random.pick(&[1, 255])),
+        1 => *ticket.arities.last_mut().unwrap() = random.below(4) as u8,
+        2 if many > 0 => ticket.clauses.swap(k, other),
+        3 if many > 0 => free_a_variable(&mut ticket.clauses[k]),
+        _ if many > 0 => change_an_argument(random, &mut ticket.clauses[k]),
+        _ => {}
+    }
+}
+
+/// The last argument of an alternative becomes the next variable, which stands in no condition.
+fn free_a_variable(clause: &mut Clause) {
+    let next = clause.variables().len() as u8;
+    if let Some(argument) = clause.alternatives.iter_mut().flat_map(|atom| &mut atom.arguments).last() {
+        *argument = 0x80 + next.min(3);
+    }
+}
+
+fn change_an_argument(random: &mut Random, clause: &mut Clause) {
+    let mut arguments: Vec<&mut u8> =
+        clause.conditions.iter_mut().chain(&mut clause.alternatives).flat_map(|atom| &mut atom.arguments).collect();
+    if !arguments.is_empty() {
+        let at = random.below(arguments.len());
+        *arguments[at] = random.pick(&[0x00, 0x01, 0x1F, 0x20, 0x7F, 0x80, 0x81, 0x82, 0x83, 0x84, 0xFF]);
+    }
+}
