@@ -1,4 +1,4 @@
-/* Lutsamik: reading and writing tickets.
+/* Lutsamik: reading and writing tickets, and judging answers to them.
  *
  * Link with liblutsamik.a (made by `rt staticlib lutsamik`, as target/staticlib/liblutsamik.a).
  * The library keeps no state, takes no memory and calls nothing back: an operation works on the
@@ -23,6 +23,7 @@ extern "C" {
 
 /* What a buffer must hold at least. A longer one is fine: only this many bytes are used. */
 #define LUTSAMIK_TABLE_BYTES 4096
+#define LUTSAMIK_ANSWER_BYTES 1024
 #define LUTSAMIK_TEXT_BYTES 7168
 
 /* Refusals. 1 to 10 come from reading and name a line of the text; the others name none. */
@@ -39,7 +40,14 @@ enum {
     LUTSAMIK_TOO_MANY_ATOMS = 9,  /* more than 1,024 atoms */
     LUTSAMIK_TOO_MANY_MARKS = 10, /* the sum of n * c^v over the clauses passes 16,384 */
     LUTSAMIK_SHORT_BUFFER = 11,   /* a buffer is shorter than it must be; comes before all else */
-    LUTSAMIK_NO_TABLE = 31        /* the first 4,096 bytes are not what some accepted text reads to */
+    LUTSAMIK_NO_TABLE = 31,       /* the first 4,096 bytes are not what some accepted text reads to */
+    LUTSAMIK_BAD_ANSWER = 32      /* one of the answer's bytes that count is neither 0 nor 1 */
+};
+
+/* What judging says of an answer that is not refused. */
+enum {
+    LUTSAMIK_FITTING = 1,
+    LUTSAMIK_VIOLATED = 2
 };
 
 /* Reads a ticket's text into a table.
@@ -59,7 +67,20 @@ uint64_t lutsamik_read(const uint8_t *text, size_t text_len, uint8_t *table, siz
  * short the text), then LUTSAMIK_NO_TABLE. */
 uint64_t lutsamik_write(const uint8_t *table, size_t table_len, uint8_t *out, size_t out_len);
 
-/* An answer, taken apart. Bits 0 to 7: the refusal, or 0. */
+/* Judges an answer: whether the atoms that it marks are a fitting of the ticket in a table.
+ *
+ * The answer has a byte for each ground atom, in the atoms' order: 1 for an atom that is in the set, 0 for one
+ * that is not. Atoms go by predicate, then by arguments with the first one slowest. The ticket has A of them,
+ * the sum of c to the power of the arity over its predicates; the bytes past the first A do not matter, but
+ * LUTSAMIK_ANSWER_BYTES are asked for however small A is.
+ *
+ * Judged: lutsamik_judged says LUTSAMIK_FITTING, or LUTSAMIK_VIOLATED with the first violated instance: by
+ * clause, then by the values of the variables 80, 81, 82, 83 with 80 slowest. All its conditions are in the
+ * set and none of its alternatives is. Refused: LUTSAMIK_SHORT_BUFFER, then LUTSAMIK_NO_TABLE, then
+ * LUTSAMIK_BAD_ANSWER. Nothing is written. */
+uint64_t lutsamik_judge(const uint8_t *table, size_t table_len, const uint8_t *answer, size_t answer_len);
+
+/* What an operation gave back, taken apart. Bits 0 to 7: the refusal, or 0. */
 static inline unsigned lutsamik_refusal(uint64_t answer) { return (unsigned)(answer & 0xFF); }
 
 /* Bits 32 to 63 of a reading refused by 1 to 10: the faulty line, the first line being 1. */
@@ -67,6 +88,18 @@ static inline uint32_t lutsamik_line(uint64_t answer) { return (uint32_t)(answer
 
 /* Bits 32 to 63 of a writing that was not refused: the number of bytes written. */
 static inline uint32_t lutsamik_written(uint64_t answer) { return (uint32_t)(answer >> 32); }
+
+/* Bits 8 to 15 of a judging: LUTSAMIK_FITTING or LUTSAMIK_VIOLATED; 0 where it was refused. */
+static inline unsigned lutsamik_judged(uint64_t answer) { return (unsigned)(answer >> 8 & 0xFF); }
+
+/* Bits 24 to 31 of a judging that says LUTSAMIK_VIOLATED: the clause, the first one being 0. */
+static inline unsigned lutsamik_clause(uint64_t answer) { return (unsigned)(answer >> 24 & 0xFF); }
+
+/* Bits 32 to 39, 40 to 47, 48 to 55 and 56 to 63 of such a judging: the constants put for the variables 80,
+ * 81, 82 and 83. The variable is given as 0 to 3; one that the clause lacks has 0. */
+static inline unsigned lutsamik_value(uint64_t answer, unsigned variable) {
+    return (unsigned)(answer >> (32 + 8 * variable) & 0xFF);
+}
 
 #ifdef __cplusplus
 }

@@ -1,8 +1,10 @@
 //! The static library, as Rust calls it, and the packing of its answers.
+#![allow(dead_code)] // each program uses its own part
 
 extern "C" {
     fn lutsamik_read(text: *const u8, text_len: usize, table: *mut u8, table_len: usize) -> u64;
     fn lutsamik_write(table: *const u8, table_len: usize, out: *mut u8, out_len: usize) -> u64;
+    fn lutsamik_judge(table: *const u8, table_len: usize, answer: *const u8, answer_len: usize) -> u64;
 }
 
 pub fn read(text: &[u8], table: &mut [u8]) -> u64 {
@@ -14,7 +16,19 @@ pub fn write(table: &[u8], out: &mut [u8]) -> u64 {
     unsafe { lutsamik_write(table.as_ptr(), table.len(), out.as_mut_ptr(), out.len()) }
 }
 
-/// An answer: the refusal number (0: none) in bits 0 to 7, the line or the length in bits 32 to 63.
+pub fn judge(table: &[u8], answer: &[u8]) -> u64 {
+    unsafe { lutsamik_judge(table.as_ptr(), table.len(), answer.as_ptr(), answer.len()) }
+}
+
+/// An answer of reading or writing: the refusal number (0: none) in bits 0 to 7, the line or the length in bits 32 to 63.
 pub fn packed(number: u8, high: u32) -> u64 {
     number as u64 | (high as u64) << 32
+}
+
+pub const FITTING: u64 = 1 << 8;
+
+/// An answer of judging: an instance is violated, by clause and the values of 80, 81, 82, 83.
+pub fn violated(clause: u8, values: [u8; 4]) -> u64 {
+    let [a, b, c, d] = values;
+    u64::from_le_bytes([0, 2, 0, clause, a, b, c, d])
 }

@@ -52,3 +52,9 @@ impl Memory {
         Some(at as isize - MARGIN as isize)
     }
 }
+
+/// A length below the one required, often just below.
+pub fn less_than(random: &mut Random, required: usize) -> usize {
+    let any = random.below(required);
+    random.pick(&[0, 1, required / 2, required - 2, required - 1, required - 1, any, any])
+}

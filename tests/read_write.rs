@@ -5,20 +5,19 @@ mod mangle;
 mod memory;
 mod random;
 mod reference;
+mod report;
 mod tally;
 mod tickets;
 
 use library::packed;
-use memory::Memory;
+use memory::{less_than, Memory};
 use random::Random;
 use reference::{NO_TABLE, SHORT_BUFFER, TABLE, TEXT_OUT};
+use report::{dump, same_answer, same_bytes, Report};
 use tally::Tally;
 
 const THREADS: u64 = 2;
 const DEFAULT_TEXTS: u64 = 1_200_000;
-
-/// What went wrong, told in full.
-type Report = String;
 
 struct Run {
     random: Random,
@@ -94,7 +93,7 @@ impl Run {
             return Err(format!("the table does not give back its text\n{}", shown(text)));
         }
         if self.random.once_in(2) {
-            let damaged = self.damaged(&table);
+            let damaged = tickets::damaged(&mut self.random, &table);
             let written = self.writing(&damaged)?;
             self.tally.other_tables += (written.is_some() && damaged != table) as u64;
         }
@@ -120,7 +119,7 @@ impl Run {
     }
 
     fn reading_into_too_little(&mut self, text: &[u8]) -> Result<(), Report> {
-        let len = self.less_than(TABLE);
+        let len = less_than(&mut self.random, TABLE);
         let before = Memory::random(&mut self.random, len);
         self.tally.refusal(SHORT_BUFFER, 0);
         self.read_and_compare(text, before.clone(), packed(SHORT_BUFFER, 0), &before)
@@ -167,12 +166,12 @@ impl Run {
 
     /// A short table, a short text, or both: whatever the bytes are, it is 11.
     fn writing_with_too_little(&mut self, table: &[u8]) -> Result<(), Report> {
-        let mut lent = if self.random.once_in(4) { self.damaged(table) } else { table.to_vec() };
-        let mut len = self.less_than(TEXT_OUT);
+        let mut lent = if self.random.once_in(4) { tickets::damaged(&mut self.random, table) } else { table.to_vec() };
+        let mut len = less_than(&mut self.random, TEXT_OUT);
         match self.random.below(3) {
-            0 => lent.truncate(self.less_than(TABLE)),
+            0 => lent.truncate(less_than(&mut self.random, TABLE)),
             1 => {
-                lent.truncate(self.less_than(TABLE));
+                lent.truncate(less_than(&mut self.random, TABLE));
                 len = TEXT_OUT;
             }
             _ => {}
@@ -191,57 +190,9 @@ impl Run {
         same_bytes("text", after, &out, about)?;
         same_bytes("table", &source_before, &source, about)
     }
-
-    /// A length below the one required, often just below.
-    fn less_than(&mut self, required: usize) -> usize {
-        let any = self.random.below(required);
-        self.random.pick(&[0, 1, required / 2, required - 2, required - 1, required - 1, any, any])
-    }
-
-    /// A table with one to three bytes changed, mostly where the ticket's own bytes lie.
-    fn damaged(&mut self, table: &[u8]) -> Vec<u8> {
-        let random = &mut self.random;
-        let mut table = table.to_vec();
-        let used = 144 + 56 * table[2] as usize;
-        for _ in 0..random.pick(&[1, 1, 1, 2, 3]) {
-            let at = match random.below(8) {
-                0 => random.below(TABLE),
-                1..=2 => random.below(16),
-                3 => random.within(16, 143),
-                _ => random.below(TABLE.min(used + 56)),
-            };
-            table[at] = match random.below(5) {
-                0 => random.byte(),
-                1 => table[at] ^ 1 << random.below(8),
-                2 => table[at].wrapping_add(1),
-                3 => table[at].wrapping_sub(1),
-                _ => random.pick(&[0x00, 0x01, 0x04, 0x20, 0x40, 0x80, 0x81, 0x82, 0x83]),
-            };
-        }
-        table
-    }
-}
-
-fn same_answer(expected: u64, found: u64, about: impl Fn() -> String) -> Result<(), Report> {
-    if expected == found {
-        return Ok(());
-    }
-    Err(format!("answer {found:#X}, expected {expected:#X}: {}", about()))
-}
-
-fn same_bytes(what: &str, expected: &Memory, found: &Memory, about: impl Fn() -> String) -> Result<(), Report> {
-    match expected.first_difference(found) {
-        None => Ok(()),
-        Some(at) => Err(format!("the {what} differs at byte {at}: {}", about())),
-    }
 }
 
 /// A text, a line to a line, foreign bytes escaped.
 fn shown(text: &[u8]) -> String {
     text.split_inclusive(|byte| *byte == b'\n').map(|line| format!("  {}\n", line.escape_ascii())).collect()
-}
-
-/// The bytes of a table that are not zero.
-fn dump(table: &[u8]) -> String {
-    table.chunks(16).enumerate().filter(|(_, row)| row.iter().any(|byte| *byte != 0)).map(|(i, row)| format!("  {:4} {row:02X?}\n", i * 16)).collect()
 }

@@ -3,6 +3,9 @@
 #![allow(dead_code)] // each program uses its own part
 
 pub const TABLE: usize = 4096;
+pub const RULES: usize = 16384;
+pub const ANSWER: usize = 1024;
+pub const WORK: usize = 65536;
 pub const TEXT_OUT: usize = 7168;
 
 pub const BAD_LINE: u8 = 1;
@@ -17,6 +20,7 @@ pub const TOO_MANY_ATOMS: u8 = 9;
 pub const TOO_MANY_MARKS: u8 = 10;
 pub const SHORT_BUFFER: u8 = 11;
 pub const NO_TABLE: u8 = 31;
+pub const BAD_ANSWER: u8 = 32;
 
 const MOST_ATOMS: u64 = 1024;
 const MOST_MARKS: u64 = 16384;
@@ -370,9 +374,13 @@ fn decode(table: &[u8]) -> Option<Ticket> {
     Some(Ticket { constants: table[0], limit, arities: arities.clone(), clauses })
 }
 
+/// The ticket that some text reads to these 4,096 bytes by, if there is one.
+pub fn ticket_in(table: &[u8]) -> Option<Ticket> {
+    let ticket = read(&print(&decode(table)?)).ok()?;
+    (encode(&ticket) == table).then_some(ticket)
+}
+
 /// The text that reads to these 4,096 bytes, if there is one.
 pub fn write(table: &[u8]) -> Option<Vec<u8>> {
-    let text = print(&decode(table)?);
-    let again = read(&text).ok()?;
-    (encode(&again) == table).then_some(text)
+    ticket_in(table).map(|ticket| print(&ticket))
 }

@@ -1,4 +1,4 @@
-/* The library from C: reads ticket K1 of document 01, writes it back, and asks for the same text. */
+/* The library from C: reads ticket K1 of document 01, writes it back, asks for the same text, and has two answers to it judged. */
 #include "lutsamik.h"
 
 #include <stdio.h>
@@ -9,9 +9,10 @@ static const char K1[] = "0101020300000064\n0201\n0201\n0201\n"
 
 static uint8_t table[LUTSAMIK_TABLE_BYTES];
 static uint8_t out[LUTSAMIK_TEXT_BYTES];
+static uint8_t marks[LUTSAMIK_ANSWER_BYTES];
 
 static int fail(const char *what, uint64_t answer) {
-    printf("smoke: %s: refusal %u, line or length %u\n", what, lutsamik_refusal(answer), lutsamik_line(answer));
+    printf("smoke: %s: answer %llX\n", what, (unsigned long long)answer);
     return 1;
 }
 
@@ -30,6 +31,19 @@ int main(void) {
     if (lutsamik_refusal(answer) != LUTSAMIK_BAD_LINE || lutsamik_line(answer) != 9)
         return fail("K1 without its last 0A is not refused 1 at line 9", answer);
 
-    puts("smoke: K1 is read and written back");
+    /* Atoms 0 to 5 are 00 to 21 as predicate and argument. 00 alone violates clause 1, where 80 is 0. */
+    marks[0] = 1;
+    answer = lutsamik_judge(table, sizeof table, marks, sizeof marks);
+    if (lutsamik_refusal(answer) != LUTSAMIK_OK || lutsamik_judged(answer) != LUTSAMIK_VIOLATED || lutsamik_clause(answer) != 1)
+        return fail("K1's clause 1 is not found violated", answer);
+
+    /* With 20 and 01 too, clause 1 is violated where 80 is 1. */
+    marks[4] = 1;
+    marks[1] = 1;
+    answer = lutsamik_judge(table, sizeof table, marks, sizeof marks);
+    if (lutsamik_clause(answer) != 1 || lutsamik_value(answer, 0) != 1 || lutsamik_value(answer, 1) != 0)
+        return fail("K1's clause 1 is not found violated where 80 is 1", answer);
+
+    puts("smoke: K1 is read, written back, and judged");
     return 0;
 }

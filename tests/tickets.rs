@@ -2,7 +2,7 @@
 #![allow(dead_code)] // each program uses its own part
 
 use crate::random::Random;
-use crate::reference::{Atom, Clause, Ticket};
+use crate::reference::{Atom, Clause, Ticket, TABLE};
 
 pub fn ticket(random: &mut Random) -> Ticket {
     match random.below(32) {
@@ -204,4 +204,26 @@ fn change_an_argument(random: &mut Random, clause: &mut Clause) {
         let at = random.below(arguments.len());
         *arguments[at] = random.pick(&[0x00, 0x01, 0x1F, 0x20, 0x7F, 0x80, 0x81, 0x82, 0x83, 0x84, 0xFF]);
     }
+}
+
+/// A table with one to three bytes changed, mostly where the ticket's own bytes lie.
+pub fn damaged(random: &mut Random, table: &[u8]) -> Vec<u8> {
+    let mut table = table.to_vec();
+    let used = 144 + 56 * table[2] as usize;
+    for _ in 0..random.pick(&[1, 1, 1, 2, 3]) {
+        let at = match random.below(8) {
+            0 => random.below(TABLE),
+            1..=2 => random.below(16),
+            3 => random.within(16, 143),
+            _ => random.below(TABLE.min(used + 56)),
+        };
+        table[at] = match random.below(5) {
+            0 => random.byte(),
+            1 => table[at] ^ 1 << random.below(8),
+            2 => table[at].wrapping_add(1),
+            3 => table[at].wrapping_sub(1),
+            _ => random.pick(&[0x00, 0x01, 0x04, 0x20, 0x40, 0x80, 0x81, 0x82, 0x83]),
+        };
+    }
+    table
 }

@@ -1,5 +1,7 @@
 -- An operation's answer as one number: the refusal's number in bits 0 to 7, 0 where there is none, and in bits 32 to 63 what goes with the answer.
 use Prim.Native.Nat.{ℕ, _+_, _*_}
+use Rattle.ground.specs.declared.check.Judging.{Judging}
+use Rattle.ground.specs.declared.check.Judging.the-variants.{Unjudged, Fitting, Violated}
 use Rattle.problem.specs.declared.read.Reading.{Reading}
 use Rattle.problem.specs.declared.read.Reading.the-variants.{Refused, Accepted}
 use Rattle.problem.specs.declared.write.Writing.{Writing}
@@ -14,3 +16,10 @@ packReading Accepted = 0
 abbrev pub packWriting : Writing → ℕ
 packWriting (Unwritten e) = e
 packWriting (Written n) = 4294967296 * n
+
+-- bits 8 to 15 say 1 for a fitting and 2 for a violated instance, whose clause stands in bits 24 to 31 and whose values in bits 32 to 63
+abbrev pub packJudging : Judging → ℕ
+packJudging (Unjudged e) = e
+packJudging Fitting = 256
+packJudging (Violated k a b c d) =
+    512 + 16777216 * k + 4294967296 * a + (1099511627776 * b + 281474976710656 * c) + 72057594037927936 * d

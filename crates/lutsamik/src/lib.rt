@@ -1,9 +1,11 @@
 // The operations, for a host in C: numbers and byte slices go in, and one number comes back.
+use ground::check::Judging;
 use problem::read::Reading;
 use problem::write::Writing;
 ghost use mathlib.Core.Path.{_≡_};
 ghost use Rattle.problem.specs.Table.{readResult, readLeaves, writeResult, writeLeaves};
-ghost use Rattle.lutsamik.specs.Pack.{packReading, packWriting};
+ghost use Rattle.ground.specs.ModelCheck.{judgeResult};
+ghost use Rattle.lutsamik.specs.Pack.{packReading, packWriting, packJudging};
 
 fn pack_reading(r: Reading) -> u64
     ensures { λ n. ⌜ n ≡ packReading r ⌝ }
@@ -23,6 +25,20 @@ fn pack_writing(w: Writing) -> u64
     }
 }
 
+fn pack_judging(j: Judging) -> u64
+    ensures { λ n. ⌜ n ≡ packJudging j ⌝ }
+{
+    match j {
+        Judging::Unjudged(e) => e as u64,
+        Judging::Fitting => 256,
+        Judging::Violated(k, a, b, c, d) => {
+            let low = 512 + 16777216 * (k as u64) + 4294967296 * (a as u64);
+            let high = 1099511627776 * (b as u64) + 281474976710656 * (c as u64);
+            low + high + 72057594037927936 * (d as u64)
+        }
+    }
+}
+
 // Reads a text into a table of 4,096 bytes.
 #[no_mangle]
 pub extern "C" fn lutsamik_read(text: &[u8], table: &mut [u8]) -> u64
@@ -37,4 +53,12 @@ pub extern "C" fn lutsamik_write(table: &[u8], out: &mut [u8]) -> u64
     ensures { λ n. ⌜ (n ≡ packWriting (writeResult (now (table .entry)) (now (out .entry)))) × (now (out .exit) ≡ writeLeaves (now (table .entry)) (now (out .entry))) ⌝ }
 {
     pack_writing(problem::write::write(table, out))
+}
+
+// Judges an answer of 1,024 bytes by a table.
+#[no_mangle]
+pub extern "C" fn lutsamik_judge(table: &[u8], answer: &[u8]) -> u64
+    ensures { λ n. ⌜ n ≡ packJudging (judgeResult (now (table .entry)) (now (answer .entry))) ⌝ }
+{
+    pack_judging(ground::check::judge(table, answer))
 }

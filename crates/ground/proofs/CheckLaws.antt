@@ -1,0 +1,216 @@
+-- Laws of the model check: what it says, and the steps of its loops, over plain numbers and lists.
+use Prim.Native.Nat.{ℕ, suc, _≤_}
+use mathlib.Core.Bool.{Bool, true, false, not, cond}
+use mathlib.Core.HLevel.{⊥-prop}
+use mathlib.Core.List.{List, [], _∷_, _++_}
+use mathlib.Core.Logic.{_⊎_, inl, inr, ∥∥₁-elim}
+use mathlib.Core.Option.{Option, none, some, Option·none-ne-some}
+use mathlib.Core.Path.{_≡_, refl, sym, ap, subst, _∙_}
+use native.Mathlib.Omega.{arith}
+use borrow.Author.Tests.{eq-eqb}
+use lib.Dec.{T, eqb, eqb→eq}
+use lib.ListN.{length, getD, length-map}
+use Rattle.lists.specs.Member.{All, Any, every, first}
+use Rattle.lists.proofs.Member.{all-map, every-all, all-every, some-fails, first-none}
+use Rattle.lists.proofs.Test.{and-T, T-left, T-right, T-true, T-false, decided, fails}
+use Rattle.search.specs.Ground.{Model}
+use Rattle.problem.specs.Problem.{Problem}
+use Rattle.ground.specs.declared.check.Judging.the-variants.{Fitting, Violated}
+use Rattle.ground.specs.Instance.{Instance, number, clauseOf, groundAtoms, groundOf}
+use Rattle.ground.specs.ModelCheck.{lead, isSet, violates, named, checkOf}
+use Rattle.ground.specs.Claims.{FirstViolated}
+
+-- ---- tests, and the first member that passes one
+
+refuted : (b : Bool) → T (not b) → T b → ⊥
+refuted true n t = n
+refuted false n t = t
+
+twice : (b : Bool) → T (not (not b)) → T b
+twice true t = tt
+twice false t = t
+
+module _ {A : Type 0} where
+  any-map : (P Q : A → Type 0) → ((x : A) → P x → Q x) → (xs : List A) → Any P xs → Any Q xs
+  any-map P Q f (x ∷ xs) (inl p) = inl (f x p)
+  any-map P Q f (x ∷ xs) (inr p) = inr (any-map P Q f xs p)
+
+  -- no member passes a test that every member fails
+  apart : (p : A → Bool) (xs : List A) → Any (λ x. T (p x)) xs → All (λ x. T (not (p x))) xs → ⊥
+  apart p (x ∷ xs) (inl t) a = refuted (p x) (a .0) t
+  apart p (x ∷ xs) (inr t) a = apart p xs t (a .1)
+
+  pub none-first : (p : A → Bool) (xs : List A) → All (λ x. T (not (p x))) xs → first p xs ≡ none
+  none-first p [] a = refl
+  none-first p (x ∷ xs) a = rw (T-false (p x) (a .0)) (none-first p xs (a .1))
+
+  -- what is left out at the front passes nothing, or all is decided there
+  pub first-past : (p : A → Bool) (xs ys : List A) → first p xs ≡ none → first p (xs ++ ys) ≡ first p ys
+  first-past p [] ys e = refl
+  first-past p (x ∷ xs) ys e = go (p x) (first-past p xs ys) e
+    where
+      go : (b : Bool) → (first p xs ≡ none → first p (xs ++ ys) ≡ first p ys) → cond b (some x) (first p xs) ≡ none
+          → cond b (some x) (first p (xs ++ ys)) ≡ first p ys
+      go true f u = absurd (Option·none-ne-some x (sym u))
+      go false f u = f u
+
+  pub first-front : (p : A → Bool) (xs ys : List A) (y : A) → first p xs ≡ some y → first p (xs ++ ys) ≡ some y
+  first-front p [] ys y e = absurd (Option·none-ne-some y e)
+  first-front p (x ∷ xs) ys y e = go (p x) (first-front p xs ys y) e
+    where
+      go : (b : Bool) → (first p xs ≡ some y → first p (xs ++ ys) ≡ some y) → cond b (some x) (first p xs) ≡ some y
+          → cond b (some x) (first p (xs ++ ys)) ≡ some y
+      go true f u = u
+      go false f u = f u
+
+  -- where the first member that passes stands
+  pub record Stands (p : A → Bool) (xs : List A) (y : A) : Type 0 where
+    pub before : List A
+    pub after : List A
+    pub order : xs ≡ before ++ (y ∷ after)
+    pub none-before : All (λ x. T (not (p x))) before
+    pub here : T (p y)
+
+  pub first-stands : (p : A → Bool) (xs : List A) (y : A) → first p xs ≡ some y → Stands p xs y
+  first-stands p [] y e = absurd (Option·none-ne-some y e)
+  first-stands p (x ∷ xs) y e = go (p x) refl (first-stands p xs y) e
+    where
+      go : (b : Bool) → p x ≡ b → (first p xs ≡ some y → Stands p xs y) → cond b (some x) (first p xs) ≡ some y → Stands p (x ∷ xs) y
+      go true t f u =
+          let same : x ≡ y = cc in
+          record { before = []; after = xs; order = rw same; none-before = tt; here = subst (λ (z : A). T (p z)) same (subst T (sym t) tt) }
+      go false t f u =
+          let s = f u in
+          record { before = x ∷ s .before; after = s .after; order = ap (λ (l : List A). x ∷ l) (s .order); none-before = (subst (λ (b : Bool). T (not b)) (sym t) tt, s .none-before); here = s .here }
+
+-- ---- how many hold from the left
+
+module _ (t : ℕ → Bool) where
+  pub lead-le : (atoms : List ℕ) → lead t atoms ≤ length atoms
+  lead-le [] = omega arith
+  lead-le (a ∷ atoms) = go (t a) (lead-le atoms)
+    where
+      go : (b : Bool) → lead t atoms ≤ length atoms → cond b (suc (lead t atoms)) 0 ≤ suc (length atoms)
+      go true h = omega arith
+      go false h = omega arith
+
+  pub lead-all : (atoms : List ℕ) → lead t atoms ≡ length atoms → All (λ a. T (t a)) atoms
+  lead-all [] e = tt
+  lead-all (a ∷ atoms) e = go (t a) (lead-all atoms) e
+    where
+      go : (b : Bool) → (lead t atoms ≡ length atoms → All (λ x. T (t x)) atoms) → cond b (suc (lead t atoms)) 0 ≡ suc (length atoms)
+          → T b × All (λ x. T (t x)) atoms
+      go true f e = (tt, f (omega arith))
+      go false f e = absurd (omega arith)
+
+  pub all-lead : (atoms : List ℕ) → All (λ a. T (t a)) atoms → lead t atoms ≡ length atoms
+  all-lead [] a = refl
+  all-lead (x ∷ atoms) a = rw (T-true (t x) (a .0)) (ap suc (all-lead atoms (a .1)))
+
+-- ---- what violated means
+
+module _ (q : Problem) (answer : List ℕ) (i : Instance) where
+  abbrev conds : List ℕ
+  conds = groundAtoms q (i .values) ((clauseOf q (i .clause)) .conds)
+
+  abbrev alts : List ℕ
+  alts = groundAtoms q (i .values) ((clauseOf q (i .clause)) .alts)
+
+  sizes : length conds ≡ length ((clauseOf q (i .clause)) .conds)
+  sizes = length-map ((clauseOf q (i .clause)) .conds) (number (q .constants) (q .arities) (i .values))
+
+  abbrev holding : Bool
+  holding = eqb (lead (isSet answer) conds) (length ((clauseOf q (i .clause)) .conds))
+
+  abbrev none-holding : Bool
+  none-holding = every (λ a. not (isSet answer a)) alts
+
+  pub violated-from : T (violates q answer i) → All (λ a. T (isSet answer a)) ((groundOf q) .conds i) × All (λ a. T (not (isSet answer a))) ((groundOf q) .alts i)
+  unfolding groundOf
+  violated-from t = (
+    lead-all (isSet answer) conds (eqb→eq (lead (isSet answer) conds) (length ((clauseOf q (i .clause)) .conds)) (T-left holding none-holding t) ∙ sym sizes),
+    every-all (λ a. not (isSet answer a)) alts (T-right holding none-holding t),
+  )
+
+  pub violated-to : All (λ a. T (isSet answer a)) ((groundOf q) .conds i) × All (λ a. T (not (isSet answer a))) ((groundOf q) .alts i) → T (violates q answer i)
+  unfolding groundOf
+  violated-to p =
+      let n = length ((clauseOf q (i .clause)) .conds) in
+      and-T holding none-holding
+      (rw (eq-eqb (lead (isSet answer) conds) n (all-lead (isSet answer) conds (p .0) ∙ sizes)) tt)
+      (all-every (λ a. not (isSet answer a)) alts (p .1))
+
+  -- an instance is not violated exactly if it has an alternative in the set where all its conditions are
+  abbrev Kept : Type 0
+  Kept = All (λ a. T (isSet answer a)) ((groundOf q) .conds i) → ∥ Any (λ a. T (isSet answer a)) ((groundOf q) .alts i) ∥₁
+
+  pub kept-from : T (not (violates q answer i)) → Kept
+  kept-from t c = go (decided (every (λ a. not (isSet answer a)) ((groundOf q) .alts i)))
+    where
+      go : T (every (λ a. not (isSet answer a)) ((groundOf q) .alts i)) ⊎ T (not (every (λ a. not (isSet answer a)) ((groundOf q) .alts i)))
+          → ∥ Any (λ a. T (isSet answer a)) ((groundOf q) .alts i) ∥₁
+      go (inl n) = absurd (refuted (violates q answer i) t (violated-to (c, every-all (λ a. not (isSet answer a)) ((groundOf q) .alts i) n)))
+      go (inr n) =
+          let some-alt = some-fails (λ a. not (isSet answer a)) ((groundOf q) .alts i) n in
+          ∣ any-map (λ a. T (not (not (isSet answer a)))) (λ a. T (isSet answer a)) (λ a. twice (isSet answer a)) ((groundOf q) .alts i) some-alt ∣₁
+
+  pub kept-to : Kept → T (not (violates q answer i))
+  kept-to k =
+      fails (violates q answer i)
+      (λ t.
+      let p = violated-from t in
+      ∥∥₁-elim (k (p .0)) ⊥-prop (λ s. apart (λ a. isSet answer a) ((groundOf q) .alts i) s (p .1)))
+
+-- ---- the answer named
+
+pub named-fitting : (o : Option Instance) → named o ≡ Fitting → o ≡ none
+named-fitting none e = refl
+named-fitting (some i) e = absurd (let z : _≡_ {A = ℕ} 0 1 = cc in omega arith)
+
+-- the instance that is named by clause and values
+pub record Named (o : Option Instance) (k a b c d : ℕ) : Type 0 where
+  pub found : Instance
+  pub some-found : o ≡ some found
+  pub clause : found .clause ≡ k
+  pub value-80 : getD (found .values) 0 0 ≡ a
+  pub value-81 : getD (found .values) 1 0 ≡ b
+  pub value-82 : getD (found .values) 2 0 ≡ c
+  pub value-83 : getD (found .values) 3 0 ≡ d
+
+pub named-violated : (o : Option Instance) (k a b c d : ℕ) → named o ≡ Violated k a b c d → Named o k a b c d
+named-violated none k a b c d e = absurd (let z : _≡_ {A = ℕ} 0 1 = cc in omega arith)
+named-violated (some i) k a b c d e = record { found = i; some-found = refl; clause = cc; value-80 = cc; value-81 = cc; value-82 = cc; value-83 = cc }
+
+module _ (q : Problem) (answer : List ℕ) where
+  pub fitting-model : checkOf q answer ≡ Fitting → Model (groundOf q) (λ a. T (isSet answer a))
+  unfolding checkOf
+  fitting-model e =
+      let is = (groundOf q) .instances in
+      all-map (λ i. T (not (violates q answer i))) (Kept q answer) (kept-from q answer) is
+      (first-none (violates q answer) is (named-fitting (first (violates q answer) is) e))
+
+  pub model-fitting : Model (groundOf q) (λ a. T (isSet answer a)) → checkOf q answer ≡ Fitting
+  unfolding checkOf
+  model-fitting m =
+      let is = (groundOf q) .instances in
+      ap named (none-first (violates q answer) is (all-map (Kept q answer) (λ i. T (not (violates q answer i))) (kept-to q answer) is m))
+
+  pub violated-first : (k a b c d : ℕ) → checkOf q answer ≡ Violated k a b c d → FirstViolated q answer k a b c d
+  unfolding checkOf
+  violated-first k a b c d e =
+      let is = (groundOf q) .instances in
+      let n = named-violated (first (violates q answer) is) k a b c d e in
+      let s = first-stands (violates q answer) is (n .found) (n .some-found) in
+      record {
+        before = s .before;
+        found = n .found;
+        after = s .after;
+        order = s .order;
+        none-before = s .none-before;
+        here = s .here;
+        clause = n .clause;
+        value-80 = n .value-80;
+        value-81 = n .value-81;
+        value-82 = n .value-82;
+        value-83 = n .value-83;
+      }

@@ -1,0 +1,5 @@
+// Instances of a table's clauses, and the model check.
+pub mod atom;
+pub mod check;
+pub mod instance;
+pub mod matching;
