@@ -14,8 +14,9 @@ use Rattle.lists.specs.Digits.{horner, digitsOf, tuples}
 use Rattle.lists.specs.Member.{All}
 use Rattle.lists.specs.Tabulate.{tabulate}
 use Rattle.lists.proofs.Bytes.{all-at}
-use Rattle.lists.proofs.Digits.{Tuple, horner-below, horner-digits, horner-apart, digits-length, digits-fit, tuples-count, tuples-each, all-tabulate}
+use Rattle.lists.proofs.Digits.{Tuple, horner-below, horner-digits, horner-apart, digits-length, digits-fit, tuples-count, tuples-each}
 use Rattle.lists.proofs.Member.{all-map, all-mapped, all-flat}
+use Rattle.lists.proofs.Tabulate.{all-tabulate}
 use Rattle.lists.proofs.Test.{decided}
 use Rattle.search.specs.Ground.{Proper}
 use Rattle.problem.specs.Problem.{Atom, Problem, ArgFits, AtomFits, ClauseFits, Fits, atomCount, firstAtom}

@@ -1,17 +1,17 @@
 -- Laws of digits, to any base and of any width: digits and the number that they stand for determine each other, the lists of digits are as many as the
 -- numbers and stand in their order, and the next list stands for the next number.
 use Prim.Native.Nat.{ℕ, zero, suc, _+_, _-_, _*_, _^_, _/_, _%_, _≤_, _<_}
-use mathlib.Core.List.{List, [], _∷_, _++_, map, flatMap, append-assoc, append-nil, map-append}
+use mathlib.Core.List.{List, [], _∷_, _++_, map, flatMap}
 use mathlib.Core.Path.{_≡_, refl, sym, ap, _∙_}
-use native.Mathlib.Nat.{add-zero, zero-add, add-assoc, add-suc, mul-one, mul-assoc, add-mul, suc-mul, zero-mul, pow-zero, pow-succ', one-le-pow, mod-one, mod-lt, mod-eq-of-lt, mul-add-div-right, mul-add-mod-self-right}
+use native.Mathlib.Nat.{add-zero, zero-add, add-assoc, mul-one, mul-assoc, add-mul, suc-mul, zero-mul, pow-zero, pow-succ', one-le-pow, mod-one, mod-lt, mod-eq-of-lt, mul-add-div-right, mul-add-mod-self-right}
 use native.Mathlib.Omega.{arith}
 use lib.Arith.{digits-lt, digits-div, mod-mul}
 use lib.ListN.{length, replicate, length-replicate}
 use Rattle.lists.specs.Digits.{hornerFrom, horner, digitsOf, tuples}
 use Rattle.lists.specs.Member.{All}
 use Rattle.lists.specs.Tabulate.{tabulate}
-use Rattle.lists.proofs.Member.{all-append, all-flat, all-mapped, all-map}
-use Rattle.lists.proofs.Tabulate.{tabulate-length}
+use Rattle.lists.proofs.Member.{all-flat, all-mapped, all-map, flat-snoc}
+use Rattle.lists.proofs.Tabulate.{tabulate-length, tabulate-same, tabulate-add, tabulate-map, all-tabulate}
 
 -- ---- the number that digits stand for
 
@@ -116,33 +116,6 @@ horner-next c ds front d k e h =
 
 -- ---- all lists of digits, in order
 
-pub all-tabulate {ℓ} : {A : Type 0} (P : A → Type ℓ) (f : ℕ → A) (n : ℕ) → ((i : ℕ) → i < n → P (f i)) → All P (tabulate f n)
-all-tabulate P f zero h = tt
-all-tabulate P f (suc n) h = all-append P (tabulate f n) (f n ∷ []) (all-tabulate P f n (λ i l. h i (omega arith))) (h n (omega arith), tt)
-
-module _ {A : Type 0} where
-  pub tabulate-same : (f g : ℕ → A) (n : ℕ) → ((i : ℕ) → i < n → f i ≡ g i) → tabulate f n ≡ tabulate g n
-  tabulate-same f g zero e = refl
-  tabulate-same f g (suc n) e = rw (tabulate-same f g n (λ i l. e i (omega arith)), e n (omega arith))
-
-  pub tabulate-add : (f : ℕ → A) (n m : ℕ) → tabulate f (n + m) ≡ tabulate f n ++ tabulate (λ i. f (n + i)) m
-  tabulate-add f n zero = rw (add-zero, append-nil)
-  tabulate-add f n (suc m) = rw (add-suc, tabulate-add f n m, append-assoc)
-
-module _ {A B : Type 0} where
-  pub tabulate-map : (g : A → B) (f : ℕ → A) (n : ℕ) → map g (tabulate f n) ≡ tabulate (λ i. g (f i)) n
-  tabulate-map g f zero = refl
-  tabulate-map g f (suc n) = map-append g (tabulate f n) (f n ∷ []) ∙ rw (tabulate-map g f n)
-
-  pub flat-append : (f : A → List B) (xs ys : List A) → flatMap f (xs ++ ys) ≡ flatMap f xs ++ flatMap f ys
-  unfolding flatMap
-  flat-append f [] ys = refl
-  flat-append f (x ∷ xs) ys = rw (flat-append f xs ys, append-assoc)
-
-  pub flat-one : (f : A → List B) (x : A) → flatMap f (x ∷ []) ≡ f x
-  unfolding flatMap
-  flat-one f x = append-nil (f x)
-
 -- the tuples that begin with a given number
 module _ (c w : ℕ) (rest : tuples c w ≡ tabulate (digitsOf c w) (c ^ w)) where
   abbrev from : ℕ → List (List ℕ)
@@ -158,8 +131,8 @@ module _ (c w : ℕ) (rest : tuples c w ≡ tabulate (digitsOf c w) (c ^ w)) whe
   unfolding flatMap
   tuples-upto zero h = rw zero-mul
   tuples-upto (suc n) h =
-      flat-append from (tabulate (λ a. a) n) (n ∷ [])
-      ∙ rw (flat-one from n, tuples-upto n (omega arith), tuples-from n h, suc-mul) (sym (tabulate-add (digitsOf c (suc w)) (n * c ^ w) (c ^ w)))
+      flat-snoc from (tabulate (λ a. a) n) n
+      ∙ rw (tuples-upto n (omega arith), tuples-from n h, suc-mul) (sym (tabulate-add (digitsOf c (suc w)) (n * c ^ w) (c ^ w)))
 
 -- the tuple at place i is the digits of i
 pub tuples-at : (c w : ℕ) → tuples c w ≡ tabulate (digitsOf c w) (c ^ w)

@@ -1,13 +1,27 @@
--- Laws of `All`, `Any`, `every`, `first` and `has`.
+-- Laws of `flatMap`, `All`, `Any`, `every`, `first` and `has`.
 use mathlib.Core.Bool.{Bool, true, false, not, cond, _&&_}
-use mathlib.Core.List.{List, [], _∷_, _++_, map, flatMap}
+use mathlib.Core.List.{List, [], _∷_, _++_, map, flatMap, append-assoc, append-nil}
 use mathlib.Core.Logic.{_⊎_, inl, inr}
 use mathlib.Core.Option.{none, some, Option·none-ne-some}
-use mathlib.Core.Path.{_≡_, refl, sym, subst}
+use mathlib.Core.Path.{_≡_, refl, sym, subst, _∙_}
 use lib.Dec.{T}
 use Rattle.lists.specs.Key.{Key}
 use Rattle.lists.specs.Member.{All, Any, every, first, has, In}
 use Rattle.lists.proofs.Test.{and-T, T-left, T-right, or-left, or-right, T-or}
+
+pub flat-append : {A B : Type 0} (f : A → List B) (xs ys : List A) → flatMap f (xs ++ ys) ≡ flatMap f xs ++ flatMap f ys
+unfolding flatMap
+flat-append f [] ys = refl
+flat-append f (x ∷ xs) ys = rw (flat-append f xs ys, append-assoc)
+
+pub flat-snoc : {A B : Type 0} (f : A → List B) (xs : List A) (x : A) → flatMap f (xs ++ (x ∷ [])) ≡ flatMap f xs ++ f x
+unfolding flatMap
+flat-snoc f xs x = flat-append f xs (x ∷ []) ∙ rw append-nil
+
+pub flat-flat : {A B C : Type 0} (f : B → List C) (g : A → List B) (xs : List A) → flatMap f (flatMap g xs) ≡ flatMap (λ x. flatMap f (g x)) xs
+unfolding flatMap
+flat-flat f g [] = refl
+flat-flat f g (x ∷ xs) = flat-append f (g x) (flatMap g xs) ∙ rw (flat-flat f g xs)
 
 module _ {ℓ} {A : Type 0} where
   pub all-map {κ} : (P : A → Type ℓ) (Q : A → Type κ) → ((x : A) → P x → Q x) → (xs : List A) → All P xs → All Q xs

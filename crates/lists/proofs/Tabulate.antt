@@ -1,14 +1,16 @@
--- Laws of `tabulate`: its length, and its elements.
-use Prim.Native.Nat.{ℕ, zero, suc, _<_}
-use mathlib.Core.List.{[], _∷_, _++_}
+-- Laws of `tabulate`: its length, its elements, what holds of all of them, and where it is split or mapped.
+use Prim.Native.Nat.{ℕ, zero, suc, _+_, _<_}
+use mathlib.Core.List.{[], _∷_, _++_, map, append-assoc, append-nil, map-append}
 use mathlib.Core.Logic.{_⊎_, inl, inr}
 use mathlib.Core.Path.{_≡_, refl, sym, ap, subst, _∙_}
-use native.Mathlib.Nat.{eq-or-lt-of-le}
+use native.Mathlib.Nat.{add-zero, add-suc, eq-or-lt-of-le}
 use native.Mathlib.Numerals.{add-one}
 use native.Mathlib.Omega.{arith}
 use lib.ListN.{length, getD, length-append, List·getD-append}
 use lib.Seq.{getD-at}
+use Rattle.lists.specs.Member.{All}
 use Rattle.lists.specs.Tabulate.{tabulate}
+use Rattle.lists.proofs.Member.{all-append}
 
 pub tabulate-length : {A : Type 0} (f : ℕ → A) (n : ℕ) → length (tabulate f n) ≡ n
 tabulate-length f zero = refl
@@ -25,3 +27,20 @@ tabulate-at f d (suc n) a h = go (eq-or-lt-of-le h) (tabulate-at f d n a)
     go (inr e) k =
         let l : a < n = omega arith in
         List·getD-append (tabulate f n) (f n ∷ []) d a (subst (λ (m : ℕ). a < m) (sym (tabulate-length f n)) l) ∙ k l
+
+pub all-tabulate {ℓ} : {A : Type 0} (P : A → Type ℓ) (f : ℕ → A) (n : ℕ) → ((i : ℕ) → i < n → P (f i)) → All P (tabulate f n)
+all-tabulate P f zero h = tt
+all-tabulate P f (suc n) h = all-append P (tabulate f n) (f n ∷ []) (all-tabulate P f n (λ i l. h i (omega arith))) (h n (omega arith), tt)
+
+module _ {A : Type 0} where
+  pub tabulate-same : (f g : ℕ → A) (n : ℕ) → ((i : ℕ) → i < n → f i ≡ g i) → tabulate f n ≡ tabulate g n
+  tabulate-same f g zero e = refl
+  tabulate-same f g (suc n) e = rw (tabulate-same f g n (λ i l. e i (omega arith)), e n (omega arith))
+
+  pub tabulate-add : (f : ℕ → A) (n m : ℕ) → tabulate f (n + m) ≡ tabulate f n ++ tabulate (λ i. f (n + i)) m
+  tabulate-add f n zero = rw (add-zero, append-nil)
+  tabulate-add f n (suc m) = rw (add-suc, tabulate-add f n m, append-assoc)
+
+pub tabulate-map : {A B : Type 0} (g : A → B) (f : ℕ → A) (n : ℕ) → map g (tabulate f n) ≡ tabulate (λ i. g (f i)) n
+tabulate-map g f zero = refl
+tabulate-map g f (suc n) = map-append g (tabulate f n) (f n ∷ []) ∙ rw (tabulate-map g f n)

@@ -1,8 +1,10 @@
--- Tests as types: what `&&`, `||`, `not` and a decided test give.
+-- Tests as types: what `&&`, `||`, `not`, a decided test and the test of equality give.
+use Prim.Native.Nat.{ℕ}
 use mathlib.Core.Bool.{Bool, true, false, not, _&&_, _||_}
 use mathlib.Core.Logic.{_⊎_, inl, inr}
 use mathlib.Core.Path.{_≡_, refl}
-use lib.Dec.{T}
+use borrow.Author.Tests.{eqb-true, eqb-false}
+use lib.Dec.{T, eqb}
 
 pub and-T : (a b : Bool) → T a → T b → T (a && b)
 and-T true b p q = q
@@ -32,6 +34,14 @@ T-or false b p = inr p
 pub decided : (b : Bool) → T b ⊎ T (not b)
 decided true = inl tt
 decided false = inr tt
+
+-- two numbers are equal or not
+pub same-or-other : (a b : ℕ) → (a ≡ b) ⊎ (a ≡ b → ⊥)
+same-or-other a b = go (eqb a b) refl
+  where
+    go : (t : Bool) → eqb a b ≡ t → (a ≡ b) ⊎ (a ≡ b → ⊥)
+    go true e = inl (eqb-true a b e)
+    go false e = inr (eqb-false a b e)
 
 pub T-true : (b : Bool) → T b → b ≡ true
 T-true true p = refl

@@ -1,12 +1,13 @@
--- Laws of digits: a digit's byte and its value determine each other, and so do a byte and its pair of digits.
-use Prim.Native.Nat.{ℕ, zero, suc, _+_, _*_, _/_, _%_, _≤_, _<_}
-use mathlib.Core.Bool.{Bool, true, false, cond, _&&_}
+-- Laws of digits: a digit's byte and its value determine each other, so do a byte and its pair of digits, and where a byte's value is looked for.
+use Prim.Native.Nat.{ℕ, zero, suc, _+_, _-_, _*_, _/_, _%_, _≤_, _<_}
+use mathlib.Core.Bool.{Bool, true, false, not, cond, _&&_}
 use mathlib.Core.List.{List, [], _∷_}
 use mathlib.Core.Logic.{_⊎_, inl, inr}
 use mathlib.Core.Path.{_≡_, subst}
 use native.Mathlib.Nat.{eq-or-lt-of-le}
 use native.Mathlib.Omega.{arith}
-use lib.Dec.{T, eqb, eqb→eq, ltb→lt}
+use borrow.Author.Tests.{le-ltb}
+use lib.Dec.{T, eqb, ltb, eqb→eq, ltb→lt, lt→ltb}
 use lib.ListN.{length, getD}
 use Rattle.lists.proofs.Test.{T-left, T-right}
 use Rattle.problem.specs.Digit.{digits, placeOf, digitOf, isDigit, hexByte}
@@ -50,6 +51,14 @@ pub digit-le : (b : ℕ) → digitOf b ≤ 16
 unfolding digitOf
 digit-le b = place-le digits b
 
+pub digit-is : (b : ℕ) → digitOf b < 16 → T (isDigit b)
+unfolding isDigit
+digit-is b h = lt→ltb (digitOf b) 16 h
+
+pub digit-other : (b : ℕ) → 16 ≤ digitOf b → T (not (isDigit b))
+unfolding isDigit
+digit-other b h = rw (le-ltb (digitOf b) 16 h) tt
+
 pub digit-small : (b : ℕ) → T (isDigit b) → digitOf b < 16
 unfolding isDigit
 digit-small b t = ltb→lt (digitOf b) 16 t
@@ -58,6 +67,21 @@ digit-small b t = ltb→lt (digitOf b) 16 t
 pub digit-back : (b : ℕ) → T (isDigit b) → getD digits (digitOf b) 0 ≡ b
 unfolding digitOf isDigit
 digit-back b t = place-back digits b (ltb→lt (placeOf digits b) 16 t)
+
+-- k, if it is the value of the digit b; else 16
+abbrev valued : ℕ → ℕ → ℕ
+valued b k = cond (ltb k 16 && eqb (getD digits k 0) b) k 16
+
+-- where the value of a byte is looked for
+abbrev sought : ℕ → ℕ
+sought b = cond (ltb b 48) 16 (cond (ltb b 65) (valued b (b - 48)) (valued b (b - 55)))
+
+found : ℕ → Bool
+found b = eqb (digitOf b) (sought b)
+
+pub digit-found : (b : ℕ) → b < 256 → digitOf b ≡ sought b
+unfolding digitOf found
+digit-found b h = eqb→eq (digitOf b) (sought b) (passes-at found 256 tt b h)
 
 module _ (h l : ℕ) (p : T (isDigit h)) (q : T (isDigit l)) where
   pub hex-small : 16 * digitOf h + digitOf l < 256

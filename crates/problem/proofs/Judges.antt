@@ -246,7 +246,7 @@ atom-reached c arities f j v i w e =
       named = r .named;
     }
 
-atom-grows : (c : ℕ) (arities : List ℕ) (v w : ℕ) → v ≤ w → (a : Atom) → AtomFits c arities v a → AtomFits c arities w a
+pub atom-grows : (c : ℕ) (arities : List ℕ) (v w : ℕ) → v ≤ w → (a : Atom) → AtomFits c arities v a → AtomFits c arities w a
 atom-grows c arities v w h a r =
     record {
       known = r .known;
@@ -254,13 +254,16 @@ atom-grows c arities v w h a r =
       args-fit = all-map (ArgFits c v) (ArgFits c w) (arg-grows c v w h) (a .args) (r .args-fit);
     }
 
+pub atoms-length : (arities f : List ℕ) (n j : ℕ) → length (atomsAt arities f n j) ≡ n
+atoms-length arities f zero j = refl
+atoms-length arities f (suc n) j = ap suc (atoms-length arities f n (afterAtom arities f j))
+
 -- n atoms from byte j to byte i
 pub record AtomsJudged (c : ℕ) (arities f : List ℕ) (n j v i w : ℕ) : Type 0 where
   pub place : i ≡ afterAtoms arities f n j
   pub text : flatMap atomBytes (atomsAt arities f n j) ++ drop i f ≡ drop j f
   pub grows : v ≤ w
   pub few : v ≤ 4 → w ≤ 4
-  pub count : length (atomsAt arities f n j) ≡ n
   pub fit : All (AtomFits c arities w) (atomsAt arities f n j)
   pub named : (x : ℕ) → v ≤ x → x < w → Any (Names x) (atomsAt arities f n j)
 
@@ -274,7 +277,6 @@ module _ (c : ℕ) (arities f : List ℕ) (n j v k u i w : ℕ) where
         text = rw (append-assoc, ← rest, r .text, a .text);
         grows = omega arith;
         few = λ h. r .few (a .few h);
-        count = ap suc (rw (← rest) (r .count));
         fit = (atom-grows c arities u w (r .grows) (atomAt arities f j) (a .fits), rw (← rest) (r .fit));
         named = λ x l h. rw (← rest) (pick x l h (decided (ltb x u)));
       }
@@ -293,7 +295,6 @@ atoms-reached c arities f zero j v i w e =
       text = rw here;
       grows = omega arith;
       few = λ l. omega arith;
-      count = refl;
       fit = tt;
       named = λ x l k. omega arith;
     }
@@ -307,25 +308,25 @@ atoms-reached c arities f (suc n) j v i w e =
     go (Broken m) q r s = absurd (broken-reached m i w s)
     go (Reached k u) q r s = atoms-more c arities f n j v k u i w (atom-reached c arities f j v k u q) (r k u s)
 
--- the end of a clause line
-pub record EndJudged (c sum : ℕ) (f : List ℕ) (v j w r : ℕ) : Type 0 where
-  pub at-end : j ≡ length f
+-- the end of a clause line of so many bytes and conditions
+pub record EndJudged (c sum size conds v j w r : ℕ) : Type 0 where
+  pub at-end : j ≡ size
   pub no-more : w ≡ v
   pub answer : v ≡ r
-  pub light : sum + getD f 1 0 * c ^ v ≤ 16384
+  pub light : sum + conds * c ^ v ≤ 16384
 
-end-found : (c sum : ℕ) (f : List ℕ) (v j w r : ℕ) → judgeEnd c sum (length f) (getD f 1 0) v j w ≡ Found r → EndJudged c sum f v j w r
+pub end-found : (c sum size conds v j w r : ℕ) → judgeEnd c sum size conds v j w ≡ Found r → EndJudged c sum size conds v j w r
 unfolding judgeEnd
-end-found c sum f v j w r e =
-    let p = passed (eqb j (length f)) _ _ _ (fault-found 3 r) e in
+end-found c sum size conds v j w r e =
+    let p = passed (eqb j size) _ _ _ (fault-found 3 r) e in
     let q = passed (eqb w v) _ _ _ (fault-found 8 r) (p .1) in
-    let s = passed (leb (sum + getD f 1 0 * c ^ v) 16384) _ _ _ (fault-found 10 r) (q .1) in
+    let s = passed (leb (sum + conds * c ^ v) 16384) _ _ _ (fault-found 10 r) (q .1) in
     let found : _≡_ {A = Judged} (Found v) (Found r) = s .1 in
     record {
-      at-end = eqb→eq j (length f) (p .0);
+      at-end = eqb→eq j size (p .0);
       no-more = eqb→eq w v (q .0);
       answer = cc;
-      light = leb→le (sum + getD f 1 0 * c ^ v) 16384 (s .0);
+      light = leb→le (sum + conds * c ^ v) 16384 (s .0);
     }
 
 -- a clause line whose clause has v variables
@@ -342,7 +343,8 @@ module _ (c : ℕ) (arities : List ℕ) (sum : ℕ) (f : List ℕ) (v : ℕ) whe
       let n = getD f 1 0 in
       let m = getD f 2 0 in
       let rest : _≡_ {A = List Atom} (atomsAt arities f m i) (atomsAt arities f m (afterAtoms arities f n 3)) = ap (λ (k : ℕ). atomsAt arities f m k) (conds .place) in
-      let count : length (atomsAt arities f m (afterAtoms arities f n 3)) ≡ m = rw (← rest) (alts .count) in
+      let count : length (atomsAt arities f m (afterAtoms arities f n 3)) ≡ m = atoms-length arities f m (afterAtoms arities f n 3) in
+      let first : length (atomsAt arities f n 3) ≡ n = atoms-length arities f n 3 in
       let over : drop j f ≡ [] = rw end (drop-length f) in
       let last : drop i f ≡ flatMap atomBytes (atomsAt arities f m (afterAtoms arities f n 3)) =
       sym (alts .text) ∙ rw (over, append-nil, rest)
@@ -350,16 +352,16 @@ module _ (c : ℕ) (arities : List ℕ) (sum : ℕ) (f : List ℕ) (v : ℕ) whe
       record {
         bytes =
             drop-cons f 0 0 (omega arith)
-            ∙ rw (drop-cons f 1 0 (omega arith), drop-cons f 2 0 (omega arith), kind, ← conds .text, last, conds .count, count);
+            ∙ rw (drop-cons f 1 0 (omega arith), drop-cons f 2 0 (omega arith), kind, ← conds .text, last, first, count);
         fits = record {
           few-vars = conds .few (omega arith);
-          few-conds = rw (conds .count) (omega arith);
+          few-conds = rw first (omega arith);
           few-alts = rw count (omega arith);
           conds-fit = conds .fit;
           alts-fit = rw (← rest) (alts .fit);
           named = λ x h. conds .named x (omega arith) h;
         };
-        light = rw (conds .count) light;
+        light = rw first light;
       }
 
   pub clause-found : judgeClause c arities sum f ≡ Found v → getD f 0 0 ≡ 3 → ClauseJudged c arities sum f v
@@ -380,7 +382,7 @@ module _ (c : ℕ) (arities : List ℕ) (sum : ℕ) (f : List ℕ) (v : ℕ) whe
           → _≡_ {A = Judged} (elim o [ Broken k ↦ Fault k | Reached j w ↦ judgeEnd c sum (length f) (getD f 1 0) u j w ]) (Found v) → ClauseJudged c arities sum f v
       alts parts i u p (Broken k) q s = absurd (fault-found k v s)
       alts parts i u p (Reached j w) q s =
-          let end = end-found c sum f u j w v s in
+          let end = end-found c sum (length f) (getD f 1 0) u j w v s in
           let more : w ≡ v = end .no-more ∙ end .answer in
           parts i j
           (subst (λ (k : ℕ). AtomsJudged c arities f (getD f 1 0) 3 0 i k) (end .answer) (atoms-reached c arities f (getD f 1 0) 3 0 i u p))

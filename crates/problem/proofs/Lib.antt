@@ -1,10 +1,9 @@
 pub mod Digits
 pub mod Lines
-pub mod Leaf
 pub mod Judges
+pub mod TableLayout
 pub mod Parse
 pub mod ClauseLaws
-pub mod TableLayout
 pub mod Access
 pub mod FilledLaws
 pub mod ArityLaws

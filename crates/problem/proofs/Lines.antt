@@ -1,24 +1,24 @@
 -- Laws of a line: what stands in the text where a line holds n bytes, and that its frame, printed, is that text.
 use Prim.Native.Nat.{ℕ, zero, suc, _+_, _-_, _*_, _/_, _%_, _≤_, _<_}
 use mathlib.Core.Bool.{Bool, true, false, not, cond, _&&_}
-use mathlib.Core.List.{List, [], _∷_, _++_, append-assoc, append-nil, flatMap}
+use mathlib.Core.List.{List, _∷_, _++_, append-assoc, flatMap}
 use mathlib.Core.Logic.{_⊎_, inl, inr}
-use mathlib.Core.Path.{_≡_, refl, subst, _∙_}
-use native.Mathlib.Nat.{add-zero, zero-add}
+use mathlib.Core.Path.{_≡_, refl, sym, subst, _∙_}
+use native.Mathlib.Nat.{add-zero}
 use native.Mathlib.Omega.{arith}
+use borrow.Author.Tests.{lt-ltb, le-ltb}
 use lib.Dec.{T, eqb, ltb, eqb→eq, ltb→lt, nltb→le}
 use lib.ListN.{length, drop, getD, List·getD-eq-default}
 use lib.Seq.{drop-cons}
 use Rattle.lists.specs.Member.{All}
-use Rattle.lists.specs.Tabulate.{tabulate}
 use Rattle.lists.proofs.Test.{T-left, T-right, T-true, T-false, decided}
-use Rattle.lists.proofs.Member.{all-append}
-use Rattle.lists.proofs.Tabulate.{tabulate-length, tabulate-at}
+use Rattle.lists.proofs.Member.{flat-snoc}
+use Rattle.lists.proofs.Tabulate.{tabulate-length, tabulate-at, all-tabulate}
 use Rattle.problem.specs.declared.line.Line.{Line}
 use Rattle.problem.specs.declared.line.Line.the-variants.{Absent, Bad, Holds}
 use Rattle.problem.specs.Digit.{digitOf, isDigit, hexByte, hexLine}
 use Rattle.problem.specs.Line.{run, isLine, lineOf, lineAt, byteAt, frameAt, afterLine}
-use Rattle.problem.proofs.Digits.{hex-small, hex-back}
+use Rattle.problem.proofs.Digits.{digit-is, digit-other, hex-small, hex-back}
 
 -- at most n are counted
 pub run-le : (x : List ℕ) (at n : ℕ) → run x at n ≤ n
@@ -54,31 +54,27 @@ run-digits x at (suc n) j h = go (isDigit (getD x at 0)) refl j (run-digits x (s
         let same : suc at + i ≡ at + suc i = omega arith in
         subst (λ (k : ℕ). T (isDigit (getD x k 0))) same (f i (omega arith))
 
--- a loop that has counted d of at most 71 digits
-module _ (x : List ℕ) (at : ℕ) where
-  pub run-start : run x at 71 ≡ 0 + run x (at + 0) (71 - 0)
-  run-start = rw (zero-add, add-zero)
-
-  pub run-more : (d : ℕ) → d < 71 → T (isDigit (getD x (at + d) 0)) → run x at 71 ≡ d + run x (at + d) (71 - d) → run x at 71 ≡ d + 1 + run x (at + (d + 1)) (71 - (d + 1))
-  run-more d h t e =
-      let left : 71 - d ≡ suc (71 - (d + 1)) = omega arith in
+-- d digits of a run of at most m have been counted
+module _ (x : List ℕ) (at m d : ℕ) (e : run x at m ≡ d + run x (at + d) (m - d)) where
+  pub run-more : d < m → digitOf (getD x (at + d) 0) < 16 → run x at m ≡ d + 1 + run x (at + (d + 1)) (m - (d + 1))
+  run-more h b =
+      let left : m - d ≡ suc (m - (d + 1)) = omega arith in
       let next : suc (at + d) ≡ at + (d + 1) = omega arith in
-      let counted : run x (at + d) (71 - d) ≡ suc (run x (at + (d + 1)) (71 - (d + 1))) =
-      rw (left, run-digit x (at + d) (71 - (d + 1)) t, next)
+      let counted : run x (at + d) (m - d) ≡ suc (run x (at + (d + 1)) (m - (d + 1))) =
+      rw (left, run-digit x (at + d) (m - (d + 1)) (digit-is (getD x (at + d) 0) b), next)
       in
       omega arith
 
-  -- at 71, and at a byte that is no digit
-  pub run-full : (d : ℕ) → 71 ≤ d → run x at 71 ≡ d + run x (at + d) (71 - d) → run x at 71 ≡ d
-  run-full d h e = let none : 71 - d ≡ 0 = omega arith in omega (arith, run-le x (at + d) (71 - d))
+  -- at m, at a byte that is no digit, and at the text's end
+  pub run-full : d ≡ m → d ≡ run x at m
+  run-full h = omega (arith, run-le x (at + d) (m - d))
 
-  pub run-stop : (d : ℕ) → T (not (isDigit (getD x (at + d) 0))) → run x at 71 ≡ d + run x (at + d) (71 - d) → run x at 71 ≡ d
-  run-stop d t e = omega (arith, run-other x (at + d) (71 - d) t)
+  pub run-stops : 16 ≤ digitOf (getD x (at + d) 0) → d ≡ run x at m
+  run-stops h = omega (arith, run-other x (at + d) (m - d) (digit-other (getD x (at + d) 0) h))
 
-  -- at the text's end
-  pub run-end : (d : ℕ) → length x ≤ at + d → run x at 71 ≡ d + run x (at + d) (71 - d) → run x at 71 ≡ d
-  unfolding isDigit digitOf
-  run-end d h e = run-stop d (rw (List·getD-eq-default x 0 h) tt) e
+  pub run-past : length x ≤ at + d → d ≡ run x at m
+  unfolding digitOf
+  run-past h = run-stops (subst (λ (b : ℕ). 16 ≤ digitOf b) (sym (List·getD-eq-default x 0 h)) (omega arith))
 
 -- a byte that is not 0 stands in the text
 inside : (x : List ℕ) (i b : ℕ) → getD x i 0 ≡ suc b → i < length x
@@ -129,6 +125,16 @@ module _ (x : List ℕ) (at : ℕ) where
       go true q = line-of (run x at 71) n refl q
       go false q = let z : _≡_ {A = ℕ} 0 1 = cc in absurd (omega arith)
 
+  -- d digits stand where a line starts
+  pub line-counted : (d : ℕ) → at < length x → d ≡ run x at 71 → lineAt x at ≡ lineOf x at d
+  unfolding lineAt
+  line-counted d h e = rw (lt-ltb at (length x) h, e)
+
+  -- no line starts where the text has ended, and there only
+  pub line-past : length x ≤ at → lineAt x at ≡ Absent
+  unfolding lineAt
+  line-past h = rw (le-ltb at (length x) h)
+
   pub line-absent : lineAt x at ≡ Absent → length x ≤ at
   unfolding lineAt
   line-absent e = go (ltb at (length x)) (nltb→le at (length x)) e
@@ -170,16 +176,6 @@ module _ (x : List ℕ) (at : ℕ) (p : T (isDigit (getD x at 0))) (q : T (isDig
       let l : at < length x = omega arith in
       drop-cons x at 0 l ∙ rw (drop-cons x (suc at) 0 h, hex-back (getD x at 0) (getD x (suc at) 0) p q)
 
-pub flat-append : {A B : Type 0} (f : A → List B) (xs ys : List A) → flatMap f (xs ++ ys) ≡ flatMap f xs ++ flatMap f ys
-unfolding flatMap
-flat-append f [] ys = refl
-flat-append f (x ∷ xs) ys = rw (flat-append f xs ys, append-assoc)
-
-all-tabulate : {A : Type 0} (P : A → Type 0) (f : ℕ → A) (n : ℕ) → ((j : ℕ) → j < n → P (f j)) → All P (tabulate f n)
-all-tabulate P f zero g = tt
-all-tabulate P f (suc n) g =
-    all-append P (tabulate f n) (f n ∷ []) (all-tabulate P f n (λ j h. g j (omega arith))) (g n (omega arith), tt)
-
 module _ (x : List ℕ) (at : ℕ) where
   -- 2 n digits are those of the n bytes that they stand for
   digits-text : (n : ℕ) → at + 2 * n ≤ length x → ((j : ℕ) → j < 2 * n → T (isDigit (getD x (at + j) 0)))
@@ -196,7 +192,7 @@ module _ (x : List ℕ) (at : ℕ) where
       subst (λ (k : ℕ). drop place x ≡ hexByte (byteAt x place) ++ drop k x) next (byte-text x place first second (omega arith))
       in
       digits-text n (omega arith) (λ j l. f j (omega arith))
-      ∙ rw (byte, flat-append hexByte (frameAt x at n) (byteAt x place ∷ []), append-assoc, append-nil)
+      ∙ rw (byte, flat-snoc hexByte (frameAt x at n) (byteAt x place), append-assoc)
 
   pub frame-bytes : (n : ℕ) → lineAt x at ≡ Holds n → All (λ b. b < 256) (frameAt x at n)
   unfolding frameAt

@@ -1,5 +1,5 @@
 -- A text that is read is the text of its problem, and the problem keeps every bound.
-use Prim.Native.Nat.{ℕ, zero, suc, _+_, _^_, _≤_, _<_}
+use Prim.Native.Nat.{ℕ, zero, suc, _+_, _≤_, _<_}
 use mathlib.Core.Bool.{Bool, true, false}
 use mathlib.Core.List.{List, [], _∷_, _++_, append-assoc, append-nil, flatMap}
 use mathlib.Core.Path.{_≡_, refl, sym, ap, subst, _∙_}
@@ -8,7 +8,7 @@ use native.Mathlib.Omega.{arith}
 use lib.Dec.{T, eqb, ltb, eqb→eq}
 use lib.ListN.{length, take, drop, getD, length-append, drop-of-length-le}
 use Rattle.lists.specs.Member.{All}
-use Rattle.lists.proofs.Member.{all-append}
+use Rattle.lists.proofs.Member.{all-append, flat-snoc}
 use Rattle.problem.specs.declared.line.Line.{Line}
 use Rattle.problem.specs.declared.line.Line.the-variants.{Absent, Bad, Holds}
 use Rattle.problem.specs.declared.judge.Judged.{Judged}
@@ -17,12 +17,14 @@ use Rattle.problem.specs.declared.judge.Heading.{Heading}
 use Rattle.problem.specs.declared.judge.Heading.the-variants.{Wrong, Sizes}
 use Rattle.problem.specs.Digit.{hexLine}
 use Rattle.problem.specs.Line.{lineAt, frameAt, afterLine}
-use Rattle.problem.specs.Problem.{Clause, Problem, ClauseFits, Fits, atomCount, weight, weights}
+use Rattle.problem.specs.Problem.{Clause, Problem, ClauseFits, Fits, atomCount, weights}
 use Rattle.problem.specs.Judge.{judgeHeading, judgeArity, judgeClause, clauseAt}
 use Rattle.problem.specs.Parse.{Parsed, refused, parsed, judgeClosing, parseEnd, parseClosing, parseClauses, parseArities, parse}
 use Rattle.problem.specs.Print.{arityFrame, clauseFrame, textOf}
-use Rattle.problem.proofs.Lines.{flat-append, frame-bytes, line-absent, line-text}
+use Rattle.problem.specs.Filled.{Sized}
+use Rattle.problem.proofs.Lines.{frame-bytes, line-absent, line-text}
 use Rattle.problem.proofs.Judges.{passed, fault-found, two-bytes, heading-sizes, arity-found, clause-found}
+use Rattle.problem.proofs.TableLayout.{atomCount-snoc, weights-snoc}
 
 refused-parsed : (e line : ℕ) (q : Problem) → refused e line ≡ parsed q → ⊥
 refused-parsed e line q s = let z : _≡_ {A = ℕ} 0 1 = cc in omega arith
@@ -64,18 +66,8 @@ closing-found count f r kind e =
     let two : length f ≡ 2 = eqb→eq (length f) 2 (whole .0) in
     two-bytes f two ∙ rw (kind, same)
 
--- one more predicate or clause at the end
-pub atoms-more : (c : ℕ) (arities : List ℕ) (a : ℕ) → atomCount c (arities ++ (a ∷ [])) ≡ atomCount c arities + c ^ a
-atoms-more c [] a = omega arith
-atoms-more c (b ∷ arities) a = let e = atoms-more c arities a in omega arith
-
-pub weights-more : (c : ℕ) (ks : List Clause) (k : Clause) → weights c (ks ++ (k ∷ [])) ≡ weights c ks + weight c k
-weights-more c [] k = omega arith
-weights-more c (m ∷ ks) k = let e = weights-more c ks k in omega arith
-
 flat-more : {A : Type 0} (g : A → List ℕ) (pre : List ℕ) (xs : List A) (a : A) → pre ++ flatMap g (xs ++ (a ∷ [])) ≡ pre ++ flatMap g xs ++ g a
-unfolding flatMap
-flat-more g pre xs a = rw (flat-append g xs (a ∷ []), append-nil, append-assoc)
+flat-more g pre xs a = rw (flat-snoc g xs a, append-assoc)
 
 -- the text read to a line, and the line after it
 text-more : (x : List ℕ) (at n : ℕ) (before frame : List ℕ) → lineAt x at ≡ Holds n → frameAt x at n ≡ frame → before ++ drop at x ≡ x
@@ -156,7 +148,7 @@ module _ (x : List ℕ) (c : ℕ) (limit arities before : List ℕ) (q : Problem
             (flat-more (λ m. hexLine (clauseFrame m)) before ks k)
             (text-more x at n (before ++ clauseLines ks) (clauseFrame k) l (j .bytes) (to .text));
         each-fits = all-append (ClauseFits c arities) ks (k ∷ []) (to .each-fits) (j .fits, tt);
-        light = rw (weights-more c ks k) (j .light);
+        light = rw (weights-snoc c ks k) (j .light);
       }
 
   clauses-read : (left : ℕ) (ks : List Clause) (line at : ℕ) → length ks + left ≡ 64 → ClausesTo x c arities before ks at
@@ -176,14 +168,6 @@ module _ (x : List ℕ) (c : ℕ) (limit arities before : List ℕ) (q : Problem
 abbrev arityLines : List ℕ → List ℕ
 arityLines arities = flatMap (λ a. hexLine (arityFrame a)) arities
 
--- the heading that was read
-record HeadingFits (c p : ℕ) (limit : List ℕ) : Type 0 where
-  constants-fit : c ≤ 32
-  some-predicate : 1 ≤ p
-  predicates-fit : p ≤ 32
-  limit-four : length limit ≡ 4
-  limit-bytes : All (λ b. b < 256) limit
-
 -- the arities read so far, to a place of the text, with so many still to come
 record AritiesTo (x : List ℕ) (c p : ℕ) (limit arities : List ℕ) (left at : ℕ) : Type 0 where
   text : hexLine (1 ∷ 1 ∷ c ∷ p ∷ limit) ++ arityLines arities ++ drop at x ≡ x
@@ -195,7 +179,7 @@ record Read (x : List ℕ) (q : Problem) : Type 0 where
   text : textOf q ≡ x
   fits : Fits q
 
-module _ (x : List ℕ) (c p : ℕ) (limit : List ℕ) (h : HeadingFits c p limit) (q : Problem) where
+module _ (x : List ℕ) (c p : ℕ) (limit : List ℕ) (h : Sized c p limit) (q : Problem) where
   all-read : (arities : List ℕ) (at : ℕ) → AritiesTo x c p limit arities 0 at
       → ClausesRead x c limit arities (hexLine (1 ∷ 1 ∷ c ∷ p ∷ limit) ++ arityLines arities) q → Read x q
   unfolding textOf
@@ -235,7 +219,7 @@ module _ (x : List ℕ) (c p : ℕ) (limit : List ℕ) (h : HeadingFits c p limi
             (text-more x at n (heading ++ arityLines arities) (arityFrame a) l (j .0) (to .text));
         count = simp length-append (omega arith);
         arities-fit = all-append (λ b. b ≤ 3) arities (a ∷ []) (to .arities-fit) (j .1, tt);
-        atoms-fit = rw (atoms-more c arities a) (j .2);
+        atoms-fit = rw (atomCount-snoc c arities a) (j .2);
       }
 
   arities-read : (left : ℕ) (arities : List ℕ) (line at : ℕ) → AritiesTo x c p limit arities left at
@@ -252,6 +236,21 @@ module _ (x : List ℕ) (c p : ℕ) (limit : List ℕ) (h : HeadingFits c p limi
       judge-taken line q (judgeArity c (atomCount c arities) (frameAt x at n)) _ s λ a j t.
       arities-read left (arities ++ (a ∷ [])) (suc line) (afterLine at n) (arity-read left arities at n a l to j) t
 
+pub heading-sized : (x : List ℕ) (n : ℕ) → lineAt x 0 ≡ Holds n → (c p : ℕ) → judgeHeading (frameAt x 0 n) ≡ Sizes c p → Sized c p (take 4 (drop 4 (frameAt x 0 n)))
+heading-sized x n l c p j =
+    let s = heading-sizes (frameAt x 0 n) c p j in
+    let limit = take 4 (drop 4 (frameAt x 0 n)) in
+    let bytes : All (λ b. b < 256) (1 ∷ 1 ∷ c ∷ p ∷ limit) = subst (All (λ b. b < 256)) (s .bytes) (frame-bytes x 0 n l) in
+    let long : length (frameAt x 0 n) ≡ length (1 ∷ 1 ∷ c ∷ p ∷ limit) = ap length (s .bytes) in
+    let eight : length (frameAt x 0 n) ≡ 8 = s .eight in
+    record {
+      constants-fit = s .constants-fit;
+      some-predicate = s .some-predicate;
+      predicates-fit = s .predicates-fit;
+      limit-four = omega arith;
+      limit-bytes = bytes .1 .1 .1 .1;
+    }
+
 module _ (x : List ℕ) (q : Problem) where
   heading-read : (n c p : ℕ) → lineAt x 0 ≡ Holds n → judgeHeading (frameAt x 0 n) ≡ Sizes c p
       → parseArities x c (take 4 (drop 4 (frameAt x 0 n))) p [] 2 (afterLine 0 n) ≡ parsed q → Read x q
@@ -260,19 +259,7 @@ module _ (x : List ℕ) (q : Problem) where
       let f = frameAt x 0 n in
       let limit = take 4 (drop 4 f) in
       let s = heading-sizes f c p j in
-      let bytes : All (λ b. b < 256) (1 ∷ 1 ∷ c ∷ p ∷ limit) = subst (All (λ b. b < 256)) (s .bytes) (frame-bytes x 0 n l) in
-      let long : length f ≡ length (1 ∷ 1 ∷ c ∷ p ∷ limit) = ap length (s .bytes) in
-      let eight : length f ≡ 8 = s .eight in
-      let fits : HeadingFits c p limit =
-      record {
-        constants-fit = s .constants-fit;
-        some-predicate = s .some-predicate;
-        predicates-fit = s .predicates-fit;
-        limit-four = omega arith;
-        limit-bytes = bytes .1 .1 .1 .1;
-      }
-      in
-      arities-read x c p limit fits q p [] 2 (afterLine 0 n)
+      arities-read x c p limit (heading-sized x n l c p j) q p [] 2 (afterLine 0 n)
       (record {
         text = rw append-nil (text-more x 0 n [] (1 ∷ 1 ∷ c ∷ p ∷ limit) l (s .bytes) refl);
         count = omega arith;

@@ -107,11 +107,11 @@ clauseRecords-length c arities before ks small f =
     rw (clauses-records c arities before ks) (records-length (clauseRecord c arities) (weight c) 56 before ks (clauses-wide c arities ks small f))
 
 -- the table's four parts
+pub sixteen : (c p n : ℕ) (limit : List ℕ) (atoms : ℕ) → length limit ≡ 4 → length (c ∷ p ∷ n ∷ 0 ∷ limit ++ bytes2 atoms ++ replicate 6 0) ≡ 16
+sixteen c p n limit atoms four = omega (arith, length-append (limit ++ bytes2 atoms) (replicate 6 0), length-append limit (bytes2 atoms))
+
 heading-length : (q : Problem) → Fits q → length (heading q) ≡ 16
-heading-length q f =
-    let limit : length (q .limit) ≡ 4 = f .limit-four in
-    let counts : List ℕ = bytes2 (atomCount (q .constants) (q .arities)) in
-    omega (arith, length-append (q .limit ++ counts) (replicate 6 0), length-append (q .limit) counts)
+heading-length q f = sixteen (q .constants) (length (q .arities)) (length (q .clauses)) (q .limit) (atomCount (q .constants) (q .arities)) (f .limit-four)
 
 predicatePart : Problem → List ℕ
 predicatePart q = pad 128 (predicateRecords (q .constants) 0 (q .arities))
@@ -319,6 +319,14 @@ module _ (c : ℕ) (arities : List ℕ) (small : All (λ n. n ≤ 3) arities) (b
       alts : (x : ℕ) → x < 24 → getD tb (at + 32 + x) 0 ≡ getD (slots c arities (k .alts)) x 0
       alts x h = regroup tb at 32 x ∙ same (32 + x) (omega arith) ∙ alternative-byte x
 
+-- the arities are found where their number and each of them stand
+pub arities-from : (tb arities : List ℕ) → getD tb 1 0 ≡ length arities → length arities ≤ 32 → All (λ a. a ≤ 3) arities
+    → ((j : ℕ) → j < length arities → getD tb (16 + 4 * j) 0 ≡ getD arities j 0) → aritiesIn tb ≡ arities
+arities-from tb arities count few small byte = tabulate-of (λ j. min (getD tb (16 + 4 * j) 0) 3) 0 arities (min (getD tb 1 0) 32) (omega arith) found
+  where
+    found : (j : ℕ) → j < length arities → min (getD tb (16 + 4 * j) 0) 3 ≡ getD arities j 0
+    found j h = omega (arith, byte j h, all-at (λ a. a ≤ 3) arities 0 j h small)
+
 first-of-six : (l x y z u w : List ℕ) (n : ℕ) → length l ≡ n → take n (l ++ x ++ y ++ z ++ u ++ w) ≡ l
 first-of-six l x y z u w n e = simp append-assoc (take-at l (x ++ (y ++ (z ++ (u ++ w)))) n e)
 
@@ -333,18 +341,9 @@ module _ (q : Problem) (f : Fits q) where
       (first-of-six (q .limit) (bytes2 (atomCount (q .constants) (q .arities))) (replicate 6 0) (predicatePart q) (clausePart q) spare 4 (f .limit-four))
 
   arities-back : aritiesIn (layout q) ≡ q .arities
-  arities-back = tabulate-of (λ j. min (getD (layout q) (16 + 4 * j) 0) 3) 0 (q .arities) (min (getD (layout q) 1 0) 32) counted found
-    where
-      counted : min (getD (layout q) 1 0) 32 ≡ length (q .arities)
-      counted =
-          let few : length (q .arities) ≤ 32 = f .predicates-fit in
-          omega (arith, heading-byte q f 1 (omega arith))
-
-      found : (j : ℕ) → j < length (q .arities) → min (getD (layout q) (16 + 4 * j) 0) 3 ≡ getD (q .arities) j 0
-      found j h =
-          let small : getD (q .arities) j 0 ≤ 3 = all-at (λ a. a ≤ 3) (q .arities) 0 j h (f .arities-fit) in
-          let byte : getD (layout q) (16 + 4 * j) 0 ≡ getD (q .arities) j 0 = at-start (layout q) (16 + 4 * j) ∙ predicate-byte q f j 0 h (omega arith) in
-          omega arith
+  arities-back =
+      arities-from (layout q) (q .arities) (heading-byte q f 1 (omega arith)) (f .predicates-fit) (f .arities-fit)
+      (λ j h. at-start (layout q) (16 + 4 * j) ∙ predicate-byte q f j 0 h (omega arith))
 
   clauses-back : (arities : List ℕ) → arities ≡ q .arities → tabulate (λ k. clauseIn arities (layout q) (144 + 56 * k)) (min (getD (layout q) 2 0) 64) ≡ q .clauses
   clauses-back arities e =

@@ -6,12 +6,13 @@ use mathlib.Core.Path.{_≡_, refl, sym, ap, subst, _∙_}
 use native.Mathlib.Nat.{add-zero, zero-add, mul-zero, mul-suc}
 use native.Mathlib.Numerals.{add-one}
 use native.Mathlib.Omega.{arith}
-use lib.ListN.{length, take, drop, getD, set, length-set, length-append, length-drop, take-append-drop}
-use lib.Seq.{length-take-le, take-at, drop-append-add, drop-drop, set-split, getD-take, getD-drop}
+use lib.ListN.{length, take, drop, getD, set, length-set, length-append}
+use lib.Seq.{take-at, set-split}
 use borrow.Author.Tests.{lt-ltb, le-ltb}
-use Rattle.lists.specs.Bytes.{sameList, spliced}
+use Rattle.lists.specs.Bytes.{sameList}
 use Rattle.lists.specs.Tabulate.{tabulate}
-use Rattle.lists.proofs.Bytes.{tabulate-of}
+use Rattle.lists.proofs.Bytes.{tabulate-part, splice-none, splice-then}
+use Rattle.lists.proofs.Member.{flat-append, flat-snoc}
 use Rattle.lists.proofs.Tabulate.{tabulate-length}
 use Rattle.problem.specs.declared.read.Reading.{Reading}
 use Rattle.problem.specs.declared.read.Reading.the-variants.{Refused, Accepted}
@@ -24,25 +25,8 @@ use Rattle.problem.specs.Print.{atomBytes, headingFrame, clauseFrame, cl
 use Rattle.problem.specs.Table.{readingOf, readsTo, isValid, writeResult, writeLeaves}
 use Rattle.problem.specs.Filled.{ReadAs}
 use Rattle.problem.specs.Printed.{Put}
-use Rattle.problem.proofs.Lines.{flat-append}
 
 -- ---- bytes put over others, one after another
-
-splice-none : (a : ℕ) (e : List ℕ) → e ≡ spliced a [] e
-splice-none a e = rw (append-nil, add-zero) (sym (take-append-drop a e))
-
-splice-then : (a : ℕ) (bs cs e : List ℕ) → a + length bs + length cs ≤ length e → spliced (a + length bs) cs (spliced a bs e) ≡ spliced a (bs ++ cs) e
-splice-then a bs cs e h =
-    let fore : length (take a e ++ bs) ≡ a + length bs = length-append (take a e) bs ∙ rw (length-take-le a e (omega arith)) in
-    let start : take (a + length bs) (spliced a bs e) ≡ take a e ++ bs = take-at (take a e ++ bs) (drop (a + length bs) e) (a + length bs) fore in
-    let whole : a + length bs + length cs ≡ a + length (bs ++ cs) = omega (arith, length-append bs cs) in
-    let rest : drop (a + length bs + length cs) (spliced a bs e) ≡ drop (a + length (bs ++ cs)) e =
-    ap (λ (n : ℕ). drop (n + length cs) (spliced a bs e)) (sym fore)
-    ∙ drop-append-add (take a e ++ bs) (drop (a + length bs) e) (length cs)
-    ∙ drop-drop (length cs) (a + length bs) e
-    ∙ ap (λ (n : ℕ). drop n e) whole
-    in
-    rw (start, rest, append-assoc (take a e) bs cs)
 
 module _ {e x : List ℕ} {a m r : ℕ} {bs : List ℕ} (p : Put e a bs m r x) where
   pub put-as : {cs : List ℕ} → bs ≡ cs → Put e a cs m r x
@@ -116,35 +100,18 @@ module _ {A : Type 0} (g : A → List ℕ) (f : ℕ → A) (w : ℕ) where
   pub puts-more : {e x y : List ℕ} {a r s : ℕ} (k : ℕ) → Put e a (flatMap g (tabulate f k)) (w * k) r x → a + w * k + w ≤ length e → Put x r (g (f k)) w s y
       → Put e a (flatMap g (tabulate f (k + 1))) (w * (k + 1)) s y
   unfolding flatMap
-  puts-more {e} {x} {y} {a} {r} {s} k p h q = rw (add-one, mul-suc) (put-as (put-then p h q) (sym (flat-append g (tabulate f k) (f k ∷ []) ∙ rw append-nil)))
+  puts-more {e} {x} {y} {a} {r} {s} k p h q = rw (add-one, mul-suc) (put-as (put-then p h q) (sym (flat-snoc g (tabulate f k) (f k))))
 
   pub puts-done : {e x : List ℕ} {a r : ℕ} (k n m : ℕ) → Put e a (flatMap g (tabulate f k)) (w * k) r x → k ≡ n → w * n ≤ m → Put e a (flatMap g (tabulate f n)) m r x
   puts-done {e} {x} {a} {r} k n m p same h = put-most (subst (λ (i : ℕ). Put e a (flatMap g (tabulate f i)) (w * i) r x) same p) h
 
-pub flat-flat : {A B : Type 0} (f : B → List ℕ) (g : A → List B) (xs : List A) → flatMap f (flatMap g xs) ≡ flatMap (λ x. flatMap f (g x)) xs
-unfolding flatMap
-flat-flat f g [] = refl
-flat-flat f g (x ∷ xs) = flat-append f (g x) (flatMap g xs) ∙ rw (flat-flat f g xs)
-
 -- ---- what is put, as the table has it
-
-part-of : (tb : List ℕ) (a n : ℕ) → a + n ≤ length tb → tabulate (λ j. getD tb (a + j) 0) n ≡ take n (drop a tb)
-part-of tb a n h =
-    tabulate-of (λ j. getD tb (a + j) 0) 0 (take n (drop a tb)) n (sym size) element
-  where
-    size : length (take n (drop a tb)) ≡ n
-    size = length-take-le n (drop a tb) (simp length-drop (omega arith))
-
-    element : (i : ℕ) → i < length (take n (drop a tb)) → getD tb (a + i) 0 ≡ getD (take n (drop a tb)) i 0
-    element i l =
-        let below : i < n = omega (arith, size) in
-        sym (getD-take n (drop a tb) i 0 below ∙ getD-drop a tb i 0)
 
 module _ (tb : List ℕ) (n : ℕ) where
   pub heading-frame : length tb ≡ 4096 → n ≡ min (getD tb 1 0) 32
       → (1 ∷ 1 ∷ getD tb 0 0 ∷ n ∷ []) ++ tabulate (λ j. getD tb (4 + j) 0) 4 ≡ headingFrame (problemIn tb)
   unfolding problemIn
-  heading-frame l e = rw (tabulate-length, ← e, part-of tb 4 4 (omega arith))
+  heading-frame l e = rw (tabulate-length, ← e, tabulate-part tb 4 4 (omega arith))
 
   pub closing-frame : n ≡ min (getD tb 2 0) 64 → 255 ∷ n ∷ [] ≡ closingFrame (problemIn tb)
   unfolding problemIn

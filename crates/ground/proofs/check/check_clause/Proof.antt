@@ -6,12 +6,14 @@ use borrow.Author.Needs.{needs}
 use lib.ListN.{length}
 use Rattle.problem.specs.Layout.{problemIn}
 use Rattle.ground.specs.Instance.{clauseOf}
-use Rattle.ground.proofs.CheckLoops.{Turn, ClauseKnown, clause-known, clause-listed, turn-starts, turn-stops, turn-ends, turn-placed, turn-asks, turn-next}
+use Rattle.ground.specs.ModelCheck.{violates}
+use Rattle.ground.proofs.Turns.{Turn, ClauseKnown, clause-known, clause-listed, turn-starts, turn-placed, turn-asks, turn-next}
+use Rattle.ground.proofs.CheckLoops.{violated-same, clause-violated, clause-fitting}
 use Rattle.ground.proofs.check.check_clause.Statement.{statement}
 use Rattle.ground.proofs.check.check_clause.Tie as tie
 
 abbrev Inv-loop : tie.InvT-loop
-Inv-loop table k flags at c v count values₀ i₀ values i = Turn (problemIn table) flags k values i
+Inv-loop table k flags at c v count values₀ i₀ values i = Turn (problemIn table) (violates (problemIn table) flags) k values i
 
 abbrev μ-loop : tie.MeasureT-loop
 μ-loop table k flags at c v count values₀ i₀ values i = count - i
@@ -58,12 +60,12 @@ check-clause-spec =
     (λ c κs. tt)  -- pair-requires
     (λ c.
     let s = c .before .before .before .before .before .before .before in
-    turn-starts (problemIn (s .args .table .now)) (s .args .flags .now) (s .args .k) (known s .fits))  -- loop-holds
+    turn-starts (problemIn (s .args .table .now)) (violates (problemIn (s .args .table .now)) (s .args .flags .now)) (s .args .k) (known s .fits))  -- loop-holds
     (λ c. sym (c .before .before .loop .inv .four))  -- slice-aggregate-violated
     (λ c κs.
     let l = c .before .before .loop in
     let s = c .before .before .before .before .before .before .before .before .before .before in
-    (s .pre .0, turn-placed (s .args .table .now) (s .pre .0) (s .args .k) (listed s) (s .args .flags .now) (l .values) (l .i) (below (c .before)) (l .inv) (s .pre .1 .1)))  -- violated-requires
+    (s .pre .0, turn-placed (s .args .table .now) (s .pre .0) (s .args .k) (listed s) (violates (problemIn (s .args .table .now)) (s .args .flags .now)) (l .values) (l .i) (below (c .before)) (l .inv) (s .args .flags .now) (s .pre .1 .1)))  -- violated-requires
     (λ c. search needs)  -- array-read-t24
     (λ c. search needs)  -- array-read-t27
     (λ c. search needs)  -- array-read-t30
@@ -72,13 +74,13 @@ check-clause-spec =
     let r = c .before in
     let l = r .before .before .before .loop in
     let s = r .before .before .before .before .before .before .before .before .before .before .before in
-    sym (turn-stops (problemIn (s .args .table .now)) (s .args .flags .now) (s .args .k) (known s .fits) (l .values) (l .i) (l .inv) (below (r .before .before)) _ (r .violated .ensures) (c .if1 .taken)))  -- returns
+    sym (clause-violated (problemIn (s .args .table .now)) (s .args .flags .now) (s .args .k) (known s .fits) (l .values) (l .i) (l .inv) (below (r .before .before)) _ (r .violated .ensures) (c .if1 .taken)))  -- returns
     (λ c. sym (c .before .before .before .before .before .loop .inv .four))  -- slice-aggregate-step
     (λ c κs.
     let r = c .before .before in
     let l = r .before .before .before .loop in
     let s = r .before .before .before .before .before .before .before .before .before .before .before in
-    turn-asks (s .args .table .now) (s .pre .0) (s .args .k) (listed s) (s .args .flags .now) (l .values) (l .i) (below (r .before .before)) (l .inv))  -- step-requires
+    turn-asks (s .args .table .now) (s .pre .0) (s .args .k) (listed s) (violates (problemIn (s .args .table .now)) (s .args .flags .now)) (l .values) (l .i) (below (r .before .before)) (l .inv))  -- step-requires
     (λ c. omega (arith, c .before .before .before .before .before .before .loop-test .taken, c .before .before .before .before .before .before .before .before .pair .ok))  -- add-i
     (λ c. omega (arith, c .before .before .before .before .before .before .loop-test .taken))  -- loop-less
     (λ c.
@@ -86,9 +88,10 @@ check-clause-spec =
     let r = e .before in
     let l = r .before .before .before .loop in
     let s = r .before .before .before .before .before .before .before .before .before .before .before in
-    turn-next (s .args .table .now) (s .pre .0) (s .args .k) (listed s) (s .args .flags .now) (l .values) (l .i) (below (r .before .before)) (l .inv)
-    (c .before .step .last .0) _ (r .violated .ensures) (e .if1 .left) (c .before .step .ensures) (c .before .step .kept .0))  -- loop-again
+    turn-next (s .args .table .now) (s .pre .0) (s .args .k) (listed s) (violates (problemIn (s .args .table .now)) (s .args .flags .now)) (l .values) (l .i) (below (r .before .before)) (l .inv)
+    (c .before .step .last .0)
+    (violated-same (problemIn (s .args .table .now)) (s .args .flags .now) (s .args .k) (known s .fits) (l .values) ∙ sym (r .violated .ensures) ∙ e .if1 .left) (c .before .step .ensures) (c .before .step .kept .0))  -- loop-again
     (λ c.
     let l = c .before .loop in
     let s = c .before .before .before .before .before .before .before .before .before in
-    sym (turn-ends (problemIn (s .args .table .now)) (s .args .flags .now) (s .args .k) (known s .fits) (l .values) (l .i) (l .inv) (omega (arith, counted (c .before .before))))))  -- returns-2
+    sym (clause-fitting (problemIn (s .args .table .now)) (s .args .flags .now) (s .args .k) (known s .fits) (l .values) (l .i) (l .inv) (omega (arith, counted (c .before .before))))))  -- returns-2

@@ -10,7 +10,9 @@ use Rattle.ground.specs.declared.check.Judging.{Judging}
 use Rattle.ground.specs.declared.check.Judging.the-variants.{Violated}
 use Rattle.ground.proofs.check.Judging.{the-type}
 use Rattle.ground.proofs.AtomLaws.{table-size}
-use Rattle.ground.proofs.CheckLoops.{Undecided, clauses-byte, clause-listed, clauses-start, clauses-on, clauses-stop, clauses-end}
+use Rattle.ground.specs.ModelCheck.{violates}
+use Rattle.ground.proofs.Turns.{Undecided, clauses-byte, clause-listed, clauses-start}
+use Rattle.ground.proofs.CheckLoops.{check-on, check-stop, check-end}
 use Rattle.ground.proofs.check.check_clauses.Statement.{statement}
 use Rattle.ground.proofs.check.check_clauses.Tie as tie
 
@@ -20,7 +22,7 @@ other o (inl t) j a b c d e = let z : _≡_ {A = ℕ} 2 0 = sym (ap (tagOf the-t
 other o (inr t) j a b c d e = let z : _≡_ {A = ℕ} 2 1 = sym (ap (tagOf the-type) e) ∙ t in omega arith
 
 abbrev Inv-loop : tie.InvT-loop
-Inv-loop table flags count k₀ k = (k ≤ count) × Undecided (problemIn table) flags k
+Inv-loop table flags count k₀ k = (k ≤ count) × Undecided (problemIn table) (violates (problemIn table) flags) k
 
 abbrev μ-loop : tie.MeasureT-loop
 μ-loop table flags count k₀ k = count - k
@@ -36,7 +38,7 @@ check-clauses-spec =
     omega (arith, table-size (s .args .table .now) (s .pre .0)))  -- shared-slice-read-count
     (λ c.
     let s = c .before .before .before in
-    (omega arith, clauses-start (problemIn (s .args .table .now)) (s .args .flags .now)))  -- loop-holds
+    (omega arith, clauses-start (problemIn (s .args .table .now)) (violates (problemIn (s .args .table .now)) (s .args .flags .now))))  -- loop-holds
     (λ c κs.
     let s = c .before .before .before .before .before in
     (s .pre .0, (c .loop-test .taken, s .pre .1)))  -- check-clause-requires
@@ -47,7 +49,7 @@ check-clauses-spec =
     let s = r .before .before .before .before .before .before in
     let tb = s .args .table .now in
     sym
-    (clauses-stop (problemIn tb) (s .args .flags .now) (l .k) (clause-listed tb (s .pre .0) (l .k) (r .before .loop-test .taken)) (l .inv .1) _ _ _ _ _
+    (check-stop (problemIn tb) (s .args .flags .now) (l .k) (clause-listed tb (s .pre .0) (l .k) (r .before .loop-test .taken)) (l .inv .1) _ _ _ _ _
     (sym (r .check-clause .ensures) ∙ c .before .judging .given .1)))  -- returns
     (λ c.
     let s = c .before .before .before .before .before .before .before in
@@ -59,11 +61,11 @@ check-clauses-spec =
     let s = r .before .before .before .before .before .before in
     let tb = s .args .table .now in (
       omega arith,
-      clauses-on (problemIn tb) (s .args .flags .now) (l .k) (clause-listed tb (s .pre .0) (l .k) (r .before .loop-test .taken)) (l .inv .1)
+      check-on (problemIn tb) (s .args .flags .now) (l .k) (clause-listed tb (s .pre .0) (l .k) (r .before .loop-test .taken)) (l .inv .1)
           (λ j v₀ v₁ v₂ v₃ e. other (r .check-clause .result) (c .match .keys2) j v₀ v₁ v₂ v₃ (r .check-clause .ensures ∙ e)),
     ))  -- loop-again
     (λ c.
     let l = c .before .loop in
     let s = c .before .before .before .before .before in
     let tb = s .args .table .now in
-    sym (clauses-end (problemIn tb) (s .args .flags .now) (l .k) (omega (arith, clauses-byte tb (s .pre .0))) (l .inv .1))))  -- returns-2
+    sym (check-end (problemIn tb) (s .args .flags .now) (l .k) (omega (arith, clauses-byte tb (s .pre .0))) (l .inv .1))))  -- returns-2

@@ -3,7 +3,8 @@ use mathlib.Core.Path.{sym}
 use native.Mathlib.Omega.{arith}
 use borrow.Author.Needs.{needs}
 use Rattle.problem.specs.Layout.{problemIn}
-use Rattle.ground.proofs.CheckLoops.{clause-known, violated-short, violated-rest}
+use Rattle.ground.proofs.Turns.{clause-known}
+use Rattle.ground.proofs.CheckLoops.{violated-short, violated-rest}
 use Rattle.ground.proofs.check.violated.Statement.{statement}
 use Rattle.ground.proofs.check.violated.Tie as tie
 

@@ -3,7 +3,7 @@ use mathlib.Core.Path.{_∙_}
 use native.Mathlib.Omega.{arith}
 use borrow.Author.Needs.{needs}
 use borrow.Author.Tests.{lt-ltb, le-ltb}
-use Rattle.problem.proofs.Leaf.{digit-found}
+use Rattle.problem.proofs.Digits.{digit-found}
 use Rattle.problem.proofs.digit.digit.Statement.{statement}
 use Rattle.problem.proofs.digit.digit.Tie as tie
 

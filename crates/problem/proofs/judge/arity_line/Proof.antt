@@ -9,7 +9,7 @@ use lib.Dec.{eqb, ltb, leb}
 use Rattle.problem.specs.declared.judge.Judged.the-variants.{Fault, Found}
 use Rattle.problem.specs.Line.{frameAt}
 use Rattle.problem.specs.Judge.{judgeArity}
-use Rattle.problem.proofs.Leaf.{line-size, frame-length}
+use Rattle.problem.proofs.Lines.{line-size, frame-length}
 use Rattle.problem.proofs.judge.arity_line.Statement.{statement}
 use Rattle.problem.proofs.judge.arity_line.Tie as tie
 

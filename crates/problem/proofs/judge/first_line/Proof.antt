@@ -9,7 +9,7 @@ use lib.ListN.{getD}
 use Rattle.problem.specs.declared.judge.Heading.the-variants.{Wrong}
 use Rattle.problem.specs.Line.{frameAt}
 use Rattle.problem.specs.Judge.{judgeSizes, judgeHeading}
-use Rattle.problem.proofs.Leaf.{line-size, frame-length}
+use Rattle.problem.proofs.Lines.{line-size, frame-length}
 use Rattle.problem.proofs.judge.first_line.Statement.{statement}
 use Rattle.problem.proofs.judge.first_line.Tie as tie
 

@@ -7,7 +7,7 @@ use lib.Dec.{eqb}
 use Rattle.problem.specs.declared.judge.Judged.the-variants.{Fault, Found}
 use Rattle.problem.specs.Line.{frameAt}
 use Rattle.problem.specs.Parse.{judgeClosing}
-use Rattle.problem.proofs.Leaf.{frame-length}
+use Rattle.problem.proofs.Lines.{frame-length}
 use Rattle.problem.proofs.judge.last_line.Statement.{statement}
 use Rattle.problem.proofs.judge.last_line.Tie as tie
 

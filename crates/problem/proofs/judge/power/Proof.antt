@@ -1,11 +1,17 @@
 -- `problem::judge::power` meets its contract. The invariant: r is c to the power i.
-use Prim.Native.Nat.{ℕ, _+_, _^_, _-_, _≤_}
+use Prim.Native.Nat.{ℕ, _+_, _*_, _^_, _-_, _≤_}
 use mathlib.Core.Path.{_≡_, sym, ap, _∙_}
-use native.Mathlib.Nat.{pow-zero}
+use native.Mathlib.Nat.{le-trans, pow-zero, pow-suc, pow-le-pow-left, pow-le-pow-right}
+use native.Mathlib.Numerals.{add-one}
 use native.Mathlib.Omega.{arith}
-use Rattle.problem.proofs.Leaf.{power-more, power-fits}
 use Rattle.problem.proofs.judge.power.Statement.{statement}
 use Rattle.problem.proofs.judge.power.Tie as tie
+
+power-more : (c i r : ℕ) → r ≡ c ^ i → r * c ≡ c ^ (i + 1)
+power-more c i r e = ap (λ (m : ℕ). m * c) e ∙ sym (rw (add-one, pow-suc))
+
+power-fits : (c k : ℕ) → c ≤ 32 → k ≤ 4 → c ^ k ≤ 1048576
+power-fits c k h l = le-trans (pow-le-pow-left h k) (pow-le-pow-right {n = 32} (omega arith) l)
 
 abbrev Inv-loop : tie.InvT-loop
 Inv-loop c k base r₀ i₀ r i = (r ≡ c ^ i) × (i ≤ k)

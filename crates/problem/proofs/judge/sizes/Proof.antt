@@ -8,7 +8,7 @@ use lib.Dec.{eqb, ltb}
 use Rattle.problem.specs.declared.judge.Heading.the-variants.{Wrong, Sizes}
 use Rattle.problem.specs.Line.{frameAt}
 use Rattle.problem.specs.Judge.{judgeSizes}
-use Rattle.problem.proofs.Leaf.{frame-length}
+use Rattle.problem.proofs.Lines.{frame-length}
 use Rattle.problem.proofs.judge.sizes.Statement.{statement}
 use Rattle.problem.proofs.judge.sizes.Tie as tie
 

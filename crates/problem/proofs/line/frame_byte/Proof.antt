@@ -6,24 +6,25 @@ use native.Mathlib.Omega.{arith}
 use borrow.Author.Needs.{needs}
 use lib.ListN.{length}
 use Rattle.problem.specs.Line.{byteAt}
-use Rattle.problem.proofs.Leaf.{line-room, line-digits, frame-byte}
+use Rattle.problem.proofs.Digits.{digit-small}
+use Rattle.problem.proofs.Lines.{line-room, line-digits, frame-byte}
 use Rattle.problem.proofs.line.frame_byte.Statement.{statement}
 use Rattle.problem.proofs.line.frame_byte.Tie as tie
 
 room : (c : tie.Start) → c .args .at + 2 * c .args .n < length (c .args .text .now)
-room c = line-room (c .args .text .now) (c .args .at) (c .args .n) (c .pre .0)
+room c = line-room (c .args .text .now) (c .args .at) (c .args .n) (c .pre .0) .0
 
 high : (c : tie.After-digit) → c .digit .result < 16
 high c =
     let s = c .before .before .before in
     let e = c .digit .ensures in
-    omega (arith, line-digits (s .args .text .now) (s .args .at) (s .args .n) (s .pre .0) (2 * s .args .j) (omega arith))
+    omega (arith, digit-small _ (line-digits (s .args .text .now) (s .args .at) (s .args .n) (s .pre .0) (2 * s .args .j) (omega arith)))
 
 low : (c : tie.After-digit2) → c .digit2 .result < 16
 low c =
     let s = c .before .before .before .before .before in
     let place : s .args .at + (2 * s .args .j + 1) ≡ s .args .at + 2 * s .args .j + 1 = omega arith in
-    let d = rw place at (line-digits (s .args .text .now) (s .args .at) (s .args .n) (s .pre .0) (2 * s .args .j + 1) (omega arith)) in
+    let d = rw place at (digit-small _ (line-digits (s .args .text .now) (s .args .at) (s .args .n) (s .pre .0) (2 * s .args .j + 1) (omega arith))) in
     let e = c .digit2 .ensures in
     omega arith
 

@@ -9,7 +9,7 @@ use lib.ListN.{getD, List·getD-eq-default}
 use lib.Dec.{eqb}
 use Rattle.problem.specs.declared.line.Line.the-variants.{Bad, Holds}
 use Rattle.problem.specs.Line.{lineAt, lineOf}
-use Rattle.problem.proofs.Leaf.{line-absent, line-of}
+use Rattle.problem.proofs.Lines.{line-past, line-counted}
 use Rattle.problem.proofs.line.line_at.Statement.{statement}
 use Rattle.problem.proofs.line.line_at.Tie as tie
 
@@ -19,7 +19,7 @@ counted : (c : tie.After-run-of) → (
     lineAt (s .text .now) (s .at) ≡ lineOf (s .text .now) (s .at) (c .run-of .result))
 counted c =
     let s = c .before .before .before .args in
-    line-of (s .text .now) (s .at) (c .run-of .result) (c .before .if1 .left) (c .run-of .ensures .0)
+    line-counted (s .text .now) (s .at) (c .run-of .result) (c .before .if1 .left) (c .run-of .ensures .0)
 
 -- and as many as a line may have, so that only the byte after them is left to test
 paired : (c : tie.Else4) → (
@@ -36,7 +36,7 @@ pub line-at-spec : {M : Type 1} → statement M
 line-at-spec =
     tie.close
     (tie.spec
-    (λ c. sym (line-absent (c .before .before .args .text .now) (c .before .before .args .at) (c .if1 .taken)))  -- returns
+    (λ c. sym (line-past (c .before .before .args .text .now) (c .before .before .args .at) (c .if1 .taken)))  -- returns
     (λ c κs. search needs)  -- run-of-requires
     (λ c. search needs)  -- add-end
     (λ c. rw (counted (c .before), c .if2 .taken))  -- returns-2

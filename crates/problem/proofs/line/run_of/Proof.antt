@@ -6,7 +6,7 @@ use native.Mathlib.Omega.{arith}
 use borrow.Author.Needs.{needs}
 use lib.ListN.{length}
 use Rattle.problem.specs.Line.{run}
-use Rattle.problem.proofs.Leaf.{run-more, run-stops, run-past, run-full}
+use Rattle.problem.proofs.Lines.{run-more, run-stops, run-past, run-full}
 use Rattle.problem.proofs.line.run_of.Statement.{statement}
 use Rattle.problem.proofs.line.run_of.Tie as tie
 

@@ -5,12 +5,13 @@ use mathlib.Core.Path.{_≡_, refl, sym, _∙_}
 use native.Mathlib.Omega.{arith}
 use lib.ListN.{length}
 use Rattle.lists.specs.Tabulate.{tabulate}
+use Rattle.lists.proofs.Member.{flat-flat}
 use Rattle.problem.specs.Digit.{hexByte}
 use Rattle.problem.specs.Problem.{Atom}
 use Rattle.problem.specs.Layout.{atomIn, aritiesIn}
 use Rattle.problem.specs.Print.{atomBytes}
 use Rattle.problem.specs.Printed.{Put}
-use Rattle.problem.proofs.WriteLaws.{put-as, puts-none, puts-more, puts-done, flat-flat}
+use Rattle.problem.proofs.WriteLaws.{put-as, puts-none, puts-more, puts-done}
 use Rattle.problem.proofs.write.put_atoms.Statement.{statement}
 use Rattle.problem.proofs.write.put_atoms.Tie as tie
 
