@@ -2,9 +2,11 @@
 //! a text, and what reading it gives. Each is asked of the library and of the reference.
 mod library;
 mod reference;
+mod worked;
 
 use library::packed;
 use reference::{encode, Refusal, TABLE, TEXT_OUT};
+use worked::{BARE, K1};
 use Expected::{Accepted, Refused};
 
 enum Expected {
@@ -24,10 +26,7 @@ fn case(name: &'static str, parts: &[&str], expected: Expected) -> Case {
     Case { name, text: parts.concat(), expected }
 }
 
-/// Beginnings: K1's, with c = 2 and three predicates of arity 1; c = 0 and one predicate of arity 0, of
-/// arity 1; c = 32 and one predicate of arity 2.
-const K1: &str = "0101020300000064\n0201\n0201\n0201\n";
-const BARE: &str = "0101000100000064\n0200\n";
+/// Further beginnings: c = 0 and one predicate of arity 1; c = 32 and one predicate of arity 2.
 const NO_CONSTANTS: &str = "0101000100000064\n0201\n";
 const PAIRS: &str = "0101200100000064\n0202\n";
 
@@ -40,24 +39,16 @@ fn cases() -> Vec<Case> {
 
 /// K1 to K11.
 fn worked() -> Vec<Case> {
-    let predicates = "0201\n0201\n0201\n";
-    let three = "0300010000\n030102008001800280\n0301000100\n";
-    let fourth = "0301000280\nFF04\n";
-    vec![
-        case("K1", &[K1, three, fourth], Accepted(6, 5)),
-        case("K2", &["0101020300000002\n", predicates, three, fourth], Accepted(6, 5)),
-        case("K3", &["0101020300000001\n", predicates, three, fourth], Accepted(6, 5)),
-        case("K4", &["0101020300000000\n", predicates, three, fourth], Accepted(6, 5)),
-        case("K5", &[K1, three, "FF03\n"], Accepted(6, 3)),
-        case("K6", &[K1, three, "03020002800001\nFF04\n"], Accepted(6, 7)),
-        case("K7", &[BARE, "FF00\n"], Accepted(1, 0)),
-        case("K8", &[BARE, "030000\nFF01\n"], Accepted(1, 0)),
-        case("K9", &[BARE, "0300020000\n03010000\nFF02\n"], Accepted(1, 1)),
+    let sizes = [(6, 5), (6, 5), (6, 5), (6, 5), (6, 3), (6, 7), (1, 0), (1, 0), (1, 1)];
+    let first_nine = worked::worked().into_iter().zip(sizes);
+    let mut cases: Vec<Case> = first_nine.map(|(worked, (atoms, marks))| case(worked.name, &[&worked.text], Accepted(atoms, marks))).collect();
+    cases.extend([
         case("K10", &[PAIRS, "FF00\n"], Accepted(1024, 0)),
         case("K10 with a further predicate", &["0101200200000064\n0202\n0200\nFF00\n"], Refused(9, 3)),
         case("K11", &[PAIRS, &QUARTER.repeat(4), "FF04\n"], Accepted(1024, 16384)),
         case("K11 with a fifth clause", &[PAIRS, &QUARTER.repeat(5), "FF05\n"], Refused(10, 7)),
-    ]
+    ]);
+    cases
 }
 
 /// Reading 1: the faults of a line have an order; what comes after FF; the 65th clause.

@@ -5,6 +5,10 @@ extern "C" {
     fn lutsamik_read(text: *const u8, text_len: usize, table: *mut u8, table_len: usize) -> u64;
     fn lutsamik_write(table: *const u8, table_len: usize, out: *mut u8, out_len: usize) -> u64;
     fn lutsamik_judge(table: *const u8, table_len: usize, answer: *const u8, answer_len: usize) -> u64;
+    fn lutsamik_fit_relevancy(table: *const u8, table_len: usize, answer: *mut u8, answer_len: usize, work: *mut u8, work_len: usize) -> u64;
+    fn lutsamik_fit_magic(
+        table: *const u8, table_len: usize, rules: *mut u8, rules_len: usize, answer: *mut u8, answer_len: usize, work: *mut u8, work_len: usize,
+    ) -> u64;
 }
 
 pub fn read(text: &[u8], table: &mut [u8]) -> u64 {
@@ -20,6 +24,15 @@ pub fn judge(table: &[u8], answer: &[u8]) -> u64 {
     unsafe { lutsamik_judge(table.as_ptr(), table.len(), answer.as_ptr(), answer.len()) }
 }
 
+pub fn fit_relevancy(table: &[u8], answer: &mut [u8], work: &mut [u8]) -> u64 {
+    unsafe { lutsamik_fit_relevancy(table.as_ptr(), table.len(), answer.as_mut_ptr(), answer.len(), work.as_mut_ptr(), work.len()) }
+}
+
+pub fn fit_magic(table: &[u8], rules: &mut [u8], answer: &mut [u8], work: &mut [u8]) -> u64 {
+    let (rules, rules_len) = (rules.as_mut_ptr(), rules.len());
+    unsafe { lutsamik_fit_magic(table.as_ptr(), table.len(), rules, rules_len, answer.as_mut_ptr(), answer.len(), work.as_mut_ptr(), work.len()) }
+}
+
 /// An answer of reading or writing: the refusal number (0: none) in bits 0 to 7, the line or the length in bits 32 to 63.
 pub fn packed(number: u8, high: u32) -> u64 {
     number as u64 | (high as u64) << 32
@@ -31,4 +44,9 @@ pub const FITTING: u64 = 1 << 8;
 pub fn violated(clause: u8, values: [u8; 4]) -> u64 {
     let [a, b, c, d] = values;
     u64::from_le_bytes([0, 2, 0, clause, a, b, c, d])
+}
+
+/// An answer of an engine that does not refuse.
+pub fn fit(verdict: u8, count: u32) -> u64 {
+    (verdict as u64) << 8 | (count as u64) << 32
 }

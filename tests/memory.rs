@@ -1,4 +1,5 @@
 //! A lent buffer amid other bytes, so that each byte that a call may not touch can be looked at.
+#![allow(dead_code)] // each program uses its own part
 
 use crate::random::Random;
 
@@ -41,6 +42,18 @@ impl Memory {
         let mut memory = self.clone();
         memory.lent_mut()[..start.len()].copy_from_slice(start);
         memory
+    }
+
+    /// The same memory, but each bit of the lent buffer is the other.
+    pub fn complemented(&self) -> Memory {
+        let mut memory = self.clone();
+        memory.lent_mut().iter_mut().for_each(|byte| *byte = !*byte);
+        memory
+    }
+
+    /// The same memory, but the lent buffer ends earlier.
+    pub fn truncated(&self, len: usize) -> Memory {
+        Memory { bytes: self.bytes.clone(), len }
     }
 
     /// Where the two differ first, counted from the start of the lent buffer.

@@ -48,6 +48,48 @@ pub fn full(random: &mut Random) -> Ticket {
     ticket
 }
 
+/// A small ticket whose walk is likely to make entries: facts, chains, splits and denials over few atoms. One in
+/// three has little but splits and denials, many of them, and a long walk.
+pub fn to_walk(random: &mut Random) -> Ticket {
+    let constants = random.pick(&[0, 1, 2, 2, 3, 3, 4, 5]);
+    let mut ticket = empty(random, constants, Vec::new());
+    for _ in 0..random.within(2, 8) {
+        ticket.arities.push(random.pick(&[0, 1, 1, 1, 1, 2]));
+        if ticket.atoms() > 24 {
+            *ticket.arities.last_mut().unwrap() = 0;
+        }
+    }
+    let long = random.once_in(3);
+    let chains = if long { 0 } else { random.below(6) };
+    let variables = if long { random.pick(&[0, 0, 1]) } else { random.below(4) as u8 };
+    let clauses = if long { random.within(12, 40) } else { random.within(2, 24) };
+    for _ in 0..clauses {
+        let (n, m) = match random.below(12 + chains) {
+            0 => (random.pick(&[0, 0, 1, 2]) + long as usize, 1),
+            1..=5 if long => (random.pick(&[0, 0, 0, 1]), random.pick(&[2, 2, 3, 3, 4])),
+            1..=5 => (random.pick(&[0, 0, 0, 1, 1, 2, 3, 4]), random.pick(&[2, 2, 2, 3, 4])),
+            6..=11 => (random.pick(&[1, 2, 2, 2, 2, 3, 3, 4]) + long as usize, 0),
+            _ => (random.within(1, 3), 1),
+        };
+        let clause = clause(random, &ticket, n.min(4), m, variables);
+        ticket.clauses.push(clause);
+    }
+    ticket
+}
+
+/// A ticket whose walk enters each atom of its first predicate, of arity 2, one below the other: first those with
+/// argument 00 in the second place, then the rest by them. With a second predicate, of arity 0, a denial wants them all
+/// and closes nothing; without, it closes the path that holds them all.
+pub fn deep(constants: u8, predicates: usize, limit: u32) -> Ticket {
+    let atom = |x: u8, y: u8| Atom { predicate: 0, arguments: vec![x, y] };
+    let (variable, another) = (0x80, 0x81);
+    let mut clauses: Vec<Clause> = (0..constants).map(|k| Clause { conditions: vec![], alternatives: vec![atom(k, 0); 2] }).collect();
+    clauses.extend((1..constants).map(|k| Clause { conditions: vec![atom(variable, 0)], alternatives: vec![atom(variable, k); 2] }));
+    let last = if predicates == 2 { Atom { predicate: 1, arguments: vec![] } } else { atom(constants - 1, constants - 1) };
+    clauses.push(Clause { conditions: vec![atom(variable, another), last], alternatives: vec![] });
+    Ticket { constants, limit: limit.to_be_bytes(), arities: vec![2, 0][..predicates].to_vec(), clauses }
+}
+
 fn empty(random: &mut Random, constants: u8, arities: Vec<u8>) -> Ticket {
     let mut limit = [0; 4];
     random.fill(&mut limit);

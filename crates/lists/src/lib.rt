@@ -2,7 +2,7 @@
 ghost use mathlib.Core.Path.{_≡_};
 ghost use mathlib.Core.List.{_++_};
 ghost use Prim.Native.Nat.{_≤_};
-ghost use lib.ListN.{length, drop};
+ghost use lib.ListN.{length, drop, replicate};
 ghost use Rattle.lists.specs.Bytes.{sameList};
 
 // Puts the bytes of src in front of dst's, over those that were there.
@@ -32,4 +32,15 @@ pub fn same(a: &[u8], b: &[u8]) -> bool
         i += 1;
     }
     true
+}
+
+// Makes every byte 0.
+pub fn zero(dst: &mut [u8])
+    ensures { λ _. ⌜ now (dst .exit) ≡ replicate (length (now (dst .entry))) 0 ⌝ }
+{
+    let mut i: usize = 0;
+    while i < dst.len() {
+        dst[i] = 0;
+        i += 1;
+    }
 }

@@ -3,3 +3,5 @@ pub mod CloseLaws
 pub mod MarkLaws
 pub mod ChooseLaws
 pub mod NodeLaws
+pub mod PathLaws
+pub mod WalkLaws

@@ -2,3 +2,4 @@ pub mod Node
 pub mod Visit
 pub mod Fire
 pub mod Marks
+pub mod Walk

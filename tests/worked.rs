@@ -1,0 +1,30 @@
+//! The worked tickets K1 to K9 of document 01, and what a program prints for each.
+#![allow(dead_code)] // each program uses its own part
+
+pub struct Worked {
+    pub name: &'static str,
+    pub text: String,
+    pub printed: &'static [&'static str],
+}
+
+/// Beginnings: K1's, with c = 2 and three predicates of arity 1; c = 0 and one predicate of arity 0.
+pub const K1: &str = "0101020300000064\n0201\n0201\n0201\n";
+pub const BARE: &str = "0101000100000064\n0200\n";
+
+pub fn worked() -> Vec<Worked> {
+    let predicates = "0201\n0201\n0201\n";
+    let three = "0300010000\n030102008001800280\n0301000100\n";
+    let fourth = "0301000280\nFF04\n";
+    let worked = |name, parts: &[&str], printed| Worked { name, text: parts.concat(), printed };
+    vec![
+        worked("K1", &[K1, three, fourth], &["810000000002"]),
+        worked("K2", &["0101020300000002\n", predicates, three, fourth], &["810000000002"]),
+        worked("K3", &["0101020300000001\n", predicates, three, fourth], &["810200000001"]),
+        worked("K4", &["0101020300000000\n", predicates, three, fourth], &["810200000000"]),
+        worked("K5", &[K1, three, "FF03\n"], &["810100000000", "820000", "820001", "820101", "820200", "820201"]),
+        worked("K6", &[K1, three, "03020002800001\nFF04\n"], &["810100000002", "820000", "820101", "820200"]),
+        worked("K7", &[BARE, "FF00\n"], &["810100000000", "8200"]),
+        worked("K8", &[BARE, "030000\nFF01\n"], &["810000000000"]),
+        worked("K9", &[BARE, "0300020000\n03010000\nFF02\n"], &["810000000002"]),
+    ]
+}
