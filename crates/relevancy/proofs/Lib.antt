@@ -5,3 +5,4 @@ pub mod ChooseLaws
 pub mod NodeLaws
 pub mod PathLaws
 pub mod WalkLaws
+pub mod EngineLaws

@@ -3,3 +3,4 @@ pub mod Visit
 pub mod Fire
 pub mod Marks
 pub mod Walk
+pub mod Engine

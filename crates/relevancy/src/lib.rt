@@ -1,5 +1,7 @@
+// The relevancy engine: it marks the relevant facts afresh at each node.
 pub mod choose;
 pub mod close;
+pub mod engine;
 pub mod mark;
 pub mod node;
 pub mod walk;
