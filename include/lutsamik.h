@@ -1,4 +1,4 @@
-/* Lutsamik: reading and writing tickets, and judging answers to them.
+/* Lutsamik: reading and writing tickets, fitting them, and judging answers to them.
  *
  * Link with liblutsamik.a (made by `rt staticlib lutsamik`, as target/staticlib/liblutsamik.a).
  * The library keeps no state, takes no memory and calls nothing back: an operation works on the
@@ -25,6 +25,7 @@ extern "C" {
 #define LUTSAMIK_TABLE_BYTES 4096
 #define LUTSAMIK_ANSWER_BYTES 1024
 #define LUTSAMIK_TEXT_BYTES 7168
+#define LUTSAMIK_WORK_BYTES 65536
 
 /* Refusals. 1 to 10 come from reading and name a line of the text; the others name none. */
 enum {
@@ -48,6 +49,13 @@ enum {
 enum {
     LUTSAMIK_FITTING = 1,
     LUTSAMIK_VIOLATED = 2
+};
+
+/* What an engine says of a ticket that it does not refuse. */
+enum {
+    LUTSAMIK_NONE = 0,  /* no set of atoms is a fitting */
+    LUTSAMIK_FITS = 1,  /* the answer has a fitting */
+    LUTSAMIK_SPENT = 2  /* the ticket's limit on search entries stopped the walk */
 };
 
 /* Reads a ticket's text into a table.
@@ -80,6 +88,15 @@ uint64_t lutsamik_write(const uint8_t *table, size_t table_len, uint8_t *out, si
  * LUTSAMIK_BAD_ANSWER. Nothing is written. */
 uint64_t lutsamik_judge(const uint8_t *table, size_t table_len, const uint8_t *answer, size_t answer_len);
 
+/* Fits the ticket in a table, by the relevancy engine.
+ *
+ * Not refused: lutsamik_verdict says LUTSAMIK_NONE, LUTSAMIK_FITS or LUTSAMIK_SPENT, and lutsamik_count how many
+ * search entries were made. LUTSAMIK_FITS puts 1 or 0 in the answer's first A bytes, as lutsamik_judge takes them;
+ * the other two leave the answer untouched. The first LUTSAMIK_WORK_BYTES bytes of work are zero afterwards,
+ * whatever they held. Refused: LUTSAMIK_SHORT_BUFFER, then LUTSAMIK_NO_TABLE. */
+uint64_t lutsamik_fit_relevancy(const uint8_t *table, size_t table_len, uint8_t *answer, size_t answer_len,
+                                uint8_t *work, size_t work_len);
+
 /* What an operation gave back, taken apart. Bits 0 to 7: the refusal, or 0. */
 static inline unsigned lutsamik_refusal(uint64_t answer) { return (unsigned)(answer & 0xFF); }
 
@@ -88,6 +105,12 @@ static inline uint32_t lutsamik_line(uint64_t answer) { return (uint32_t)(answer
 
 /* Bits 32 to 63 of a writing that was not refused: the number of bytes written. */
 static inline uint32_t lutsamik_written(uint64_t answer) { return (uint32_t)(answer >> 32); }
+
+/* Bits 8 to 15 of a fitting that was not refused: LUTSAMIK_NONE, LUTSAMIK_FITS or LUTSAMIK_SPENT. */
+static inline unsigned lutsamik_verdict(uint64_t answer) { return (unsigned)(answer >> 8 & 0xFF); }
+
+/* Bits 32 to 63 of a fitting that was not refused: the number of search entries made. */
+static inline uint32_t lutsamik_count(uint64_t answer) { return (uint32_t)(answer >> 32); }
 
 /* Bits 8 to 15 of a judging: LUTSAMIK_FITTING or LUTSAMIK_VIOLATED; 0 where it was refused. */
 static inline unsigned lutsamik_judged(uint64_t answer) { return (unsigned)(answer >> 8 & 0xFF); }

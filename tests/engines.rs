@@ -1,8 +1,7 @@
-//! The library's engines and the walks of document 01 on many random tickets, with limits around the count: verdict,
+//! The library's relevancy engine and the walk of document 01 on many random tickets, with limits around the count: verdict,
 //! count and every byte of every buffer must agree. Usage: engines [NUMBER OF CALLS]. The same calls in every run.
 mod library;
 mod logic;
-mod magic;
 mod memory;
 mod random;
 mod reference;
@@ -12,12 +11,11 @@ mod walk;
 mod worked;
 
 use library::{fit, packed};
-use magic::{rewritten, Magic};
 use memory::{less_than, Memory};
 use random::Random;
-use reference::{Ticket, ANSWER, NO_TABLE, RULES, SHORT_BUFFER, TABLE, WORK};
+use reference::{Ticket, ANSWER, NO_TABLE, SHORT_BUFFER, TABLE, WORK};
 use report::{dump, same_answer, same_bytes, Report};
-use walk::{walk, Engine, Outcome, Relevancy, Verdict};
+use walk::{walk, Outcome, Relevancy, Verdict};
 
 const THREADS: u64 = 2;
 const DEFAULT_CALLS: u64 = 100_000;
@@ -28,19 +26,10 @@ const LONG: u32 = 200;
 /// Tickets with more instances are walked seldom, and not far.
 const LARGE: u64 = 2000;
 
-#[derive(Clone, Copy, Debug, PartialEq)]
-enum Which {
-    Relevancy,
-    Magic,
-}
-
-const BOTH: [Which; 2] = [Which::Relevancy, Which::Magic];
-
-/// What an engine is lent. The relevancy engine does not see the rules.
+/// What the engine is lent.
 #[derive(Clone)]
 struct Lent {
     table: Memory,
-    rules: Memory,
     answer: Memory,
     work: Memory,
 }
@@ -119,91 +108,53 @@ impl Run {
         }
     }
 
-    /// What both engines make of a ticket, each held against its own walk.
+    /// A call that is not refused.
     fn fitting(&mut self, ticket: &Ticket) -> Result<(), Report> {
-        let limit = u32::from_be_bytes(ticket.limit);
-        let engines: [&dyn Engine; 2] = [&Relevancy::new(ticket), &Magic::new(&rewritten(ticket), ticket)];
-        for (which, engine) in BOTH.into_iter().zip(engines) {
-            let outcome = walk(engine, limit, &mut |_, _| {});
-            let before = self.lent(&reference::encode(ticket));
-            let written = self.fits(which, &before, &outcome, None)?;
-            if which == Which::Magic {
-                let other = Lent { rules: before.rules.complemented(), ..before };
-                self.fits(which, &other, &outcome, Some(written))?;
-            }
-        }
-        Ok(())
-    }
-
-    /// One call that is not refused, and the rules buffer after it. Where that of a call is given whose rules buffer
-    /// held other bits, the two tell what was written: a first part, no longer than it may be, and the same in both.
-    fn fits(&mut self, which: Which, before: &Lent, outcome: &Outcome, other: Option<Memory>) -> Result<Memory, Report> {
+        let outcome = walk(&Relevancy::new(ticket), u32::from_be_bytes(ticket.limit), &mut |_, _| {});
+        let before = self.lent(&reference::encode(ticket));
         let mut after = before.clone();
         after.work = after.work.beginning_with(&[0; WORK]);
         if let Some(fitting) = &outcome.fitting {
             let marks: Vec<u8> = fitting.iter().map(|is_in| *is_in as u8).collect();
             after.answer = after.answer.beginning_with(&marks);
         }
-        self.tally.verdicts[which as usize][outcome.verdict as usize] += 1;
-        let found = self.call(which, before, fit(outcome.verdict as u8, outcome.count), &after, which == Which::Magic)?;
-        if let Some(other) = other {
-            let written = found.lent().iter().zip(other.lent()).take_while(|(one, other)| one == other).count();
-            let rules = before.rules.beginning_with(&found.lent()[..written.min(RULES)]);
-            let other_rules = before.rules.complemented().beginning_with(&found.lent()[..written.min(RULES)]);
-            let about = || format!("the magic engine wrote {written} bytes of rules\n{}", dump(before.table.lent()));
-            same_bytes("rules", &rules, &found, about)?;
-            same_bytes("rules", &other_rules, &other, about)?;
-        }
-        Ok(found)
+        self.tally.verdicts[outcome.verdict as usize] += 1;
+        self.call(&before, fit(outcome.verdict as u8, outcome.count), &after)
     }
 
     /// Refusals: a buffer too short, whatever the table, and a table that no text reads to.
     fn refused(&mut self, table: &[u8], is_table: bool) -> Result<(), Report> {
-        for which in BOTH {
-            let mut lent = self.lent(table);
-            if !is_table {
-                self.refusal(which, &lent, NO_TABLE)?;
-            }
-            let random = &mut self.random;
-            let mut buffers = vec![(&mut lent.table, TABLE), (&mut lent.answer, ANSWER), (&mut lent.work, WORK)];
-            if which == Which::Magic {
-                buffers.push((&mut lent.rules, RULES));
-            }
-            let many = buffers.len();
-            let sure = random.below(many);
-            for (i, (buffer, required)) in buffers.into_iter().enumerate() {
-                if i == sure || random.once_in(4) {
-                    *buffer = buffer.truncated(less_than(random, required));
-                }
-            }
-            self.refusal(which, &lent, SHORT_BUFFER)?;
+        let mut lent = self.lent(table);
+        if !is_table {
+            self.refusal(&lent, NO_TABLE)?;
         }
-        Ok(())
+        let random = &mut self.random;
+        let buffers = [(&mut lent.table, TABLE), (&mut lent.answer, ANSWER), (&mut lent.work, WORK)];
+        let sure = random.below(buffers.len());
+        for (i, (buffer, required)) in buffers.into_iter().enumerate() {
+            if i == sure || random.once_in(4) {
+                *buffer = buffer.truncated(less_than(random, required));
+            }
+        }
+        self.refusal(&lent, SHORT_BUFFER)
     }
 
-    fn refusal(&mut self, which: Which, lent: &Lent, number: u8) -> Result<(), Report> {
-        self.tally.refused[which as usize][(number == NO_TABLE) as usize] += 1;
-        self.call(which, lent, packed(number, 0), lent, false).map(drop)
+    fn refusal(&mut self, lent: &Lent, number: u8) -> Result<(), Report> {
+        self.tally.refused[(number == NO_TABLE) as usize] += 1;
+        self.call(lent, packed(number, 0), lent)
     }
 
-    /// One call by the library: the rules buffer after it, which is compared unless the rules are written.
-    fn call(&mut self, which: Which, before: &Lent, answer: u64, after: &Lent, writes_rules: bool) -> Result<Memory, Report> {
+    /// One call by the library.
+    fn call(&mut self, before: &Lent, answer: u64, after: &Lent) -> Result<(), Report> {
         self.tally.calls += 1;
-        let Lent { table, mut rules, answer: mut marks, mut work } = before.clone();
-        let found = match which {
-            Which::Relevancy => library::fit_relevancy(table.lent(), marks.lent_mut(), work.lent_mut()),
-            Which::Magic => library::fit_magic(table.lent(), rules.lent_mut(), marks.lent_mut(), work.lent_mut()),
-        };
-        let lens = [&table, &rules, &marks, &work].map(|memory| memory.lent().len());
-        let about = || format!("{which:?}, table, rules, answer, work of {lens:?} bytes\n{}", dump(table.lent()));
+        let Lent { table, answer: mut marks, mut work } = before.clone();
+        let found = library::fit_relevancy(table.lent(), marks.lent_mut(), work.lent_mut());
+        let lens = [&table, &marks, &work].map(|memory| memory.lent().len());
+        let about = || format!("table, answer, work of {lens:?} bytes\n{}", dump(table.lent()));
         same_answer(answer, found, about)?;
         same_bytes("table", &after.table, &table, about)?;
         same_bytes("answer", &after.answer, &marks, about)?;
-        same_bytes("work", &after.work, &work, about)?;
-        if !writes_rules {
-            same_bytes("rules", &after.rules, &rules, about)?;
-        }
-        Ok(rules)
+        same_bytes("work", &after.work, &work, about)
     }
 
     /// Buffers that are long enough, or longer, with any bytes in them but for the table.
@@ -213,36 +164,31 @@ impl Run {
             let len = required + random.pick(&[0, 0, 1, 2, 57]);
             Memory::random(random, len)
         };
-        Lent { table: buffer(TABLE).beginning_with(table), rules: buffer(RULES), answer: buffer(ANSWER), work: buffer(WORK) }
+        Lent { table: buffer(TABLE).beginning_with(table), answer: buffer(ANSWER), work: buffer(WORK) }
     }
 }
 
-/// What a run has met, by engine: verdicts, and refusals 11 and 31.
+/// What a run has met: none, fits and spent, and refusals 11 and 31.
 #[derive(Default)]
 struct Tally {
     calls: u64,
-    verdicts: [[u64; 3]; 2],
-    refused: [[u64; 2]; 2],
+    verdicts: [u64; 3],
+    refused: [u64; 2],
 }
 
 impl Tally {
     fn add(&mut self, other: &Tally) {
         self.calls += other.calls;
-        for which in 0..2 {
-            (0..3).for_each(|i| self.verdicts[which][i] += other.verdicts[which][i]);
-            (0..2).for_each(|i| self.refused[which][i] += other.refused[which][i]);
-        }
+        (0..3).for_each(|i| self.verdicts[i] += other.verdicts[i]);
+        (0..2).for_each(|i| self.refused[i] += other.refused[i]);
     }
 
     fn print(&self) {
-        println!("               none     fits    spent       11       31");
-        for which in BOTH {
-            let numbers = self.verdicts[which as usize].iter().chain(&self.refused[which as usize]);
-            println!("{:10} {}", format!("{which:?}"), numbers.map(|number| format!("{number:9}")).collect::<String>());
-        }
+        println!("     none     fits    spent       11       31");
+        println!("{}", self.verdicts.iter().chain(&self.refused).map(|number| format!("{number:9}")).collect::<String>());
     }
 
     fn lacks_something(&self) -> bool {
-        self.verdicts.iter().flatten().chain(self.refused.iter().flatten()).any(|number| *number == 0)
+        self.verdicts.iter().chain(&self.refused).any(|number| *number == 0)
     }
 }

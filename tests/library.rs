@@ -6,9 +6,6 @@ extern "C" {
     fn lutsamik_write(table: *const u8, table_len: usize, out: *mut u8, out_len: usize) -> u64;
     fn lutsamik_judge(table: *const u8, table_len: usize, answer: *const u8, answer_len: usize) -> u64;
     fn lutsamik_fit_relevancy(table: *const u8, table_len: usize, answer: *mut u8, answer_len: usize, work: *mut u8, work_len: usize) -> u64;
-    fn lutsamik_fit_magic(
-        table: *const u8, table_len: usize, rules: *mut u8, rules_len: usize, answer: *mut u8, answer_len: usize, work: *mut u8, work_len: usize,
-    ) -> u64;
 }
 
 pub fn read(text: &[u8], table: &mut [u8]) -> u64 {
@@ -26,11 +23,6 @@ pub fn judge(table: &[u8], answer: &[u8]) -> u64 {
 
 pub fn fit_relevancy(table: &[u8], answer: &mut [u8], work: &mut [u8]) -> u64 {
     unsafe { lutsamik_fit_relevancy(table.as_ptr(), table.len(), answer.as_mut_ptr(), answer.len(), work.as_mut_ptr(), work.len()) }
-}
-
-pub fn fit_magic(table: &[u8], rules: &mut [u8], answer: &mut [u8], work: &mut [u8]) -> u64 {
-    let (rules, rules_len) = (rules.as_mut_ptr(), rules.len());
-    unsafe { lutsamik_fit_magic(table.as_ptr(), table.len(), rules, rules_len, answer.as_mut_ptr(), answer.len(), work.as_mut_ptr(), work.len()) }
 }
 
 /// An answer of reading or writing: the refusal number (0: none) in bits 0 to 7, the line or the length in bits 32 to 63.

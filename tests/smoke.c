@@ -1,4 +1,4 @@
-/* The library from C: reads ticket K1 of document 01, writes it back, asks for the same text, and has two answers to it judged. */
+/* The library from C: reads ticket K1 of document 01, writes it back, asks for the same text, has two answers to it judged, and fits it. */
 #include "lutsamik.h"
 
 #include <stdio.h>
@@ -10,6 +10,7 @@ static const char K1[] = "0101020300000064\n0201\n0201\n0201\n"
 static uint8_t table[LUTSAMIK_TABLE_BYTES];
 static uint8_t out[LUTSAMIK_TEXT_BYTES];
 static uint8_t marks[LUTSAMIK_ANSWER_BYTES];
+static uint8_t work[LUTSAMIK_WORK_BYTES];
 
 static int fail(const char *what, uint64_t answer) {
     printf("smoke: %s: answer %llX\n", what, (unsigned long long)answer);
@@ -44,6 +45,13 @@ int main(void) {
     if (lutsamik_clause(answer) != 1 || lutsamik_value(answer, 0) != 1 || lutsamik_value(answer, 1) != 0)
         return fail("K1's clause 1 is not found violated where 80 is 1", answer);
 
-    puts("smoke: K1 is read, written back, and judged");
+    /* Document 01 has none for K1, after two entries; the marks stay as they are. */
+    answer = lutsamik_fit_relevancy(table, sizeof table, marks, sizeof marks, work, sizeof work);
+    if (lutsamik_refusal(answer) != LUTSAMIK_OK || lutsamik_verdict(answer) != LUTSAMIK_NONE || lutsamik_count(answer) != 2)
+        return fail("K1 is not found to have no fitting, after two entries", answer);
+    if (marks[0] != 1 || marks[1] != 1 || marks[2] != 0 || marks[4] != 1)
+        return fail("none does not leave the answer", answer);
+
+    puts("smoke: K1 is read, written back, judged and fitted");
     return 0;
 }

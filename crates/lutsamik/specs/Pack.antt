@@ -6,6 +6,8 @@ use Rattle.problem.specs.declared.read.Reading.{Reading}
 use Rattle.problem.specs.declared.read.Reading.the-variants.{Refused, Accepted}
 use Rattle.problem.specs.declared.write.Writing.{Writing}
 use Rattle.problem.specs.declared.write.Writing.the-variants.{Unwritten, Written}
+use Rattle.relevancy.specs.declared.engine.Verdict.{Verdict}
+use Rattle.relevancy.specs.declared.engine.Verdict.the-variants as verdict
 
 -- with the line of a refusal
 abbrev pub packReading : Reading → ℕ
@@ -23,3 +25,10 @@ packJudging (Unjudged e) = e
 packJudging Fitting = 256
 packJudging (Violated k a b c d) =
     512 + 16777216 * k + 4294967296 * a + (1099511627776 * b + 281474976710656 * c) + 72057594037927936 * d
+
+-- with the count of entries; bits 8 to 15 have the verdict as a program prints it: 0 for none, 1 for fits, 2 for spent
+abbrev pub packVerdict : Verdict → ℕ
+packVerdict (verdict.Refused e) = e
+packVerdict (verdict.Fits n) = 256 + 4294967296 * n
+packVerdict (verdict.None n) = 4294967296 * n
+packVerdict (verdict.Spent n) = 512 + 4294967296 * n

@@ -2,10 +2,12 @@
 use ground::check::Judging;
 use problem::read::Reading;
 use problem::write::Writing;
+use relevancy::engine::Verdict;
 ghost use mathlib.Core.Path.{_≡_};
 ghost use Rattle.problem.specs.Table.{readResult, readLeaves, writeResult, writeLeaves};
 ghost use Rattle.ground.specs.ModelCheck.{judgeResult};
-ghost use Rattle.lutsamik.specs.Pack.{packReading, packWriting, packJudging};
+ghost use Rattle.relevancy.specs.Engine.{fitResult, fitAnswer, fitWork};
+ghost use Rattle.lutsamik.specs.Pack.{packReading, packWriting, packJudging, packVerdict};
 
 fn pack_reading(r: Reading) -> u64
     ensures { λ n. ⌜ n ≡ packReading r ⌝ }
@@ -39,6 +41,17 @@ fn pack_judging(j: Judging) -> u64
     }
 }
 
+fn pack_verdict(v: Verdict) -> u64
+    ensures { λ n. ⌜ n ≡ packVerdict v ⌝ }
+{
+    match v {
+        Verdict::Refused(e) => e as u64,
+        Verdict::Fits(count) => 256 + 4294967296 * (count as u64),
+        Verdict::None(count) => 4294967296 * (count as u64),
+        Verdict::Spent(count) => 512 + 4294967296 * (count as u64),
+    }
+}
+
 // Reads a text into a table of 4,096 bytes.
 #[no_mangle]
 pub extern "C" fn lutsamik_read(text: &[u8], table: &mut [u8]) -> u64
@@ -61,4 +74,12 @@ pub extern "C" fn lutsamik_judge(table: &[u8], answer: &[u8]) -> u64
     ensures { λ n. ⌜ n ≡ packJudging (judgeResult (now (table .entry)) (now (answer .entry))) ⌝ }
 {
     pack_judging(ground::check::judge(table, answer))
+}
+
+// Fits a table by the relevancy engine, with 1,024 answer bytes and 65,536 to work in.
+#[no_mangle]
+pub extern "C" fn lutsamik_fit_relevancy(table: &[u8], answer: &mut [u8], work: &mut [u8]) -> u64
+    ensures { λ n. ⌜ (n ≡ packVerdict (fitResult (now (table .entry)) (now (answer .entry)) (now (work .entry)))) × (now (answer .exit) ≡ fitAnswer (now (table .entry)) (now (answer .entry)) (now (work .entry))) × (now (work .exit) ≡ fitWork (now (table .entry)) (now (answer .entry)) (now (work .entry))) ⌝ }
+{
+    pack_verdict(relevancy::engine::fit(table, answer, work))
 }
