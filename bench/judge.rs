@@ -1,12 +1,16 @@
 //! How long judging takes: the tickets with the most ground conditions, with answers that are fittings, so that
-//! every instance is looked at; by the library and by a judge in Rust. Both check the table first.
+//! every instance is looked at; by the library, by a judge in Rust made for speed, and by the tests' own independent judge.
+//! All check the table first.
 mod judger;
 #[path = "../tests/library.rs"]
 mod library;
+#[path = "../tests/logic.rs"]
+mod logic;
 #[path = "../tests/reference.rs"]
 mod reference;
 
 use library::{packed, FITTING};
+use logic::Judging;
 use reference::{Atom, Clause, Ticket, ANSWER, TEXT_OUT};
 use std::hint::black_box;
 use std::time::Instant;
@@ -16,21 +20,22 @@ const CALLS: u32 = 10;
 
 fn main() {
     println!("best of {ROUNDS} rounds of {CALLS} calls\n");
-    println!("variables  constants  clauses  instances  conditions   library, ns   of it checking   Rust, ns   library / Rust");
+    println!("variables  constants  clauses  instances  conditions   library, ns   of it checking   fast, ns   library / fast   independent, ns   library / independent");
     let mut halves = Vec::new();
     for (variables, constants, n, clauses) in [(2, 32, 4, 4), (2, 32, 4, 2), (2, 32, 1, 16), (3, 8, 4, 8), (3, 10, 1, 16), (4, 8, 4, 1), (0, 2, 4, 64)] {
         let ticket = ticket(variables, constants, n, clauses);
         let instances: u64 = ticket.clauses.iter().map(|clause| ticket.instances(clause)).sum();
-        let [library, checking, rust] = measure(&ticket);
+        let [library, checking, fast, independent] = measure(&ticket);
         println!(
-            "{variables:9} {constants:10} {clauses:8} {instances:10} {:11} {library:13.0} {checking:16.0} {rust:10.0} {:16.2}",
+            "{variables:9} {constants:10} {clauses:8} {instances:10} {:11} {library:13.0} {checking:16.0} {fast:10.0} {:16.2} {independent:17.0} {:23.2}",
             n as u64 * instances,
-            library / rust
+            library / fast,
+            library / independent
         );
-        halves.push((library - checking, rust));
+        halves.push((library - checking, fast));
     }
     let (whole, half) = (halves[0], halves[1]);
-    println!("\nfour clauses to two: library past checking {:.2}, Rust {:.2}", whole.0 / half.0, whole.1 / half.1);
+    println!("\nfour clauses to two: library past checking {:.2}, fast {:.2}", whole.0 / half.0, whole.1 / half.1);
 }
 
 /// Clauses with this many conditions of the first predicate, and four alternatives: three of the last predicate, then
@@ -47,21 +52,31 @@ fn ticket(variables: u8, constants: u8, n: usize, clauses: usize) -> Ticket {
     Ticket { constants, limit: [0; 4], arities: vec![arity; predicates], clauses: vec![clause; clauses] }
 }
 
-/// Nanoseconds for judging by the library, for checking the table by it, which is writing it, and for judging in
-/// Rust. The three take turns, so that each meets the same conditions.
-fn measure(ticket: &Ticket) -> [f64; 3] {
+/// Nanoseconds for judging by the library, for checking the table by it, which is writing it, and for judging by the
+/// fast and by the independent judge. They take turns, so that each meets the same conditions.
+fn measure(ticket: &Ticket) -> [f64; 4] {
     let (text, table) = (reference::print(ticket), reference::encode(ticket));
     assert!(reference::read(&text).is_ok(), "the ticket is refused");
     let mut answer = vec![0; ANSWER];
     answer[..ticket.power(ticket.arities[0] as usize) as usize].fill(1);
     let mut out = vec![0; TEXT_OUT];
-    let mut best = [f64::MAX; 3];
+    let mut best = [f64::MAX; 4];
     for _ in 0..ROUNDS {
         best[0] = best[0].min(time(FITTING, || library::judge(black_box(&table), black_box(&answer))));
         best[1] = best[1].min(time(packed(0, text.len() as u32), || library::write(black_box(&table), black_box(&mut out))));
         best[2] = best[2].min(time(FITTING, || judger::judge(black_box(&table), black_box(&answer))));
+        best[3] = best[3].min(time(FITTING, || independent(black_box(&table), black_box(&answer))));
     }
     best
+}
+
+/// FITTING, or 0 for anything else.
+fn independent(table: &[u8], answer: &[u8]) -> u64 {
+    let ground = reference::ticket_in(table).map(|ticket| logic::ground(&ticket));
+    match logic::judge(table.len(), ground.as_ref(), answer) {
+        Judging::Fitting => FITTING,
+        _ => 0,
+    }
 }
 
 /// Nanoseconds for one call, each with the answer expected.
