@@ -15,7 +15,7 @@ use Rattle.lists.proofs.Member.{all-map, every-all, all-every, some-fails, firs
 use Rattle.lists.proofs.Test.{and-T, T-left, T-right, T-true, T-false, decided, fails}
 use Rattle.search.specs.Ground.{Model}
 use Rattle.problem.specs.Problem.{Problem}
-use Rattle.ground.specs.declared.check.Judging.the-variants.{Fitting, Violated}
+use Rattle.ground.specs.declared.check.Judging.the-variants.{Model as IsModel, Violated}
 use Rattle.ground.specs.Instance.{Instance, number, clauseOf, groundAtoms, groundOf}
 use Rattle.ground.specs.ModelCheck.{lead, isSet, violates, named, checkOf}
 use Rattle.ground.specs.Claims.{FirstViolated}
@@ -163,9 +163,9 @@ module _ (q : Problem) (answer : List ℕ) (i : Instance) where
 
 -- ---- the answer named
 
-pub named-fitting : (o : Option Instance) → named o ≡ Fitting → o ≡ none
-named-fitting none e = refl
-named-fitting (some i) e = absurd (let z : _≡_ {A = ℕ} 0 1 = cc in omega arith)
+pub named-model : (o : Option Instance) → named o ≡ IsModel → o ≡ none
+named-model none e = refl
+named-model (some i) e = absurd (let z : _≡_ {A = ℕ} 0 1 = cc in omega arith)
 
 -- the instance that is named by clause and values
 pub record Named (o : Option Instance) (k a b c d : ℕ) : Type 0 where
@@ -182,16 +182,16 @@ named-violated none k a b c d e = absurd (let z : _≡_ {A = ℕ} 0 1 = cc in om
 named-violated (some i) k a b c d e = record { found = i; some-found = refl; clause = cc; value-80 = cc; value-81 = cc; value-82 = cc; value-83 = cc }
 
 module _ (q : Problem) (answer : List ℕ) where
-  pub fitting-model : checkOf q answer ≡ Fitting → Model (groundOf q) (λ a. T (isSet answer a))
+  pub checked-model : checkOf q answer ≡ IsModel → Model (groundOf q) (λ a. T (isSet answer a))
   unfolding checkOf
-  fitting-model e =
+  checked-model e =
       let is = (groundOf q) .instances in
       all-map (λ i. T (not (violates q answer i))) (Kept q answer) (kept-from q answer) is
-      (first-none (violates q answer) is (named-fitting (first (violates q answer) is) e))
+      (first-none (violates q answer) is (named-model (first (violates q answer) is) e))
 
-  pub model-fitting : Model (groundOf q) (λ a. T (isSet answer a)) → checkOf q answer ≡ Fitting
+  pub model-checked : Model (groundOf q) (λ a. T (isSet answer a)) → checkOf q answer ≡ IsModel
   unfolding checkOf
-  model-fitting m =
+  model-checked m =
       let is = (groundOf q) .instances in
       ap named (none-first (violates q answer) is (all-map (Kept q answer) (λ i. T (not (violates q answer i))) (kept-to q answer) is m))
 

@@ -16,7 +16,7 @@ use Rattle.problem.specs.Layout.{problemIn}
 use Rattle.problem.specs.Table.{Lawful, isValid}
 use Rattle.problem.proofs.Access.{atoms-in}
 use Rattle.problem.proofs.Theorems.{valid-from, valid-lawful}
-use Rattle.ground.specs.declared.check.Judging.the-variants.{Unjudged, Fitting, Violated}
+use Rattle.ground.specs.declared.check.Judging.the-variants.{Unjudged, Model as IsModel, Violated}
 use Rattle.ground.specs.Instance.{Instance, number, clauseOf, instancesOf, groundAtoms}
 use Rattle.ground.specs.ModelCheck.{lead, isSet, violatedBy, violates, named, clauseCheck, checkOf, judgeResult}
 pub use Rattle.ground.proofs.Turns.{ClauseKnown, clause-known, clause-listed, clauses-byte, numbers-take}
@@ -88,9 +88,9 @@ module _ (q : Problem) (flags : List ℕ) (k : ℕ) (fits : ClauseFits (q .const
         let value = turn-value q (violates q flags) k fits values i t in
         ap named (turn-stops q (violates q flags) k fits values i t h (violated-same ∙ sym e ∙ f)) ∙ rw (← value 0, ← value 1, ← value 2, ← value 3)
 
-    pub clause-fitting : q .constants ^ v ≤ i → clauseCheck q flags k ≡ Fitting
+    pub clause-model : q .constants ^ v ≤ i → clauseCheck q flags k ≡ IsModel
     unfolding clauseCheck
-    clause-fitting h = ap named (turn-ends q (violates q flags) k fits values i t h)
+    clause-model h = ap named (turn-ends q (violates q flags) k fits values i t h)
 
 -- ---- the clauses
 
@@ -110,7 +110,7 @@ module _ (q : Problem) (flags : List ℕ) where
         let n = named-violated (first (violates q flags) (instancesOf q k)) j a b c d e in
         ap named (clauses-stop q (violates q flags) k h u (n .found) (n .some-found)) ∙ sym (ap named (n .some-found)) ∙ e
 
-  pub check-end : (k : ℕ) → length (q .clauses) ≤ k → Undecided q (violates q flags) k → checkOf q flags ≡ Fitting
+  pub check-end : (k : ℕ) → length (q .clauses) ≤ k → Undecided q (violates q flags) k → checkOf q flags ≡ IsModel
   unfolding checkOf
   check-end k h u = ap named (clauses-end q (violates q flags) k h u)
 

@@ -9,7 +9,7 @@ use lib.ListN.{length, getD}
 use Rattle.lists.specs.Member.{All}
 use Rattle.search.specs.Ground.{Proper, Model}
 use Rattle.problem.specs.Problem.{Problem, Fits, atomCount}
-use Rattle.ground.specs.declared.check.Judging.the-variants.{Fitting, Violated}
+use Rattle.ground.specs.declared.check.Judging.the-variants.{Model as IsModel, Violated}
 use Rattle.ground.specs.Instance.{Instance, GroundAtom, AtomOf, groundNumber, clauseOf, instancesOf, groundOf}
 use Rattle.ground.specs.ModelCheck.{lead, isSet, violates, checkOf}
 
@@ -42,6 +42,6 @@ pub record Theorems : Type 0 where
   pub violated : (q : Problem) (answer : List ℕ) (i : Instance)
       → T (violates q answer i) ↔ (All (λ a. T (isSet answer a)) ((groundOf q) .conds i) × All (λ a. T (not (isSet answer a))) ((groundOf q) .alts i))
   -- "fitting" exactly if the set is a model
-  pub fitting : (q : Problem) (answer : List ℕ) → (checkOf q answer ≡ Fitting) ↔ Model (groundOf q) (λ a. T (isSet answer a))
+  pub model : (q : Problem) (answer : List ℕ) → (checkOf q answer ≡ IsModel) ↔ Model (groundOf q) (λ a. T (isSet answer a))
   -- and what is named otherwise is the first violated instance
   pub first-named : (q : Problem) (answer : List ℕ) (k a b c d : ℕ) → checkOf q answer ≡ Violated k a b c d → FirstViolated q answer k a b c d

@@ -12,7 +12,7 @@ use Rattle.problem.specs.Problem.{AtomFits, Problem, atomCount}
 use Rattle.problem.specs.Layout.{atomIn, aritiesIn, problemIn}
 use Rattle.problem.specs.Table.{isValid}
 use Rattle.ground.specs.declared.check.Judging.{Judging}
-use Rattle.ground.specs.declared.check.Judging.the-variants.{Unjudged, Fitting, Violated}
+use Rattle.ground.specs.declared.check.Judging.the-variants.{Unjudged, Model as IsModel, Violated}
 use Rattle.ground.specs.Instance.{Instance, valueOf, clauseOf, instancesOf, groundAtoms, groundOf}
 
 -- how many hold from the left, before the first that does not
@@ -35,7 +35,7 @@ violates q flags i = violatedBy q flags (i .clause) (i .values)
 
 -- "by clause and values, with 0 for a variable the clause lacks"
 abbrev pub named : Option Instance → Judging
-named none = Fitting
+named none = IsModel
 named (some i) = Violated (i .clause) (getD (i .values) 0 0) (getD (i .values) 1 0) (getD (i .values) 2 0) (getD (i .values) 3 0)
 
 unfoldable pub clauseCheck : Problem → List ℕ → ℕ → Judging

@@ -17,7 +17,7 @@ ghost use Rattle.ground.specs.ModelCheck.{clauseCheck, checkOf, judgeRes
 // What the model check says: a refusal's number, that the answer is a model, or the first violated instance, by clause and values.
 pub enum Judging {
     Unjudged(u8),
-    Fitting,
+    Model,
     Violated(u8, u8, u8, u8, u8),
 }
 
@@ -52,7 +52,7 @@ fn check_clause(table: &[u8], k: u8, flags: &[u8]) -> Judging
         step(&mut values, v, c);
         i += 1;
     }
-    Judging::Fitting
+    Judging::Model
 }
 
 // The first violated instance of a table's clauses, if there is one.
@@ -73,7 +73,7 @@ fn check_clauses(table: &[u8], flags: &[u8]) -> Judging
         }
         k += 1;
     }
-    Judging::Fitting
+    Judging::Model
 }
 
 // Whether the first n bytes are each 0 or 1.

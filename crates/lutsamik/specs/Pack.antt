@@ -1,7 +1,7 @@
 -- An operation's answer as one number: the refusal's number in bits 0 to 7, 0 where there is none, and in bits 32 to 63 what goes with the answer.
 use Prim.Native.Nat.{ℕ, _+_, _*_}
 use Rattle.ground.specs.declared.check.Judging.{Judging}
-use Rattle.ground.specs.declared.check.Judging.the-variants.{Unjudged, Fitting, Violated}
+use Rattle.ground.specs.declared.check.Judging.the-variants.{Unjudged, Model as IsModel, Violated}
 use Rattle.problem.specs.declared.read.Reading.{Reading}
 use Rattle.problem.specs.declared.read.Reading.the-variants.{Refused, Accepted}
 use Rattle.problem.specs.declared.write.Writing.{Writing}
@@ -22,13 +22,13 @@ packWriting (Written n) = 4294967296 * n
 -- bits 8 to 15 say 1 for a fitting and 2 for a violated instance, whose clause stands in bits 24 to 31 and whose values in bits 32 to 63
 abbrev pub packJudging : Judging → ℕ
 packJudging (Unjudged e) = e
-packJudging Fitting = 256
+packJudging IsModel = 256
 packJudging (Violated k a b c d) =
     512 + 16777216 * k + 4294967296 * a + (1099511627776 * b + 281474976710656 * c) + 72057594037927936 * d
 
 -- with the count of entries; bits 8 to 15 have the verdict as a program prints it: 0 for none, 1 for fits, 2 for spent
 abbrev pub packVerdict : Verdict → ℕ
 packVerdict (verdict.Refused e) = e
-packVerdict (verdict.Fits n) = 256 + 4294967296 * n
-packVerdict (verdict.None n) = 4294967296 * n
-packVerdict (verdict.Spent n) = 512 + 4294967296 * n
+packVerdict (verdict.Satisfied n) = 256 + 4294967296 * n
+packVerdict (verdict.Refuted n) = 4294967296 * n
+packVerdict (verdict.Exhausted n) = 512 + 4294967296 * n

@@ -32,7 +32,7 @@ fn pack_judging(j: Judging) -> u64
 {
     match j {
         Judging::Unjudged(e) => e as u64,
-        Judging::Fitting => 256,
+        Judging::Model => 256,
         Judging::Violated(k, a, b, c, d) => {
             let low = 512 + 16777216 * (k as u64) + 4294967296 * (a as u64);
             let high = 1099511627776 * (b as u64) + 281474976710656 * (c as u64);
@@ -46,9 +46,9 @@ fn pack_verdict(v: Verdict) -> u64
 {
     match v {
         Verdict::Refused(e) => e as u64,
-        Verdict::Fits(count) => 256 + 4294967296 * (count as u64),
-        Verdict::None(count) => 4294967296 * (count as u64),
-        Verdict::Spent(count) => 512 + 4294967296 * (count as u64),
+        Verdict::Satisfied(count) => 256 + 4294967296 * (count as u64),
+        Verdict::Refuted(count) => 4294967296 * (count as u64),
+        Verdict::Exhausted(count) => 512 + 4294967296 * (count as u64),
     }
 }
 

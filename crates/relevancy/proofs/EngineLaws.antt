@@ -18,7 +18,7 @@ use Rattle.problem.specs.Problem.{limitOf}
 use Rattle.problem.specs.Layout.{problemIn}
 use Rattle.problem.specs.Table.{isValid}
 use Rattle.relevancy.specs.declared.engine.Verdict.{Verdict}
-use Rattle.relevancy.specs.declared.engine.Verdict.the-variants.{Refused, Fits, None, Spent}
+use Rattle.relevancy.specs.declared.engine.Verdict.the-variants.{Refused, Satisfied as IsSatisfied, Refuted as IsRefuted, Exhausted as IsExhausted}
 use Rattle.relevancy.specs.Node.{groundIn}
 use Rattle.relevancy.specs.Walk.{Blank, factsIn, outcomeIn}
 use Rattle.relevancy.specs.Engine.{verdictOf, answerOf, tooShort, fitResult, fitAnswer, fitWork}
@@ -65,21 +65,21 @@ bits-same x n h =
     (λ a l. rw (facts-bit x a (omega arith), facts-bit x (1025 + a) (omega arith)))
 
 module _ (tb answer : List ℕ) where
-  pub run-fits : (x : List ℕ) (n c : ℕ) → n ≡ (groundIn tb) .atoms → n ≤ 1024
+  pub run-satisfied : (x : List ℕ) (n c : ℕ) → n ≡ (groundIn tb) .atoms → n ≤ 1024
       → outcomeIn tb ≡ Satisfied c (modelBits ((groundIn tb) .atoms) (isSet (factsIn x)) (λ a. isSet (factsIn x) (1025 + a)))
-      → (Fits c ≡ verdictOf (outcomeIn tb)) × (map bit (modelBits n (isSet x) (λ a. isSet x (1025 + a))) ++ drop n answer ≡ answerOf (outcomeIn tb) answer)
-  run-fits x n c e h o =
+      → (IsSatisfied c ≡ verdictOf (outcomeIn tb)) × (map bit (modelBits n (isSet x) (λ a. isSet x (1025 + a))) ++ drop n answer ≡ answerOf (outcomeIn tb) answer)
+  run-satisfied x n c e h o =
       let o′ : outcomeIn tb ≡ Satisfied c (modelBits n (isSet x) (λ a. isSet x (1025 + a))) = o ∙ ap (λ (k : ℕ). Satisfied c (modelBits k (isSet (factsIn x)) (λ a. isSet (factsIn x) (1025 + a)))) (sym e) ∙ ap (Satisfied c) (sym (bits-same x n h)) in
       let size : length (modelBits n (isSet x) (λ a. isSet x (1025 + a))) ≡ n = tabulate-length (λ a. isSet x a || not (isSet x (1025 + a))) n in (
         sym (ap verdictOf o′),
         ap (λ (k : ℕ). map bit (modelBits n (isSet x) (λ a. isSet x (1025 + a))) ++ drop k answer) (sym size) ∙ sym (ap (λ (w : Outcome). answerOf w answer) o′),
       )
 
-  pub run-none : (c : ℕ) → outcomeIn tb ≡ Refuted c → (None c ≡ verdictOf (outcomeIn tb)) × (answer ≡ answerOf (outcomeIn tb) answer)
-  run-none c o = (sym (ap verdictOf o), sym (ap (λ (w : Outcome). answerOf w answer) o))
+  pub run-refuted : (c : ℕ) → outcomeIn tb ≡ Refuted c → (IsRefuted c ≡ verdictOf (outcomeIn tb)) × (answer ≡ answerOf (outcomeIn tb) answer)
+  run-refuted c o = (sym (ap verdictOf o), sym (ap (λ (w : Outcome). answerOf w answer) o))
 
-  pub run-spent : (c : ℕ) → outcomeIn tb ≡ Exhausted c → (Spent c ≡ verdictOf (outcomeIn tb)) × (answer ≡ answerOf (outcomeIn tb) answer)
-  run-spent c o = (sym (ap verdictOf o), sym (ap (λ (w : Outcome). answerOf w answer) o))
+  pub run-exhausted : (c : ℕ) → outcomeIn tb ≡ Exhausted c → (IsExhausted c ≡ verdictOf (outcomeIn tb)) × (answer ≡ answerOf (outcomeIn tb) answer)
+  run-exhausted c o = (sym (ap verdictOf o), sym (ap (λ (w : Outcome). answerOf w answer) o))
 
 -- ---- the ways out of the operation
 

@@ -35,7 +35,7 @@ use Rattle.relevancy.specs.declared.node.Node.the-variants.{Closed as Cl
 use Rattle.relevancy.proofs.node.Node.{the-type as node-type}
 use Rattle.relevancy.proofs.walk.Walked.{the-type as walked-type}
 use Rattle.relevancy.specs.declared.walk.Walked.{Walked}
-use Rattle.relevancy.specs.declared.walk.Walked.the-variants.{Shut, Opened, Spent}
+use Rattle.relevancy.specs.declared.walk.Walked.the-variants.{Shut, Opened, Exhausted as LimitMet}
 use Rattle.relevancy.proofs.PathLaws.{site-same, path-same, path-more, path-deep, put-facts, put-size, put-rest, facts-room, site-back, alts-length, alts-few}
 
 -- ---- what is true under a list, and one atom more
@@ -273,9 +273,9 @@ module _ (tb : List ℕ) (h : Lawful tb) (work : List ℕ) (depth n done count l
         → Ended tb work depth done (runsFrom tb work depth count limit) count limit (Opened x) tried
     split-opened x tried e = split-tries ∙ e
 
-    pub split-spent : (tried : List ℕ) → Ended tb noted-left depth (markAt noted-left depth) (triesFrom tb noted-left depth count limit) count limit Spent tried
-        → Ended tb work depth done (runsFrom tb work depth count limit) count limit Spent tried
-    split-spent tried e = split-tries ∙ e
+    pub split-exhausted : (tried : List ℕ) → Ended tb noted-left depth (markAt noted-left depth) (triesFrom tb noted-left depth count limit) count limit LimitMet tried
+        → Ended tb work depth done (runsFrom tb work depth count limit) count limit LimitMet tried
+    split-exhausted tried e = split-tries ∙ e
 
 -- ---- trying
 
@@ -306,8 +306,8 @@ module _ (tb : List ℕ) (h : Lawful tb) (work : List ℕ) (depth count limit : 
     left-cons = drop-cons (altsAt tb work depth) (nextAt work depth) 0 some-left
 
     -- one is left, and the limit is met
-    pub tried-spent : count ≡ limit → Ended tb work depth (markAt work depth) (triesFrom tb work depth count limit) count limit Spent work
-    tried-spent e =
+    pub tried-exhausted : count ≡ limit → Ended tb work depth (markAt work depth) (triesFrom tb work depth count limit) count limit LimitMet work
+    tried-exhausted e =
         let none-left : limit - count ≡ 0 = omega arith in
         let more : 0 < length (drop (nextAt work depth) (altsAt tb work depth)) = rw left-cons (omega arith) in
         resume-spent finds (siteAt tb work depth) (drop (nextAt work depth) (altsAt tb work depth)) (pathIn tb work depth) (back (pathIn tb work depth)) (limit - count) count none-left more ∙ ap Exhausted e
@@ -332,8 +332,8 @@ module _ (tb : List ℕ) (h : Lawful tb) (work : List ℕ) (depth count limit : 
           → Ended tb work depth (markAt work depth) (triesFrom tb work depth count limit) count limit (Opened x) after
       tried-opened x after e = tried-one ∙ e
 
-      pub tried-out : (after : List ℕ) → Ended tb left (depth + 1) (markAt work depth) (runsFrom tb left (depth + 1) (count + 1) limit) (count + 1) limit Spent after
-          → Ended tb work depth (markAt work depth) (triesFrom tb work depth count limit) count limit Spent after
+      pub tried-out : (after : List ℕ) → Ended tb left (depth + 1) (markAt work depth) (runsFrom tb left (depth + 1) (count + 1) limit) (count + 1) limit LimitMet after
+          → Ended tb work depth (markAt work depth) (triesFrom tb work depth count limit) count limit LimitMet after
       tried-out after e = tried-one ∙ e
 
       -- it is shut: the next one is tried
@@ -409,14 +409,14 @@ module _ (tb : List ℕ) (h : Lawful tb) (work : List ℕ) (depth count limit : 
               kept = λ i l k. e .kept i l k ∙ after-kept i l k;
             }
         after-ended (Opened y) last e = after-tries ∙ e
-        after-ended Spent last e = after-tries ∙ e
+        after-ended LimitMet last e = after-tries ∙ e
 
 -- ---- the answers that a match tells apart
 
-pub walked-spent : (w : Walked) → tagOf walked-type w ≡ 2 → w ≡ Spent
-walked-spent (Shut c) t = let z : _≡_ {A = ℕ} 0 2 = t in absurd (omega arith)
-walked-spent (Opened c) t = let z : _≡_ {A = ℕ} 1 2 = t in absurd (omega arith)
-walked-spent Spent t = refl
+pub walked-exhausted : (w : Walked) → tagOf walked-type w ≡ 2 → w ≡ LimitMet
+walked-exhausted (Shut c) t = let z : _≡_ {A = ℕ} 0 2 = t in absurd (omega arith)
+walked-exhausted (Opened c) t = let z : _≡_ {A = ℕ} 1 2 = t in absurd (omega arith)
+walked-exhausted LimitMet t = refl
 
 pub node-open : (x : Node) → tagOf node-type x ≡ 1 → (m : ℕ) × (x ≡ Open m)
 node-open (ClosedAt m) t = let z : _≡_ {A = ℕ} 0 1 = t in absurd (omega arith)
@@ -491,4 +491,4 @@ root-told tb work limit e x left ended = go x ended
     go : (y : Walked) → Ended tb work 0 0 (runsFrom tb work 0 0 limit) 0 limit y left → TellsOutcome tb y left
     go (Shut c) h = whole ∙ h .runs
     go (Opened c) h = whole ∙ h
-    go Spent h = whole ∙ h ∙ ap Exhausted e
+    go LimitMet h = whole ∙ h ∙ ap Exhausted e

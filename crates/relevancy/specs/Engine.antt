@@ -8,13 +8,13 @@ use Rattle.search.specs.Machine.{Outcome, Satisfied, Refuted, Exhausted}
 use Rattle.store.specs.Store.{isSet, bit}
 use Rattle.problem.specs.Table.{isValid}
 use Rattle.relevancy.specs.declared.engine.Verdict.{Verdict}
-use Rattle.relevancy.specs.declared.engine.Verdict.the-variants.{Refused, Fits, None, Spent}
+use Rattle.relevancy.specs.declared.engine.Verdict.the-variants.{Refused, Satisfied as IsSatisfied, Refuted as IsRefuted, Exhausted as IsExhausted}
 use Rattle.relevancy.specs.Walk.{outcomeIn}
 
 abbrev pub verdictOf : Outcome → Verdict
-verdictOf (Satisfied n bits) = Fits n
-verdictOf (Refuted n) = None n
-verdictOf (Exhausted n) = Spent n
+verdictOf (Satisfied n bits) = IsSatisfied n
+verdictOf (Refuted n) = IsRefuted n
+verdictOf (Exhausted n) = IsExhausted n
 
 -- "An engine that answers fits puts 1 or 0 in the first A answer bytes; none and spent leave the answer untouched."
 abbrev pub answerOf : Outcome → List ℕ → List ℕ

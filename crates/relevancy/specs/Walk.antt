@@ -14,7 +14,7 @@ use Rattle.problem.specs.Layout.{problemIn}
 use Rattle.ground.specs.Instance.{Instance, clauseOf}
 use Rattle.relevancy.specs.Node.{groundIn, Opening, Rests, Seeded, Stands, Listed}
 use Rattle.relevancy.specs.declared.walk.Walked.{Walked}
-use Rattle.relevancy.specs.declared.walk.Walked.the-variants.{Shut, Opened, Spent}
+use Rattle.relevancy.specs.declared.walk.Walked.the-variants.{Shut, Opened, Exhausted as LimitMet}
 
 -- ---- the path in the buffer
 
@@ -113,7 +113,7 @@ abbrev pub Ended : List ℕ → List ℕ → ℕ → ℕ → Outcome → ℕ →
 Ended tb work depth done begun count limit (Shut c) left = AllShut tb work depth done begun count limit c left
 Ended tb work depth done begun count limit (Opened c) left =
     begun ≡ Satisfied c (modelBits ((groundIn tb) .atoms) (isSet (factsIn left)) (λ a. isSet (factsIn left) (1025 + a)))
-Ended tb work depth done begun count limit Spent left = begun ≡ Exhausted limit
+Ended tb work depth done begun count limit LimitMet left = begun ≡ Exhausted limit
 
 -- running on from the node at this depth
 abbrev pub runsFrom : List ℕ → List ℕ → ℕ → ℕ → ℕ → Outcome
@@ -141,4 +141,4 @@ abbrev pub TellsOutcome : List ℕ → Walked → List ℕ → Type 0
 TellsOutcome tb (Shut c) left = outcomeIn tb ≡ Refuted c
 TellsOutcome tb (Opened c) left =
     outcomeIn tb ≡ Satisfied c (modelBits ((groundIn tb) .atoms) (isSet (factsIn left)) (λ a. isSet (factsIn left) (1025 + a)))
-TellsOutcome tb Spent left = outcomeIn tb ≡ Exhausted (limitOf ((problemIn tb) .limit))
+TellsOutcome tb LimitMet left = outcomeIn tb ≡ Exhausted (limitOf ((problemIn tb) .limit))

@@ -19,9 +19,9 @@ ghost use Rattle.relevancy.specs.Engine.{verdictOf, answerOf, chosenBit,
 // What the engine says: a refusal's number, or fits, none or spent with the count of entries.
 pub enum Verdict {
     Refused(u8),
-    Fits(u32),
-    None(u32),
-    Spent(u32),
+    Satisfied(u32),
+    Refuted(u32),
+    Exhausted(u32),
 }
 
 // The limit in a table.
@@ -71,16 +71,16 @@ fn run(table: &[u8], answer: &mut [u8], work: &mut [u8]) -> Verdict
         Walked::Opened(count) => {
             give(work, answer, pair(table[8], table[9]));
             lists::zero(work);
-            return Verdict::Fits(count);
+            return Verdict::Satisfied(count);
         }
         Walked::Shut(count) => {
             lists::zero(work);
-            return Verdict::None(count);
+            return Verdict::Refuted(count);
         }
         _ => {}
     }
     lists::zero(work);
-    Verdict::Spent(limit_in(table))
+    Verdict::Exhausted(limit_in(table))
 }
 
 // Fits a lent table: the relevancy walk under the table's own limit.

@@ -16,7 +16,7 @@ ghost use Rattle.relevancy.specs.Walk.{nextAt, markAt, altsAt, Fresh, Pa
 pub enum Walked {
     Shut(u32),
     Opened(u32),
-    Spent,
+    Exhausted,
 }
 
 // Writes a split node down, with all alternatives left.
@@ -81,7 +81,7 @@ pub fn visit(
                     return Walked::Opened(opened);
                 }
                 _ => {
-                    return Walked::Spent;
+                    return Walked::Exhausted;
                 }
             }
         }
@@ -106,7 +106,7 @@ fn try_next(table: &[u8], work: &mut [u8], depth: usize, count: u32, limit: u32)
         return Walked::Shut(count);
     }
     if count == limit {
-        return Walked::Spent;
+        return Walked::Exhausted;
     }
     let mark = pair(work[at + 6], work[at + 7]);
     let n = enter(table, work, depth);
@@ -120,7 +120,7 @@ fn try_next(table: &[u8], work: &mut [u8], depth: usize, count: u32, limit: u32)
         }
         _ => {}
     }
-    Walked::Spent
+    Walked::Exhausted
 }
 
 // A number of four bytes, the high byte first.

@@ -8,7 +8,7 @@ use Rattle.problem.specs.Layout.{problemIn}
 use Rattle.ground.specs.Instance.{clauseOf}
 use Rattle.ground.specs.ModelCheck.{violates}
 use Rattle.ground.proofs.Turns.{Turn, ClauseKnown, clause-known, clause-listed, turn-starts, turn-placed, turn-asks, turn-next}
-use Rattle.ground.proofs.CheckLoops.{violated-same, clause-violated, clause-fitting}
+use Rattle.ground.proofs.CheckLoops.{violated-same, clause-violated, clause-model}
 use Rattle.ground.proofs.check.check_clause.Statement.{statement}
 use Rattle.ground.proofs.check.check_clause.Tie as tie
 
@@ -94,4 +94,4 @@ check-clause-spec =
     (λ c.
     let l = c .before .loop in
     let s = c .before .before .before .before .before .before .before .before .before in
-    sym (clause-fitting (problemIn (s .args .table .now)) (s .args .flags .now) (s .args .k) (known s .fits) (l .values) (l .i) (l .inv) (omega (arith, counted (c .before .before))))))  -- returns-2
+    sym (clause-model (problemIn (s .args .table .now)) (s .args .flags .now) (s .args .k) (known s .fits) (l .values) (l .i) (l .inv) (omega (arith, counted (c .before .before))))))  -- returns-2

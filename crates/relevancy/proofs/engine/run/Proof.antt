@@ -11,7 +11,7 @@ use Rattle.relevancy.specs.declared.walk.Walked.{Walked}
 use Rattle.relevancy.specs.Node.{groundIn}
 use Rattle.relevancy.specs.Walk.{TellsOutcome, outcomeIn}
 use Rattle.relevancy.proofs.CloseLaws.{false-bytes, atoms-small}
-use Rattle.relevancy.proofs.EngineLaws.{limit-of, blank-zeros, run-fits, run-none, run-spent}
+use Rattle.relevancy.proofs.EngineLaws.{limit-of, blank-zeros, run-satisfied, run-refuted, run-exhausted}
 use Rattle.relevancy.proofs.engine.run.Statement.{statement}
 use Rattle.relevancy.proofs.engine.run.Tie as tie
 
@@ -58,7 +58,7 @@ run-spec =
     let n : p .pair .result ≡ (groundIn tb) .atoms = p .pair .ensures ∙ false-bytes tb (s .pre .0) in
     let few : p .pair .result ≤ 1024 = omega (arith, atoms-small tb (s .pre .0)) in
     let tells = subst (λ (x : Walked). TellsOutcome tb x (w .walk .last .1 .0)) (k .walked .given .1) (w .walk .ensures) in
-    let fits = run-fits tb (s .args .answer .now) (w .walk .last .1 .0) (p .pair .result) (k .walked .given .0 .0) n few tells in
+    let fits = run-satisfied tb (s .args .answer .now) (w .walk .last .1 .0) (p .pair .result) (k .walked .given .0 .0) n few tells in
     let size : length (w .walk .last .1 .0) ≡ 65536 = omega (arith, w .walk .kept .1 .0, z .zero .kept .0, s .pre .1 .1) in
     (fits .0, g .give .ensures ∙ fits .1, z2 .zero2 .ensures ∙ ap (λ (m : ℕ). replicate m 0) size))  -- returns
     (λ c. search needs)
@@ -72,7 +72,7 @@ run-spec =
     let s = w .before .before .before .before .before .before .before .before .before in
     let tb : List ℕ = s .args .table .now in
     let tells = subst (λ (x : Walked). TellsOutcome tb x (w .walk .last .1 .0)) (k .walked2 .given .1) (w .walk .ensures) in
-    let none = run-none tb (s .args .answer .now) (k .walked2 .given .0 .0) tells in
+    let none = run-refuted tb (s .args .answer .now) (k .walked2 .given .0 .0) tells in
     let size : length (w .walk .last .1 .0) ≡ 65536 = omega (arith, w .walk .kept .1 .0, z .zero .kept .0, s .pre .1 .1) in
     (none .0, none .1, z2 .zero3 .ensures ∙ ap (λ (m : ℕ). replicate m 0) size))  -- returns-2
     (λ c. search needs)
@@ -87,6 +87,6 @@ run-spec =
     let s = w .before .before .before .before .before .before .before .before .before in
     let tb : List ℕ = s .args .table .now in
     let tells = subst (λ (x : Walked). TellsOutcome tb x (w .walk .last .1 .0)) (k .enum-told .given .1) (w .walk .ensures) in
-    let spent = run-spent tb (s .args .answer .now) (c .limit-in .result) (tells ∙ ap Exhausted (sym (c .limit-in .ensures ∙ limit-of tb))) in
+    let spent = run-exhausted tb (s .args .answer .now) (c .limit-in .result) (tells ∙ ap Exhausted (sym (c .limit-in .ensures ∙ limit-of tb))) in
     let size : length (w .walk .last .1 .0) ≡ 65536 = omega (arith, w .walk .kept .1 .0, z .zero .kept .0, s .pre .1 .1) in
     (spent .0, spent .1, z2 .zero4 .ensures ∙ ap (λ (m : ℕ). replicate m 0) size)))  -- returns-3

@@ -12,10 +12,10 @@ use Rattle.ground.proofs.Turns.{ClauseKnown}
 use Rattle.store.specs.Store.{Store}
 use Rattle.store.proofs.Laws.{store-few}
 use Rattle.relevancy.specs.declared.node.Node.the-variants.{Closed, Open, Split}
-use Rattle.relevancy.specs.declared.walk.Walked.the-variants.{Shut, Opened, Spent}
+use Rattle.relevancy.specs.declared.walk.Walked.the-variants.{Shut, Opened, Exhausted as LimitMet}
 use Rattle.relevancy.specs.Walk.{nodeAt, nextAt, markAt, factsIn, Fresh, runsFrom, triesFrom}
 use Rattle.relevancy.proofs.PathLaws.{path-deep, put-facts, put-size, site-clause}
-use Rattle.relevancy.proofs.WalkLaws.{visit-open, visit-closed, split-parted, split-shut, split-opened, split-spent, tried-none, tried-spent, tried-opened, tried-out, after-next, after-parted, after-ended, walked-spent, node-open, ended-same, settled-as, left-some, left-none, left-four}
+use Rattle.relevancy.proofs.WalkLaws.{visit-open, visit-closed, split-parted, split-shut, split-opened, split-exhausted, tried-none, tried-exhausted, tried-opened, tried-out, after-next, after-parted, after-ended, walked-exhausted, node-open, ended-same, settled-as, left-some, left-none, left-four}
 use Rattle.relevancy.proofs.walk.try_next.Reads as try-next
 use Rattle.relevancy.proofs.walk.try_next.Kinds as try-next-kinds
 use Rattle.relevancy.proofs.walk.+try_next+visit.Lts-try_next as try-next-lts
@@ -106,7 +106,7 @@ pub +try-next+visit-spec : {M : Type 1} → statement M
     let d = s .args .depth in
     let h = s .pre .1 .0 in
     let p = s .pre .1 .1 .0 in
-    tried-spent tb h w d (s .args .count) (s .args .limit) p (s .pre .1 .1 .1) (left-some tb h w d p (c .before .if1 .left)) (c .if2 .taken))  -- returns-2
+    tried-exhausted tb h w d (s .args .count) (s .args .limit) p (s .pre .1 .1 .1) (left-some tb h w d p (c .before .if1 .left)) (c .if2 .taken))  -- returns-2
     (λ c.
     let s = c .before .before .before .before .before .before .before in
     omega (arith, deep t s, s .pre .1 .1 .0 .size))  -- add-pair
@@ -257,8 +257,8 @@ pub +try-next+visit-spec : {M : Type 1} → statement M
     let went = e .enter .ensures in
     let same = c .before .before .before .before .before .before .before .before .before .before .pair .ensures in
     tried-out tb h w d count limit p within some-left open-yet left (e .enter .result) went (v .visit .last .1 .0)
-    (ended-same tb left (d + 1) (c .before .before .before .before .before .before .before .before .before .before .pair .result) (markAt w d) (runsFrom tb left (d + 1) (count + 1) limit) (count + 1) limit (v .visit .result) Spent (v .visit .last .1 .0) same
-    (walked-spent (v .visit .result) (c .before .match .keys3)) (v .visit .ensures))))  --- returns-5
+    (ended-same tb left (d + 1) (c .before .before .before .before .before .before .before .before .before .before .pair .result) (markAt w d) (runsFrom tb left (d + 1) (count + 1) limit) (count + 1) limit (v .visit .result) LimitMet (v .visit .last .1 .0) same
+    (walked-exhausted (v .visit .result) (c .before .match .keys3)) (v .visit .ensures))))  --- returns-5
     (λ t.
     visit-lts.spec (settle-reads.Asked, settle-reads.Learnt, note-reads.Asked, note-reads.Learnt, try-next-below t, try-next.Post, undo-reads.Asked, undo-reads.Learnt) (visit-at t) visit.Post
     (λ c. search needs)  -- sub-settle
@@ -457,9 +457,9 @@ pub +try-next+visit-spec : {M : Type 1} → statement M
     let long : length noted-left ≡ 65536 = o .note .kept .0 ∙ put-size w facts (p .size) (found .leaves .store .room) in
     let y = c .before .before .before .before in
     let tried = y .try-next .last .1 .0 in
-    split-spent tb h w d n done (s .args .count) (s .args .limit) p facts (g .0 .0) (g .0 .1 .0) (g .0 .1 .1 .0) (g .0 .1 .1 .1 .0) (g .0 .1 .1 .1 .1 .0) (g .0 .1 .1 .1 .1 .1 .0) found noted-left long (o .note .ensures) tried
-    (ended-same tb noted-left d (markAt noted-left d) (markAt noted-left d) (triesFrom tb noted-left d (s .args .count) (s .args .limit)) (s .args .count) (s .args .limit) (y .try-next .result) Spent tried refl
-    (walked-spent (y .try-next .result) (c .before .match2 .keys3)) (y .try-next .ensures)))  -- returns-3
+    split-exhausted tb h w d n done (s .args .count) (s .args .limit) p facts (g .0 .0) (g .0 .1 .0) (g .0 .1 .1 .0) (g .0 .1 .1 .1 .0) (g .0 .1 .1 .1 .1 .0) (g .0 .1 .1 .1 .1 .1 .0) found noted-left long (o .note .ensures) tried
+    (ended-same tb noted-left d (markAt noted-left d) (markAt noted-left d) (triesFrom tb noted-left d (s .args .count) (s .args .limit)) (s .args .count) (s .args .limit) (y .try-next .result) LimitMet tried refl
+    (walked-exhausted (y .try-next .result) (c .before .match2 .keys3)) (y .try-next .ensures)))  -- returns-3
     (λ c. search needs)  -- enum-known-node-2
     (λ c. search needs)  -- sub-undo-2
     (λ c. search needs)  -- part-undo-start-2
