@@ -20,7 +20,8 @@ use Rattle.problem.specs.Table.{isValid}
 use Rattle.relevancy.specs.declared.engine.Verdict.{Verdict}
 use Rattle.relevancy.specs.declared.engine.Verdict.the-variants.{Refused, Satisfied as IsSatisfied, Refuted as IsRefuted, Exhausted as IsExhausted}
 use Rattle.relevancy.specs.Node.{groundIn}
-use Rattle.relevancy.specs.Walk.{Blank, factsIn, outcomeIn}
+use Rattle.relevancy.specs.Place.{factsIn, bitsIn, Blank}
+use Rattle.relevancy.specs.Walk.{outcomeIn}
 use Rattle.relevancy.specs.Engine.{verdictOf, answerOf, tooShort, fitResult, fitAnswer, fitWork}
 
 -- the limit's bytes
@@ -66,7 +67,7 @@ bits-same x n h =
 
 module _ (tb answer : List ℕ) where
   pub run-satisfied : (x : List ℕ) (n c : ℕ) → n ≡ (groundIn tb) .atoms → n ≤ 1024
-      → outcomeIn tb ≡ Satisfied c (modelBits ((groundIn tb) .atoms) (isSet (factsIn x)) (λ a. isSet (factsIn x) (1025 + a)))
+      → outcomeIn tb ≡ Satisfied c (bitsIn tb x)
       → (IsSatisfied c ≡ verdictOf (outcomeIn tb)) × (map bit (modelBits n (isSet x) (λ a. isSet x (1025 + a))) ++ drop n answer ≡ answerOf (outcomeIn tb) answer)
   run-satisfied x n c e h o =
       let o′ : outcomeIn tb ≡ Satisfied c (modelBits n (isSet x) (λ a. isSet x (1025 + a))) = o ∙ ap (λ (k : ℕ). Satisfied c (modelBits k (isSet (factsIn x)) (λ a. isSet (factsIn x) (1025 + a)))) (sym e) ∙ ap (Satisfied c) (sym (bits-same x n h)) in

@@ -4,5 +4,6 @@ pub mod MarkLaws
 pub mod ChooseLaws
 pub mod NodeLaws
 pub mod PathLaws
+pub mod PlaceLaws
 pub mod WalkLaws
 pub mod EngineLaws

@@ -21,7 +21,7 @@ use Rattle.ground.proofs.Instances.{ground-proper}
 use Rattle.ground.proofs.Turns.{ClauseKnown, clause-known, numbers-take}
 use Rattle.relevancy.specs.declared.choose.Choice.the-variants.{At}
 use Rattle.relevancy.specs.Node.{groundIn, choiceOf, Listed}
-use Rattle.relevancy.specs.Walk.{nodeAt, fourAt, siteAt, nextAt, altsAt, branchOf, pathIn, factsIn, PathKept, Noted}
+use Rattle.relevancy.specs.Place.{nodeAt, fourAt, siteAt, nextAt, altsAt, branchOf, pathIn, factsIn, PathKept, Noted}
 use Rattle.relevancy.proofs.NodeLaws.{atoms-few}
 use mathlib.Core.Option.{some}
 

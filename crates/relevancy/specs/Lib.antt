@@ -2,5 +2,6 @@ pub mod Node
 pub mod Visit
 pub mod Fire
 pub mod Marks
+pub mod Place
 pub mod Walk
 pub mod Engine

@@ -4,4 +4,5 @@ pub mod close;
 pub mod engine;
 pub mod mark;
 pub mod node;
+pub mod place;
 pub mod walk;

@@ -1,16 +1,14 @@
 // The walk: visiting a node, which calls the trying of alternatives, which calls visiting.
-use crate::close::start;
-use crate::node::Node;
-use crate::node::settle;
-use ground::atom::number_at;
+use crate::place::Found;
+use crate::place::place;
+use crate::place::root;
 use ground::atom::pair;
-use store::add;
 use store::undo;
 ghost use mathlib.Core.Path.{_≡_};
-ghost use Prim.Native.Nat.{_+_, _*_, _≤_, _<_};
-ghost use lib.ListN.{length};
+ghost use Prim.Native.Nat.{_+_, _*_, _≤_};
 ghost use Rattle.problem.specs.Table.{Lawful};
-ghost use Rattle.relevancy.specs.Walk.{nextAt, markAt, altsAt, Fresh, Parted, Noted, Entered, Ended, runsFrom, triesFrom, Blank, TellsOutcome};
+ghost use Rattle.relevancy.specs.Place.{markAt, Parted, Reached, Blank};
+ghost use Rattle.relevancy.specs.Walk.{Ended, runsFrom, triesFrom, TellsOutcome};
 
 // How a part of the walk ends: all closed after so many entries, open after so many, or the limit met.
 pub enum Walked {
@@ -19,58 +17,23 @@ pub enum Walked {
     Exhausted,
 }
 
-// Writes a split node down, with all alternatives left.
-fn note(work: &mut [u8], depth: usize, m: usize, k: u8, a: u8, b: u8, c: u8, d: u8)
-    requires { ⌜ (length (now work) ≡ 65536) × (depth ≤ 1024) × (m ≤ 2050) ⌝ }
-    ensures { λ _. ⌜ Noted (now (work .entry)) depth m k a b c d (now (work .exit)) ⌝ }
-{
-    let at = 55302 + 8 * depth;
-    work[at] = k;
-    work[at + 1] = a;
-    work[at + 2] = b;
-    work[at + 3] = c;
-    work[at + 4] = d;
-    work[at + 5] = 0;
-    work[at + 6] = (m % 256) as u8;
-    work[at + 7] = (m / 256 % 256) as u8;
-}
-
-// Enters the next alternative of a split node; how many facts there are then.
-fn enter(table: &[u8], work: &mut [u8], depth: usize) -> usize
-    requires { ⌜ Lawful (now table) ⌝ }
-    requires { ⌜ Parted (now table) (now work) depth ⌝ }
-    requires { ⌜ nextAt (now work) depth < length (altsAt (now table) (now work) depth) ⌝ }
-    ensures { λ n. ⌜ Entered (now (table .entry)) (now (work .entry)) depth (now (work .exit)) n ⌝ }
-{
-    let at = 55302 + 8 * depth;
-    let values = [work[at + 1], work[at + 2], work[at + 3], work[at + 4]];
-    let next = work[at + 5];
-    let slot = 144 + 56 * (work[at] as usize) + 32 + 6 * (next as usize);
-    let a = number_at(table, slot, &values);
-    let mark = pair(work[at + 6], work[at + 7]);
-    work[at + 5] = next + 1;
-    add(&mut work[0..6150], 2050, mark, a)
-}
-
-// Visits the node at `depth`, whose truths begin with n facts, of which `done` are worked off.
+// Visits the node at `depth`, which is found so; its facts are taken back to the first `done` where all is closed.
 pub fn visit(
     table: &[u8],
     work: &mut [u8],
     depth: usize,
-    n: usize,
     done: usize,
+    found: Found,
     count: u32,
     limit: u32,
 ) -> Walked
     requires { ⌜ Lawful (now table) ⌝ }
-    requires { ⌜ Fresh (now table) (now work) depth n done ⌝ }
+    requires { ⌜ Reached (now table) (now work) depth done found ⌝ }
     requires { ⌜ count ≤ limit ⌝ }
     ensures { λ x. ⌜ Ended (now (table .entry)) (now (work .entry)) depth done (runsFrom (now (table .entry)) (now (work .entry)) depth count limit) count limit x (now (work .exit)) ⌝ }
 {
-    let node = settle(table, &mut work[0..6150], n, done);
-    match node {
-        Node::Split(m, k, a, b, c, d) => {
-            note(work, depth, m, k, a, b, c, d);
+    match found {
+        Found::Split(m) => {
             let walked = try_next(table, work, depth, count, limit);
             match walked {
                 Walked::Shut(shut) => {
@@ -85,7 +48,7 @@ pub fn visit(
                 }
             }
         }
-        Node::Closed(m) => {
+        Found::Closed(m) => {
             undo(&mut work[0..6150], 2050, m, done);
             return Walked::Shut(count);
         }
@@ -109,8 +72,8 @@ fn try_next(table: &[u8], work: &mut [u8], depth: usize, count: u32, limit: u32)
         return Walked::Exhausted;
     }
     let mark = pair(work[at + 6], work[at + 7]);
-    let n = enter(table, work, depth);
-    let walked = visit(table, work, depth + 1, n, mark, count + 1, limit);
+    let found = place(table, work, depth);
+    let walked = visit(table, work, depth + 1, mark, found, count + 1, limit);
     match walked {
         Walked::Shut(shut) => {
             return try_next(table, work, depth, shut, limit);
@@ -136,7 +99,7 @@ pub fn walk(table: &[u8], work: &mut [u8]) -> Walked
     requires { ⌜ Blank (now work) ⌝ }
     ensures { λ x. ⌜ TellsOutcome (now (table .entry)) x (now (work .exit)) ⌝ }
 {
-    let n = start(table, &mut work[0..6150]);
+    let found = root(table, work);
     let limit = number_of(table[4], table[5], table[6], table[7]);
-    visit(table, work, 0, n, 0, 0, limit)
+    visit(table, work, 0, 0, found, 0, limit)
 }

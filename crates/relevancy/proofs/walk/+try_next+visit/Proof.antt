@@ -10,12 +10,12 @@ use borrow.Fn.Kinds.{In}
 use borrow.Fn.PlainCycle.{Measures, is, falls, and}
 use Rattle.ground.proofs.Turns.{ClauseKnown}
 use Rattle.store.specs.Store.{Store}
-use Rattle.store.proofs.Laws.{store-few}
-use Rattle.relevancy.specs.declared.node.Node.the-variants.{Closed, Open, Split}
+use Rattle.relevancy.specs.declared.place.Found.the-variants.{Closed, Open, Split}
 use Rattle.relevancy.specs.declared.walk.Walked.the-variants.{Shut, Opened, Exhausted as LimitMet}
-use Rattle.relevancy.specs.Walk.{nodeAt, nextAt, markAt, factsIn, Fresh, runsFrom, triesFrom}
-use Rattle.relevancy.proofs.PathLaws.{path-deep, put-facts, put-size, site-clause}
-use Rattle.relevancy.proofs.WalkLaws.{visit-open, visit-closed, split-parted, split-shut, split-opened, split-exhausted, tried-none, tried-exhausted, tried-opened, tried-out, after-next, after-parted, after-ended, walked-exhausted, node-open, ended-same, settled-as, left-some, left-none, left-four}
+use Rattle.relevancy.specs.Place.{nodeAt, nextAt, markAt, factsIn, Reached}
+use Rattle.relevancy.specs.Walk.{runsFrom, triesFrom}
+use Rattle.relevancy.proofs.PathLaws.{path-deep, put-size, site-clause}
+use Rattle.relevancy.proofs.WalkLaws.{visit-open, visit-closed, split-shut, split-opened, split-exhausted, tried-none, tried-exhausted, tried-opened, tried-out, after-next, after-parted, after-ended, walked-exhausted, found-open, reached-as, ended-same, left-some, left-none, left-four}
 use Rattle.relevancy.proofs.walk.try_next.Reads as try-next
 use Rattle.relevancy.proofs.walk.try_next.Kinds as try-next-kinds
 use Rattle.relevancy.proofs.walk.+try_next+visit.Lts-try_next as try-next-lts
@@ -23,9 +23,7 @@ use Rattle.relevancy.proofs.walk.visit.Reads as visit
 use Rattle.relevancy.proofs.walk.visit.Kinds as visit-kinds
 use Rattle.relevancy.proofs.walk.+try_next+visit.Lts-visit as visit-lts
 use Rattle.ground.proofs.atom.pair.Reads as pair-reads
-use Rattle.relevancy.proofs.node.settle.Reads as settle-reads
-use Rattle.relevancy.proofs.walk.enter.Reads as enter-reads
-use Rattle.relevancy.proofs.walk.note.Reads as note-reads
+use Rattle.relevancy.proofs.place.place.Reads as place-reads
 use Rattle.store.proofs.undo.Reads as undo-reads
 use Rattle.relevancy.proofs.walk.+try_next+visit.{statement}
 use Rattle.relevancy.proofs.walk.+try_next+visit.Tie.{close}
@@ -50,17 +48,17 @@ abbrev visit-below : ℕ → In 2 visit-kinds.ps
 visit-below t = and 2 visit-kinds.ps (falls 2 visit-kinds.ps _<_ μ-visit t) visit.Pre
 
 -- there is a place for the node that is tried, and its clause is in the table
-deep : (t : ℕ) (s : try-next-lts.Start (pair-reads.Asked, pair-reads.Learnt, enter-reads.Asked, enter-reads.Learnt, visit-below t, visit.Post, try-next-below t, try-next.Post) (try-next-at t) try-next.Post) → s .args .depth ≤ 1024
+deep : (t : ℕ) (s : try-next-lts.Start (pair-reads.Asked, pair-reads.Learnt, place-reads.Asked, place-reads.Learnt, visit-below t, visit.Post, try-next-below t, try-next.Post) (try-next-at t) try-next.Post) → s .args .depth ≤ 1024
 deep t s = path-deep (s .args .table .now) (s .pre .1 .0) (s .args .work .now) (s .args .depth) (s .pre .1 .1 .0 .genuine)
 
-row : (t : ℕ) (s : try-next-lts.Start (pair-reads.Asked, pair-reads.Learnt, enter-reads.Asked, enter-reads.Learnt, visit-below t, visit.Post, try-next-below t, try-next.Post) (try-next-at t) try-next.Post) → ClauseKnown (s .args .table .now) (getD (s .args .work .now) (nodeAt (s .args .depth)) 0)
+row : (t : ℕ) (s : try-next-lts.Start (pair-reads.Asked, pair-reads.Learnt, place-reads.Asked, place-reads.Learnt, visit-below t, visit.Post, try-next-below t, try-next.Post) (try-next-at t) try-next.Post) → ClauseKnown (s .args .table .now) (getD (s .args .work .now) (nodeAt (s .args .depth)) 0)
 row t s = site-clause (s .args .table .now) (s .pre .1 .0) (s .args .work .now) (s .args .depth) (s .pre .1 .1 .0 .listed)
 
 pub +try-next+visit-spec : {M : Type 1} → statement M
 +try-next+visit-spec =
     close μ-try-next μ-visit
     (λ t.
-    try-next-lts.spec (pair-reads.Asked, pair-reads.Learnt, enter-reads.Asked, enter-reads.Learnt, visit-below t, visit.Post, try-next-below t, try-next.Post) (try-next-at t) try-next.Post
+    try-next-lts.spec (pair-reads.Asked, pair-reads.Learnt, place-reads.Asked, place-reads.Learnt, visit-below t, visit.Post, try-next-below t, try-next.Post) (try-next-at t) try-next.Post
     (λ c.
     let s = c .before .before in
     omega (arith, deep t s, s .pre .1 .1 .0 .size))  -- mul-at
@@ -98,7 +96,10 @@ pub +try-next+visit-spec : {M : Type 1} → statement M
     let d = s .args .depth in
     let h = s .pre .1 .0 in
     let p = s .pre .1 .1 .0 in
-    tried-none tb h w d (s .args .count) (s .args .limit) p (s .pre .1 .1 .1) (left-none tb h w d p (c .if1 .taken)))  -- returns
+    let count = s .args .count in
+    let limit = s .args .limit in
+    let within = s .pre .1 .1 .1 in
+    tried-none tb h w d count limit p within (left-none tb h w d p (c .if1 .taken)))  -- returns
     (λ c.
     let s = c .before .before .before .before .before .before .before in
     let tb = s .args .table .now in
@@ -106,7 +107,10 @@ pub +try-next+visit-spec : {M : Type 1} → statement M
     let d = s .args .depth in
     let h = s .pre .1 .0 in
     let p = s .pre .1 .1 .0 in
-    tried-exhausted tb h w d (s .args .count) (s .args .limit) p (s .pre .1 .1 .1) (left-some tb h w d p (c .before .if1 .left)) (c .if2 .taken))  -- returns-2
+    let count = s .args .count in
+    let limit = s .args .limit in
+    let within = s .pre .1 .1 .1 in
+    tried-exhausted tb h w d count limit p within (left-some tb h w d p (c .before .if1 .left)) (c .if2 .taken))  -- returns-2
     (λ c.
     let s = c .before .before .before .before .before .before .before in
     omega (arith, deep t s, s .pre .1 .1 .0 .size))  -- add-pair
@@ -127,7 +131,10 @@ pub +try-next+visit-spec : {M : Type 1} → statement M
     let d = s .args .depth in
     let h = s .pre .1 .0 in
     let p = s .pre .1 .1 .0 in
-    (h, (p, left-some tb h w d p (c .before .before .before .before .before .if1 .left))))  -- enter-requires
+    let count = s .args .count in
+    let limit = s .args .limit in
+    let within = s .pre .1 .1 .1 in
+    (h, (p, left-some tb h w d p (c .before .before .before .before .before .if1 .left))))  -- place-requires
     (λ c.
     let s = c .before .before .before .before .before .before .before .before .before .before .before .before .before .before .before in
     omega (arith, deep t s, s .pre .1 .1 .0 .size))  -- add-visit
@@ -140,11 +147,17 @@ pub +try-next+visit-spec : {M : Type 1} → statement M
     let w = s .args .work .now in
     let d = s .args .depth in
     let h = s .pre .1 .0 in
+    let p = s .pre .1 .1 .0 in
+    let count = s .args .count in
+    let limit = s .args .limit in
+    let within = s .pre .1 .1 .1 in
     let e = c .before .before .before in
+    let went = e .place .ensures in
+    let same = c .before .before .before .before .before .pair .ensures in
     let from : (1025 - d) * 6 + (4 - nextAt w d) ≡ t = s .pre .0 in
     let less : (1025 - (d + 1)) * 6 + 5 < t = omega (arith, deep t s) in
-    let more : s .args .count + 1 ≤ s .args .limit = omega (arith, s .pre .1 .1 .1, c .before .before .before .before .before .before .before .before .if2 .left) in
-    (less, (h, (subst (Fresh tb (e .enter .last .1 .0) (d + 1) (e .enter .result)) (sym (c .before .before .before .before .before .pair .ensures)) (e .enter .ensures .fresh), more))))  -- visit-requires
+    let more : count + 1 ≤ limit = omega (arith, within, c .before .before .before .before .before .before .before .before .if2 .left) in
+    (less, (h, (subst (λ (m : ℕ). Reached tb (e .place .last .1 .0) (d + 1) m (e .place .result)) (sym same) (went .reached), more))))  -- visit-requires
     (λ c. search needs)  -- enum-known-walked
     (λ c κs.
     let s = c .before .before .before .before .before .before .before .before .before .before .before .before .before .before .before .before .before .before .before .before .before .before in
@@ -153,32 +166,28 @@ pub +try-next+visit-spec : {M : Type 1} → statement M
     let d = s .args .depth in
     let h = s .pre .1 .0 in
     let p = s .pre .1 .1 .0 in
-    let v = c .before .before .before .before .before .before in
-    let e = c .before .before .before .before .before .before .before .before .before .before in
     let count = s .args .count in
     let limit = s .args .limit in
     let within = s .pre .1 .1 .1 in
     let some-left = left-some tb h w d p (c .before .before .before .before .before .before .before .before .before .before .before .before .before .before .before .before .if1 .left) in
     let open-yet : count < limit = omega (arith, within, c .before .before .before .before .before .before .before .before .before .before .before .before .before .before .before .if2 .left) in
-    let left = e .enter .last .1 .0 in
-    let went = e .enter .ensures in
+    let e = c .before .before .before .before .before .before .before .before .before .before in
+    let left = e .place .last .1 .0 in
+    let went = e .place .ensures in
     let same = c .before .before .before .before .before .before .before .before .before .before .before .before .pair .ensures in
+    let v = c .before .before .before .before .before .before in
+    let after = v .visit .last .1 .0 in
+    let size : length after ≡ 65536 = v .visit .kept .1 .0 ∙ went .reached .size in
     let g = c .before .before .walked .given in
     let x = g .0 .0 in
-    let after = v .visit .last .1 .0 in
-    let size : length after ≡ 65536 = v .visit .kept .1 .0 ∙ went .fresh .size in
     let shut = ended-same tb left (d + 1) (c .before .before .before .before .before .before .before .before .before .before .before .before .pair .result) (markAt w d) (runsFrom tb left (d + 1) (count + 1) limit) (count + 1) limit (v .visit .result) (Shut x) after same (g .1) (v .visit .ensures) in
     let from : (1025 - d) * 6 + (4 - nextAt w d) ≡ t = s .pre .0 in
-    let step : nextAt after d ≡ nextAt w d + 1 = after-next tb h w d count limit p within some-left open-yet left (e .enter .result) went x after size shut in
+    let step : nextAt after d ≡ nextAt w d + 1 = after-next tb h w d count limit p within some-left open-yet (e .place .result) left went x after size shut in
     let less : (1025 - d) * 6 + (4 - nextAt after d) < t = omega (arith, left-four tb h w d p some-left) in
-    (less, (h, (after-parted tb h w d count limit p within some-left open-yet left (e .enter .result) went x after size shut, shut .within))))  -- try-next-requires
+    (less, (h, (after-parted tb h w d count limit p within some-left open-yet (e .place .result) left went x after size shut, shut .within))))  -- try-next-requires
     (λ c.
     let s = c .before .before .before .before .before .before .before .before .before .before .before .before .before .before .before .before .before .before .before .before .before .before .before .before .before in
-    let p = s .pre .1 .1 .0 in
-    let v = c .before .before .before .before .before .before .before .before .before in
-    let e = c .before .before .before .before .before .before .before .before .before .before .before .before .before in
-    let went = e .enter .ensures in
-    c .before .before .try-next .kept .1 .0 ∙ v .visit .kept .1 .0 ∙ went .fresh .size ∙ sym (p .size))  -- same-length
+    c .before .before .try-next .kept .1 .0 ∙ c .before .before .before .before .before .before .before .before .before .visit .kept .1 .0 ∙ c .before .before .before .before .before .before .before .before .before .before .before .before .before .place .ensures .reached .size ∙ sym (s .pre .1 .1 .0 .size))  -- same-length
     (λ c.
     let s = c .before .before .before .before .before .before .before .before .before .before .before .before .before .before .before .before .before .before .before .before .before .before .before .before .before in
     let tb = s .args .table .now in
@@ -186,31 +195,27 @@ pub +try-next+visit-spec : {M : Type 1} → statement M
     let d = s .args .depth in
     let h = s .pre .1 .0 in
     let p = s .pre .1 .1 .0 in
-    let v = c .before .before .before .before .before .before .before .before .before in
-    let e = c .before .before .before .before .before .before .before .before .before .before .before .before .before in
     let count = s .args .count in
     let limit = s .args .limit in
     let within = s .pre .1 .1 .1 in
     let some-left = left-some tb h w d p (c .before .before .before .before .before .before .before .before .before .before .before .before .before .before .before .before .before .before .before .if1 .left) in
     let open-yet : count < limit = omega (arith, within, c .before .before .before .before .before .before .before .before .before .before .before .before .before .before .before .before .before .before .if2 .left) in
-    let left = e .enter .last .1 .0 in
-    let went = e .enter .ensures in
+    let e = c .before .before .before .before .before .before .before .before .before .before .before .before .before in
+    let left = e .place .last .1 .0 in
+    let went = e .place .ensures in
     let same = c .before .before .before .before .before .before .before .before .before .before .before .before .before .before .before .pair .ensures in
+    let v = c .before .before .before .before .before .before .before .before .before in
+    let after = v .visit .last .1 .0 in
+    let size : length after ≡ 65536 = v .visit .kept .1 .0 ∙ went .reached .size in
     let g = c .before .before .before .before .before .walked .given in
     let x = g .0 .0 in
-    let after = v .visit .last .1 .0 in
-    let size : length after ≡ 65536 = v .visit .kept .1 .0 ∙ went .fresh .size in
     let shut = ended-same tb left (d + 1) (c .before .before .before .before .before .before .before .before .before .before .before .before .before .before .before .pair .result) (markAt w d) (runsFrom tb left (d + 1) (count + 1) limit) (count + 1) limit (v .visit .result) (Shut x) after same (g .1) (v .visit .ensures) in
-    after-ended tb h w d count limit p within some-left open-yet left (e .enter .result) went x after size shut (c .before .before .try-next .result) (c .before .before .try-next .last .1 .0)
-    (c .before .before .try-next .ensures))  -- returns-3
+    let y = c .before .before in
+    after-ended tb h w d count limit p within some-left open-yet (e .place .result) left went x after size shut (y .try-next .result) (y .try-next .last .1 .0) (y .try-next .ensures))  -- returns-3
     (λ c. search needs)  -- enum-known-walked-2
     (λ c.
     let s = c .before .before .before .before .before .before .before .before .before .before .before .before .before .before .before .before .before .before .before .before .before in
-    let p = s .pre .1 .1 .0 in
-    let v = c .before .before .before .before .before in
-    let e = c .before .before .before .before .before .before .before .before .before in
-    let went = e .enter .ensures in
-    v .visit .kept .1 .0 ∙ went .fresh .size ∙ sym (p .size))  -- same-length-2
+    c .before .before .before .before .before .visit .kept .1 .0 ∙ c .before .before .before .before .before .before .before .before .before .place .ensures .reached .size ∙ sym (s .pre .1 .1 .0 .size))  -- same-length-2
     (λ c.
     let s = c .before .before .before .before .before .before .before .before .before .before .before .before .before .before .before .before .before .before .before .before .before in
     let tb = s .args .table .now in
@@ -218,27 +223,24 @@ pub +try-next+visit-spec : {M : Type 1} → statement M
     let d = s .args .depth in
     let h = s .pre .1 .0 in
     let p = s .pre .1 .1 .0 in
-    let v = c .before .before .before .before .before in
-    let e = c .before .before .before .before .before .before .before .before .before in
     let count = s .args .count in
     let limit = s .args .limit in
     let within = s .pre .1 .1 .1 in
     let some-left = left-some tb h w d p (c .before .before .before .before .before .before .before .before .before .before .before .before .before .before .before .if1 .left) in
     let open-yet : count < limit = omega (arith, within, c .before .before .before .before .before .before .before .before .before .before .before .before .before .before .if2 .left) in
-    let left = e .enter .last .1 .0 in
-    let went = e .enter .ensures in
+    let e = c .before .before .before .before .before .before .before .before .before in
+    let left = e .place .last .1 .0 in
+    let went = e .place .ensures in
     let same = c .before .before .before .before .before .before .before .before .before .before .before .pair .ensures in
+    let v = c .before .before .before .before .before in
+    let after = v .visit .last .1 .0 in
     let g = c .before .walked2 .given in
-    tried-opened tb h w d count limit p within some-left open-yet left (e .enter .result) went (g .0 .0) (v .visit .last .1 .0)
-    (ended-same tb left (d + 1) (c .before .before .before .before .before .before .before .before .before .before .before .pair .result) (markAt w d) (runsFrom tb left (d + 1) (count + 1) limit) (count + 1) limit (v .visit .result) (Opened (g .0 .0)) (v .visit .last .1 .0) same (g .1) (v .visit .ensures)))  -- returns-4
+    tried-opened tb h w d count limit p within some-left open-yet (e .place .result) left went (g .0 .0) after
+    (ended-same tb left (d + 1) (c .before .before .before .before .before .before .before .before .before .before .before .pair .result) (markAt w d) (runsFrom tb left (d + 1) (count + 1) limit) (count + 1) limit (v .visit .result) (Opened (g .0 .0)) after same (g .1) (v .visit .ensures)))  -- returns-4
     (λ c. search needs)  -- enum-told
     (λ c.
     let s = c .before .before .before .before .before .before .before .before .before .before .before .before .before .before .before .before .before .before .before .before in
-    let p = s .pre .1 .1 .0 in
-    let v = c .before .before .before .before in
-    let e = c .before .before .before .before .before .before .before .before in
-    let went = e .enter .ensures in
-    v .visit .kept .1 .0 ∙ went .fresh .size ∙ sym (p .size))  -- same-length-3
+    c .before .before .before .before .visit .kept .1 .0 ∙ c .before .before .before .before .before .before .before .before .place .ensures .reached .size ∙ sym (s .pre .1 .1 .0 .size))  -- same-length-3
     (λ c.
     let s = c .before .before .before .before .before .before .before .before .before .before .before .before .before .before .before .before .before .before .before .before in
     let tb = s .args .table .now in
@@ -246,297 +248,171 @@ pub +try-next+visit-spec : {M : Type 1} → statement M
     let d = s .args .depth in
     let h = s .pre .1 .0 in
     let p = s .pre .1 .1 .0 in
-    let v = c .before .before .before .before in
-    let e = c .before .before .before .before .before .before .before .before in
     let count = s .args .count in
     let limit = s .args .limit in
     let within = s .pre .1 .1 .1 in
     let some-left = left-some tb h w d p (c .before .before .before .before .before .before .before .before .before .before .before .before .before .before .if1 .left) in
     let open-yet : count < limit = omega (arith, within, c .before .before .before .before .before .before .before .before .before .before .before .before .before .if2 .left) in
-    let left = e .enter .last .1 .0 in
-    let went = e .enter .ensures in
+    let e = c .before .before .before .before .before .before .before .before in
+    let left = e .place .last .1 .0 in
+    let went = e .place .ensures in
     let same = c .before .before .before .before .before .before .before .before .before .before .pair .ensures in
-    tried-out tb h w d count limit p within some-left open-yet left (e .enter .result) went (v .visit .last .1 .0)
-    (ended-same tb left (d + 1) (c .before .before .before .before .before .before .before .before .before .before .pair .result) (markAt w d) (runsFrom tb left (d + 1) (count + 1) limit) (count + 1) limit (v .visit .result) LimitMet (v .visit .last .1 .0) same
-    (walked-exhausted (v .visit .result) (c .before .match .keys3)) (v .visit .ensures))))  --- returns-5
+    let v = c .before .before .before .before in
+    let after = v .visit .last .1 .0 in
+    tried-out tb h w d count limit p within some-left open-yet (e .place .result) left went after
+    (ended-same tb left (d + 1) (c .before .before .before .before .before .before .before .before .before .before .pair .result) (markAt w d) (runsFrom tb left (d + 1) (count + 1) limit) (count + 1) limit (v .visit .result) LimitMet after same
+    (walked-exhausted (v .visit .result) (c .before .match .keys3)) (v .visit .ensures))))  -- returns-5
     (λ t.
-    visit-lts.spec (settle-reads.Asked, settle-reads.Learnt, note-reads.Asked, note-reads.Learnt, try-next-below t, try-next.Post, undo-reads.Asked, undo-reads.Learnt) (visit-at t) visit.Post
-    (λ c. search needs)  -- sub-settle
-    (λ c. search needs)  -- part-settle-start
-    (λ c.
-    let s = c .before .before in
-    let p = s .pre .1 .1 .0 in
-    omega (arith, p .size))  -- part-settle-end
+    visit-lts.spec (try-next-below t, try-next.Post, undo-reads.Asked, undo-reads.Learnt) (visit-at t) visit.Post
+    (λ c. search needs)  -- enum-known-found
     (λ c κs.
-    let s = c .before .before .before in
-    let h = s .pre .1 .0 in
-    let p = s .pre .1 .1 .0 in
-    (h, p .opening))  -- settle-requires
-    (λ c. search needs)  -- enum-known-node
-    (λ c κs.
-    let s = c .before .before .before .before .before .before .before .before .before .before in
+    let s = c .before .before .before .before .before .before in
     let tb = s .args .table .now in
     let w = s .args .work .now in
     let d = s .args .depth in
     let h = s .pre .1 .0 in
-    let p = s .pre .1 .1 .0 in
-    let n = s .args .n in
-    let z = c .before .before .before .before .before .before in
-    let facts = z .settle .last .1 .0 in
-    let g = c .before .before .node .given in
-    let found = settled-as tb (factsIn w) n (z .settle .result) (Split (g .0 .0) (g .0 .1 .0) (g .0 .1 .1 .0) (g .0 .1 .1 .1 .0) (g .0 .1 .1 .1 .1 .0) (g .0 .1 .1 .1 .1 .1 .0)) facts (g .1) (z .settle .ensures) in
-    (put-size w facts (p .size) (found .leaves .store .room), path-deep tb h w d (p .genuine), store-few (found .leaves .store)))  -- note-requires
-    (λ c κs.
-    let s = c .before .before .before .before .before .before .before .before .before .before .before .before .before .before in
-    let tb = s .args .table .now in
-    let w = s .args .work .now in
-    let d = s .args .depth in
-    let h = s .pre .1 .0 in
-    let p = s .pre .1 .1 .0 in
-    let n = s .args .n in
-    let done = s .args .done in
-    let z = c .before .before .before .before .before .before .before .before .before .before in
-    let facts = z .settle .last .1 .0 in
-    let g = c .before .before .before .before .before .before .node .given in
-    let found = settled-as tb (factsIn w) n (z .settle .result) (Split (g .0 .0) (g .0 .1 .0) (g .0 .1 .1 .0) (g .0 .1 .1 .1 .0) (g .0 .1 .1 .1 .1 .0) (g .0 .1 .1 .1 .1 .1 .0)) facts (g .1) (z .settle .ensures) in
-    let o = c .before .before .before in
-    let noted-left = o .note .last .0 in
-    let long : length noted-left ≡ 65536 = o .note .kept .0 ∙ put-size w facts (p .size) (found .leaves .store .room) in
+    let count = s .args .count in
+    let limit = s .args .limit in
+    let within = s .pre .1 .1 .1 in
+    let g = c .before .before .found .given in
+    let at = reached-as tb w d (s .args .done) (s .args .found) (Split (g .0 .0)) (g .1) (s .pre .1 .1 .0) in
     let from : (1025 - d) * 6 + 5 ≡ t = s .pre .0 in
-    let less : (1025 - d) * 6 + (4 - nextAt noted-left d) < t = omega (arith, o .note .ensures .next) in
-    (less, (h, (split-parted tb h w d n done (s .args .count) (s .args .limit) p facts (g .0 .0) (g .0 .1 .0) (g .0 .1 .1 .0) (g .0 .1 .1 .1 .0) (g .0 .1 .1 .1 .1 .0) (g .0 .1 .1 .1 .1 .1 .0) found noted-left long (o .note .ensures), s .pre .1 .1 .1))))  -- try-next-requires
+    let less : (1025 - d) * 6 + (4 - nextAt w d) < t = omega (arith, at .ready .1) in
+    (less, (h, (at .ready .0, within))))  -- try-next-requires
     (λ c. search needs)  -- enum-known-walked
     (λ c. search needs)  -- sub-undo
     (λ c. search needs)  -- part-undo-start
-    (λ c.
-    let s = c .before .before .before .before .before .before .before .before .before .before .before .before .before .before .before .before .before .before .before .before in
-    let tb = s .args .table .now in
-    let w = s .args .work .now in
-    let p = s .pre .1 .1 .0 in
-    let n = s .args .n in
-    let z = c .before .before .before .before .before .before .before .before .before .before .before .before .before .before .before .before in
-    let facts = z .settle .last .1 .0 in
-    let g = c .before .before .before .before .before .before .before .before .before .before .before .before .node .given in
-    let found = settled-as tb (factsIn w) n (z .settle .result) (Split (g .0 .0) (g .0 .1 .0) (g .0 .1 .1 .0) (g .0 .1 .1 .1 .0) (g .0 .1 .1 .1 .1 .0) (g .0 .1 .1 .1 .1 .1 .0)) facts (g .1) (z .settle .ensures) in
-    let o = c .before .before .before .before .before .before .before .before .before in
-    let noted-left = o .note .last .0 in
-    let long : length noted-left ≡ 65536 = o .note .kept .0 ∙ put-size w facts (p .size) (found .leaves .store .room) in
-    let y = c .before .before .before .before .before in
-    let tried = y .try-next .last .1 .0 in
-    let size : length tried ≡ 65536 = y .try-next .kept .1 .0 ∙ long in
-    omega (arith, size))  -- part-undo-end
+    (λ c. omega (arith, c .before .before .before .before .before .try-next .kept .1 .0, c .before .before .before .before .before .before .before .before .before .before .before .before .pre .1 .1 .0 .size))  -- part-undo-end
     (λ c κs.
-    let s = c .before .before .before .before .before .before .before .before .before .before .before .before .before .before .before .before .before .before .before .before .before in
+    let s = c .before .before .before .before .before .before .before .before .before .before .before .before .before in
     let tb = s .args .table .now in
     let w = s .args .work .now in
     let d = s .args .depth in
-    let p = s .pre .1 .1 .0 in
-    let n = s .args .n in
-    let z = c .before .before .before .before .before .before .before .before .before .before .before .before .before .before .before .before .before in
-    let facts = z .settle .last .1 .0 in
-    let g = c .before .before .before .before .before .before .before .before .before .before .before .before .before .node .given in
-    let found = settled-as tb (factsIn w) n (z .settle .result) (Split (g .0 .0) (g .0 .1 .0) (g .0 .1 .1 .0) (g .0 .1 .1 .1 .0) (g .0 .1 .1 .1 .1 .0) (g .0 .1 .1 .1 .1 .1 .0)) facts (g .1) (z .settle .ensures) in
-    let o = c .before .before .before .before .before .before .before .before .before .before in
-    let noted-left = o .note .last .0 in
+    let h = s .pre .1 .0 in
+    let count = s .args .count in
+    let limit = s .args .limit in
+    let within = s .pre .1 .1 .1 in
+    let g = c .before .before .before .before .before .before .before .before .before .found .given in
+    let at = reached-as tb w d (s .args .done) (s .args .found) (Split (g .0 .0)) (g .1) (s .pre .1 .1 .0) in
     let y = c .before .before .before .before .before .before in
     let tried = y .try-next .last .1 .0 in
-    let x = c .before .before .walked .given in
-    let shut = ended-same tb noted-left d (markAt noted-left d) (g .0 .0) (triesFrom tb noted-left d (s .args .count) (s .args .limit)) (s .args .count) (s .args .limit) (y .try-next .result) (Shut (x .0 .0)) tried (o .note .ensures .mark) (x .1) (y .try-next .ensures) in
-    (shut .facts .store, (omega (arith, p .opening .part, found .leaves .grows), omega arith)))  -- undo-requires
+    let size : length tried ≡ 65536 = y .try-next .kept .1 .0 ∙ s .pre .1 .1 .0 .size in
+    let k = c .before .before .walked .given in
+    let shut = ended-same tb w d (markAt w d) (markAt w d) (triesFrom tb w d count limit) count limit (y .try-next .result) (Shut (k .0 .0)) tried refl (k .1) (y .try-next .ensures) in
+    let mark : markAt w d ≡ g .0 .0 = at .ready .2 in
+    (subst (λ (m : ℕ). Store 2050 (factsIn tried) m) mark (shut .facts .store), (at .ready .3, omega arith)))  -- undo-requires
     (λ c.
-    let s = c .before .before .before .before .before .before .before .before .before .before .before .before .before .before .before .before .before .before .before .before .before .before .before .before in
-    let tb = s .args .table .now in
-    let w = s .args .work .now in
-    let p = s .pre .1 .1 .0 in
-    let n = s .args .n in
-    let z = c .before .before .before .before .before .before .before .before .before .before .before .before .before .before .before .before .before .before .before .before in
-    let facts = z .settle .last .1 .0 in
-    let g = c .before .before .before .before .before .before .before .before .before .before .before .before .before .before .before .before .node .given in
-    let found = settled-as tb (factsIn w) n (z .settle .result) (Split (g .0 .0) (g .0 .1 .0) (g .0 .1 .1 .0) (g .0 .1 .1 .1 .0) (g .0 .1 .1 .1 .1 .0) (g .0 .1 .1 .1 .1 .1 .0)) facts (g .1) (z .settle .ensures) in
-    let o = c .before .before .before .before .before .before .before .before .before .before .before .before .before in
-    let noted-left = o .note .last .0 in
-    let long : length noted-left ≡ 65536 = o .note .kept .0 ∙ put-size w facts (p .size) (found .leaves .store .room) in
-    let y = c .before .before .before .before .before .before .before .before .before in
-    let tried = y .try-next .last .1 .0 in
-    let size : length tried ≡ 65536 = y .try-next .kept .1 .0 ∙ long in
-    put-size tried (c .before .before .undo .last .0) size (c .before .before .undo .ensures .store .room) ∙ sym (p .size))  -- same-length
-    (λ c.
-    let s = c .before .before .before .before .before .before .before .before .before .before .before .before .before .before .before .before .before .before .before .before .before .before .before .before in
+    let s = c .before .before .before .before .before .before .before .before .before .before .before .before .before .before .before .before in
     let tb = s .args .table .now in
     let w = s .args .work .now in
     let d = s .args .depth in
     let h = s .pre .1 .0 in
-    let p = s .pre .1 .1 .0 in
-    let n = s .args .n in
-    let done = s .args .done in
-    let z = c .before .before .before .before .before .before .before .before .before .before .before .before .before .before .before .before .before .before .before .before in
-    let facts = z .settle .last .1 .0 in
-    let g = c .before .before .before .before .before .before .before .before .before .before .before .before .before .before .before .before .node .given in
-    let found = settled-as tb (factsIn w) n (z .settle .result) (Split (g .0 .0) (g .0 .1 .0) (g .0 .1 .1 .0) (g .0 .1 .1 .1 .0) (g .0 .1 .1 .1 .1 .0) (g .0 .1 .1 .1 .1 .1 .0)) facts (g .1) (z .settle .ensures) in
-    let o = c .before .before .before .before .before .before .before .before .before .before .before .before .before in
-    let noted-left = o .note .last .0 in
-    let long : length noted-left ≡ 65536 = o .note .kept .0 ∙ put-size w facts (p .size) (found .leaves .store .room) in
+    let count = s .args .count in
+    let limit = s .args .limit in
+    let within = s .pre .1 .1 .1 in
+    let g = c .before .before .before .before .before .before .before .before .before .before .before .before .found .given in
+    let at = reached-as tb w d (s .args .done) (s .args .found) (Split (g .0 .0)) (g .1) (s .pre .1 .1 .0) in
     let y = c .before .before .before .before .before .before .before .before .before in
     let tried = y .try-next .last .1 .0 in
-    let size : length tried ≡ 65536 = y .try-next .kept .1 .0 ∙ long in
-    let x = c .before .before .before .before .before .walked .given in
-    let shut = ended-same tb noted-left d (markAt noted-left d) (markAt noted-left d) (triesFrom tb noted-left d (s .args .count) (s .args .limit)) (s .args .count) (s .args .limit) (y .try-next .result) (Shut (x .0 .0)) tried refl (x .1) (y .try-next .ensures) in
-    split-shut tb h w d n done (s .args .count) (s .args .limit) p facts (g .0 .0) (g .0 .1 .0) (g .0 .1 .1 .0) (g .0 .1 .1 .1 .0) (g .0 .1 .1 .1 .1 .0) (g .0 .1 .1 .1 .1 .1 .0) found noted-left long (o .note .ensures) (x .0 .0) tried size shut (c .before .before .undo .last .0) (c .before .before .undo .ensures))  -- returns
+    let size : length tried ≡ 65536 = y .try-next .kept .1 .0 ∙ s .pre .1 .1 .0 .size in
+    let k = c .before .before .before .before .before .walked .given in
+    let shut = ended-same tb w d (markAt w d) (markAt w d) (triesFrom tb w d count limit) count limit (y .try-next .result) (Shut (k .0 .0)) tried refl (k .1) (y .try-next .ensures) in
+    put-size tried (c .before .before .undo .last .0) size (c .before .before .undo .ensures .store .room) ∙ sym (s .pre .1 .1 .0 .size))  -- same-length
+    (λ c.
+    let s = c .before .before .before .before .before .before .before .before .before .before .before .before .before .before .before .before in
+    let tb = s .args .table .now in
+    let w = s .args .work .now in
+    let d = s .args .depth in
+    let h = s .pre .1 .0 in
+    let count = s .args .count in
+    let limit = s .args .limit in
+    let within = s .pre .1 .1 .1 in
+    let g = c .before .before .before .before .before .before .before .before .before .before .before .before .found .given in
+    let at = reached-as tb w d (s .args .done) (s .args .found) (Split (g .0 .0)) (g .1) (s .pre .1 .1 .0) in
+    let y = c .before .before .before .before .before .before .before .before .before in
+    let tried = y .try-next .last .1 .0 in
+    let size : length tried ≡ 65536 = y .try-next .kept .1 .0 ∙ s .pre .1 .1 .0 .size in
+    let k = c .before .before .before .before .before .walked .given in
+    let shut = ended-same tb w d (markAt w d) (markAt w d) (triesFrom tb w d count limit) count limit (y .try-next .result) (Shut (k .0 .0)) tried refl (k .1) (y .try-next .ensures) in
+    split-shut tb w d (s .args .done) count limit within (g .0 .0) at (k .0 .0) tried size shut (c .before .before .undo .last .0) (c .before .before .undo .ensures))  -- returns
     (λ c. search needs)  -- enum-known-walked-2
+    (λ c. c .before .before .before .before .before .try-next .kept .1 .0)  -- same-length-2
     (λ c.
-    let s = c .before .before .before .before .before .before .before .before .before .before .before .before .before .before .before .before .before .before .before .before in
-    let tb = s .args .table .now in
-    let w = s .args .work .now in
-    let p = s .pre .1 .1 .0 in
-    let n = s .args .n in
-    let z = c .before .before .before .before .before .before .before .before .before .before .before .before .before .before .before .before in
-    let facts = z .settle .last .1 .0 in
-    let g = c .before .before .before .before .before .before .before .before .before .before .before .before .node .given in
-    let found = settled-as tb (factsIn w) n (z .settle .result) (Split (g .0 .0) (g .0 .1 .0) (g .0 .1 .1 .0) (g .0 .1 .1 .1 .0) (g .0 .1 .1 .1 .1 .0) (g .0 .1 .1 .1 .1 .1 .0)) facts (g .1) (z .settle .ensures) in
-    let o = c .before .before .before .before .before .before .before .before .before in
-    let noted-left = o .note .last .0 in
-    let long : length noted-left ≡ 65536 = o .note .kept .0 ∙ put-size w facts (p .size) (found .leaves .store .room) in
-    let y = c .before .before .before .before .before in
-    let tried = y .try-next .last .1 .0 in
-    let size : length tried ≡ 65536 = y .try-next .kept .1 .0 ∙ long in
-    size ∙ sym (p .size))  -- same-length-2
-    (λ c.
-    let s = c .before .before .before .before .before .before .before .before .before .before .before .before .before .before .before .before .before .before .before .before in
+    let s = c .before .before .before .before .before .before .before .before .before .before .before .before in
     let tb = s .args .table .now in
     let w = s .args .work .now in
     let d = s .args .depth in
     let h = s .pre .1 .0 in
-    let p = s .pre .1 .1 .0 in
-    let n = s .args .n in
-    let done = s .args .done in
-    let z = c .before .before .before .before .before .before .before .before .before .before .before .before .before .before .before .before in
-    let facts = z .settle .last .1 .0 in
-    let g = c .before .before .before .before .before .before .before .before .before .before .before .before .node .given in
-    let found = settled-as tb (factsIn w) n (z .settle .result) (Split (g .0 .0) (g .0 .1 .0) (g .0 .1 .1 .0) (g .0 .1 .1 .1 .0) (g .0 .1 .1 .1 .1 .0) (g .0 .1 .1 .1 .1 .1 .0)) facts (g .1) (z .settle .ensures) in
-    let o = c .before .before .before .before .before .before .before .before .before in
-    let noted-left = o .note .last .0 in
-    let long : length noted-left ≡ 65536 = o .note .kept .0 ∙ put-size w facts (p .size) (found .leaves .store .room) in
+    let count = s .args .count in
+    let limit = s .args .limit in
+    let within = s .pre .1 .1 .1 in
+    let g = c .before .before .before .before .before .before .before .before .found .given in
+    let at = reached-as tb w d (s .args .done) (s .args .found) (Split (g .0 .0)) (g .1) (s .pre .1 .1 .0) in
     let y = c .before .before .before .before .before in
     let tried = y .try-next .last .1 .0 in
-    let x = c .before .walked2 .given in
-    split-opened tb h w d n done (s .args .count) (s .args .limit) p facts (g .0 .0) (g .0 .1 .0) (g .0 .1 .1 .0) (g .0 .1 .1 .1 .0) (g .0 .1 .1 .1 .1 .0) (g .0 .1 .1 .1 .1 .1 .0) found noted-left long (o .note .ensures) (x .0 .0) tried
-    (ended-same tb noted-left d (markAt noted-left d) (markAt noted-left d) (triesFrom tb noted-left d (s .args .count) (s .args .limit)) (s .args .count) (s .args .limit) (y .try-next .result) (Opened (x .0 .0)) tried refl (x .1) (y .try-next .ensures)))  -- returns-2
+    let size : length tried ≡ 65536 = y .try-next .kept .1 .0 ∙ s .pre .1 .1 .0 .size in
+    let k = c .before .walked2 .given in
+    split-opened tb w d (s .args .done) count limit within (g .0 .0) at (k .0 .0) tried
+    (ended-same tb w d (markAt w d) (markAt w d) (triesFrom tb w d count limit) count limit (y .try-next .result) (Opened (k .0 .0)) tried refl (k .1) (y .try-next .ensures)))  -- returns-2
     (λ c. search needs)  -- enum-told
+    (λ c. c .before .before .before .before .try-next .kept .1 .0)  -- same-length-3
     (λ c.
-    let s = c .before .before .before .before .before .before .before .before .before .before .before .before .before .before .before .before .before .before .before in
-    let tb = s .args .table .now in
-    let w = s .args .work .now in
-    let p = s .pre .1 .1 .0 in
-    let n = s .args .n in
-    let z = c .before .before .before .before .before .before .before .before .before .before .before .before .before .before .before in
-    let facts = z .settle .last .1 .0 in
-    let g = c .before .before .before .before .before .before .before .before .before .before .before .node .given in
-    let found = settled-as tb (factsIn w) n (z .settle .result) (Split (g .0 .0) (g .0 .1 .0) (g .0 .1 .1 .0) (g .0 .1 .1 .1 .0) (g .0 .1 .1 .1 .1 .0) (g .0 .1 .1 .1 .1 .1 .0)) facts (g .1) (z .settle .ensures) in
-    let o = c .before .before .before .before .before .before .before .before in
-    let noted-left = o .note .last .0 in
-    let long : length noted-left ≡ 65536 = o .note .kept .0 ∙ put-size w facts (p .size) (found .leaves .store .room) in
-    let y = c .before .before .before .before in
-    let tried = y .try-next .last .1 .0 in
-    let size : length tried ≡ 65536 = y .try-next .kept .1 .0 ∙ long in
-    size ∙ sym (p .size))  -- same-length-3
-    (λ c.
-    let s = c .before .before .before .before .before .before .before .before .before .before .before .before .before .before .before .before .before .before .before in
+    let s = c .before .before .before .before .before .before .before .before .before .before .before in
     let tb = s .args .table .now in
     let w = s .args .work .now in
     let d = s .args .depth in
     let h = s .pre .1 .0 in
-    let p = s .pre .1 .1 .0 in
-    let n = s .args .n in
-    let done = s .args .done in
-    let z = c .before .before .before .before .before .before .before .before .before .before .before .before .before .before .before in
-    let facts = z .settle .last .1 .0 in
-    let g = c .before .before .before .before .before .before .before .before .before .before .before .node .given in
-    let found = settled-as tb (factsIn w) n (z .settle .result) (Split (g .0 .0) (g .0 .1 .0) (g .0 .1 .1 .0) (g .0 .1 .1 .1 .0) (g .0 .1 .1 .1 .1 .0) (g .0 .1 .1 .1 .1 .1 .0)) facts (g .1) (z .settle .ensures) in
-    let o = c .before .before .before .before .before .before .before .before in
-    let noted-left = o .note .last .0 in
-    let long : length noted-left ≡ 65536 = o .note .kept .0 ∙ put-size w facts (p .size) (found .leaves .store .room) in
+    let count = s .args .count in
+    let limit = s .args .limit in
+    let within = s .pre .1 .1 .1 in
+    let g = c .before .before .before .before .before .before .before .found .given in
+    let at = reached-as tb w d (s .args .done) (s .args .found) (Split (g .0 .0)) (g .1) (s .pre .1 .1 .0) in
     let y = c .before .before .before .before in
     let tried = y .try-next .last .1 .0 in
-    split-exhausted tb h w d n done (s .args .count) (s .args .limit) p facts (g .0 .0) (g .0 .1 .0) (g .0 .1 .1 .0) (g .0 .1 .1 .1 .0) (g .0 .1 .1 .1 .1 .0) (g .0 .1 .1 .1 .1 .1 .0) found noted-left long (o .note .ensures) tried
-    (ended-same tb noted-left d (markAt noted-left d) (markAt noted-left d) (triesFrom tb noted-left d (s .args .count) (s .args .limit)) (s .args .count) (s .args .limit) (y .try-next .result) LimitMet tried refl
+    let size : length tried ≡ 65536 = y .try-next .kept .1 .0 ∙ s .pre .1 .1 .0 .size in
+    split-exhausted tb w d (s .args .done) count limit within (g .0 .0) at tried
+    (ended-same tb w d (markAt w d) (markAt w d) (triesFrom tb w d count limit) count limit (y .try-next .result) LimitMet tried refl
     (walked-exhausted (y .try-next .result) (c .before .match2 .keys3)) (y .try-next .ensures)))  -- returns-3
-    (λ c. search needs)  -- enum-known-node-2
+    (λ c. search needs)  -- enum-known-found-2
     (λ c. search needs)  -- sub-undo-2
     (λ c. search needs)  -- part-undo-start-2
+    (λ c. omega (arith, c .before .before .before .before .before .pre .1 .1 .0 .size))  -- part-undo-end-2
+    (λ c κs.
+    let s = c .before .before .before .before .before .before in
+    let tb = s .args .table .now in
+    let w = s .args .work .now in
+    let d = s .args .depth in
+    let h = s .pre .1 .0 in
+    let count = s .args .count in
+    let limit = s .args .limit in
+    let within = s .pre .1 .1 .1 in
+    let g = c .before .before .found2 .given in
+    let at = reached-as tb w d (s .args .done) (s .args .found) (Closed (g .0 .0)) (g .1) (s .pre .1 .1 .0) in
+    (at .ready .0, (at .ready .1, omega arith)))  -- undo-requires-2
+    (λ c.
+    let s = c .before .before .before .before .before .before .before .before .before in
+    put-size (s .args .work .now) (c .before .before .undo2 .last .0) (s .pre .1 .1 .0 .size) (c .before .before .undo2 .ensures .store .room) ∙ sym (s .pre .1 .1 .0 .size))  -- same-length-4
     (λ c.
     let s = c .before .before .before .before .before .before .before .before .before in
     let tb = s .args .table .now in
     let w = s .args .work .now in
-    let p = s .pre .1 .1 .0 in
-    let n = s .args .n in
-    let z = c .before .before .before .before .before in
-    let facts = z .settle .last .1 .0 in
-    let g = c .before .node2 .given in
-    let found = settled-as tb (factsIn w) n (z .settle .result) (Closed (g .0 .0)) facts (g .1) (z .settle .ensures) in
-    let size : length (facts ++ drop 6150 w) ≡ 65536 = put-size w facts (p .size) (found .leaves .store .room) in
-    omega (arith, size))  -- part-undo-end-2
-    (λ c κs.
-    let s = c .before .before .before .before .before .before .before .before .before .before in
-    let tb = s .args .table .now in
-    let w = s .args .work .now in
-    let p = s .pre .1 .1 .0 in
-    let n = s .args .n in
-    let z = c .before .before .before .before .before .before in
-    let facts = z .settle .last .1 .0 in
-    let g = c .before .before .node2 .given in
-    let found = settled-as tb (factsIn w) n (z .settle .result) (Closed (g .0 .0)) facts (g .1) (z .settle .ensures) in
-    let size : length (facts ++ drop 6150 w) ≡ 65536 = put-size w facts (p .size) (found .leaves .store .room) in
-    let same : factsIn (facts ++ drop 6150 w) ≡ facts = put-facts w facts (p .size) (found .leaves .store .room) in
-    (subst (λ (r : List ℕ). Store 2050 r (g .0 .0)) (sym same) (found .leaves .store), (omega (arith, p .opening .part, found .leaves .grows), omega arith)))  -- undo-requires-2
-    (λ c.
-    let s = c .before .before .before .before .before .before .before .before .before .before .before .before .before in
-    let tb = s .args .table .now in
-    let w = s .args .work .now in
-    let p = s .pre .1 .1 .0 in
-    let n = s .args .n in
-    let z = c .before .before .before .before .before .before .before .before .before in
-    let facts = z .settle .last .1 .0 in
-    let g = c .before .before .before .before .before .node2 .given in
-    let found = settled-as tb (factsIn w) n (z .settle .result) (Closed (g .0 .0)) facts (g .1) (z .settle .ensures) in
-    let size : length (facts ++ drop 6150 w) ≡ 65536 = put-size w facts (p .size) (found .leaves .store .room) in
-    put-size (facts ++ drop 6150 w) (c .before .before .undo2 .last .0) size (c .before .before .undo2 .ensures .store .room) ∙ sym (p .size))  -- same-length-4
-    (λ c.
-    let s = c .before .before .before .before .before .before .before .before .before .before .before .before .before in
-    let tb = s .args .table .now in
-    let w = s .args .work .now in
     let d = s .args .depth in
     let h = s .pre .1 .0 in
-    let p = s .pre .1 .1 .0 in
-    let n = s .args .n in
-    let done = s .args .done in
-    let z = c .before .before .before .before .before .before .before .before .before in
-    let facts = z .settle .last .1 .0 in
-    let g = c .before .before .before .before .before .node2 .given in
-    let found = settled-as tb (factsIn w) n (z .settle .result) (Closed (g .0 .0)) facts (g .1) (z .settle .ensures) in
-    visit-closed tb h w d n done (s .args .count) (s .args .limit) p facts (g .0 .0) (s .pre .1 .1 .1) found (c .before .before .undo2 .last .0) (c .before .before .undo2 .ensures))  -- returns-4
+    let count = s .args .count in
+    let limit = s .args .limit in
+    let within = s .pre .1 .1 .1 in
+    let g = c .before .before .before .before .before .found2 .given in
+    let at = reached-as tb w d (s .args .done) (s .args .found) (Closed (g .0 .0)) (g .1) (s .pre .1 .1 .0) in
+    visit-closed tb w d (s .args .done) count limit within (g .0 .0) at (c .before .before .undo2 .last .0) (c .before .before .undo2 .ensures))  -- returns-4
     (λ c. search needs)  -- enum-told-2
     (λ c.
-    let s = c .before .before .before .before .before .before .before .before in
-    let tb = s .args .table .now in
-    let w = s .args .work .now in
-    let p = s .pre .1 .1 .0 in
-    let n = s .args .n in
-    let z = c .before .before .before .before in
-    let facts = z .settle .last .1 .0 in
-    let g = node-open (z .settle .result) (c .before .match .keys3) in
-    let found = settled-as tb (factsIn w) n (z .settle .result) (Open (g .0)) facts (g .1) (z .settle .ensures) in
-    put-size w facts (p .size) (found .leaves .store .room) ∙ sym (p .size))  -- same-length-5
-    (λ c.
-    let s = c .before .before .before .before .before .before .before .before in
+    let s = c .before .before .before .before in
     let tb = s .args .table .now in
     let w = s .args .work .now in
     let d = s .args .depth in
     let h = s .pre .1 .0 in
-    let p = s .pre .1 .1 .0 in
-    let n = s .args .n in
-    let done = s .args .done in
-    let z = c .before .before .before .before in
-    let facts = z .settle .last .1 .0 in
-    let g = node-open (z .settle .result) (c .before .match .keys3) in
-    let found = settled-as tb (factsIn w) n (z .settle .result) (Open (g .0)) facts (g .1) (z .settle .ensures) in
-    visit-open tb h w d n done (s .args .count) (s .args .limit) p facts (g .0) (s .pre .1 .1 .1) found))  --- returns-5
+    let count = s .args .count in
+    let limit = s .args .limit in
+    let within = s .pre .1 .1 .1 in
+    visit-open tb w d (s .args .done) count limit within
+    (reached-as tb w d (s .args .done) (s .args .found) Open (found-open (s .args .found) (c .before .match .keys3)) (s .pre .1 .1 .0))))  -- returns-5

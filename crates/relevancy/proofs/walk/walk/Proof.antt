@@ -2,10 +2,8 @@
 use mathlib.Core.Path.{_∙_}
 use native.Mathlib.Omega.{arith}
 use borrow.Author.Needs.{needs}
-use mathlib.Core.List.{_++_}
-use lib.ListN.{drop}
 use Rattle.ground.proofs.AtomLaws.{table-size}
-use Rattle.relevancy.proofs.WalkLaws.{blank-store, root-fresh, limit-bytes, root-told}
+use Rattle.relevancy.proofs.WalkLaws.{limit-bytes, root-told}
 use Rattle.relevancy.proofs.walk.walk.Statement.{statement}
 use Rattle.relevancy.proofs.walk.walk.Tie as tie
 
@@ -13,10 +11,7 @@ pub walk-spec : {M : Type 1} → statement M
 walk-spec =
     tie.close
     (tie.spec
-    (λ c. search needs)  -- sub-start
-    (λ c. search needs)  -- part-start-start
-    (λ c. search needs)  -- part-start-end
-    (λ c κs. let s = c .before .before .before in (s .pre .0, blank-store (s .args .work .now) (s .pre .1)))  -- start-requires
+    (λ c κs. search needs)  -- root-requires
     (λ c. let s = c .before .before .before .before .before .before .before in omega (arith, table-size (s .args .table .now) (s .pre .0)))  -- shared-slice-read-number-of
     (λ c. let s = c .before .before .before .before .before .before .before .before in omega (arith, table-size (s .args .table .now) (s .pre .0)))  -- shared-slice-read-number-of-2
     (λ c. let s = c .before .before .before .before .before .before .before .before .before in omega (arith, table-size (s .args .table .now) (s .pre .0)))  -- shared-slice-read-number-of-3
@@ -24,13 +19,12 @@ walk-spec =
     (λ c κs. search needs)  -- number-of-requires
     (λ c κs.
     let s = c .before .before .before .before .before .before .before .before .before .before .before .before in
-    let b = c .before .before .before .before .before .before .before .before in
-    (s .pre .0, (root-fresh (s .args .table .now) (s .args .work .now) (b .start .last .1 .0) (b .start .result) (s .pre .1) (b .start .ensures), omega arith)))  -- visit-requires
+    (s .pre .0, (c .before .before .before .before .before .before .before .before .root .ensures .reached, omega arith)))  -- visit-requires
     (λ c. search needs)  -- same-length
     (λ c.
     let s = c .before .before .before .before .before .before .before .before .before .before .before .before .before .before .before in
     let b = c .before .before .before .before .before .before .before .before .before .before .before in
     let v = c .before .before in
     let k = c .before .before .before .before in
-    root-told (s .args .table .now) (b .start .last .1 .0 ++ drop 6150 (s .args .work .now)) (k .number-of .result) (k .number-of .ensures ∙ limit-bytes (s .args .table .now)) (v .visit .result)
+    root-told (s .args .table .now) (b .root .last .1 .0) (k .number-of .result) (k .number-of .ensures ∙ limit-bytes (s .args .table .now)) (v .visit .result)
     (v .visit .last .1 .0) (v .visit .ensures)))  -- returns

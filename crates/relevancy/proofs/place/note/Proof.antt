@@ -1,10 +1,10 @@
--- `relevancy::walk::note` meets its contract: eight bytes, one after another.
+-- `relevancy::place::note` meets its contract: eight bytes, one after another.
 use native.Mathlib.Omega.{arith}
 use lib.ListN.{length-set}
 use borrow.Author.Needs.{needs}
 use Rattle.relevancy.proofs.PathLaws.{noted}
-use Rattle.relevancy.proofs.walk.note.Statement.{statement}
-use Rattle.relevancy.proofs.walk.note.Tie as tie
+use Rattle.relevancy.proofs.place.note.Statement.{statement}
+use Rattle.relevancy.proofs.place.note.Tie as tie
 
 pub note-spec : {M : Type 1} → statement M
 note-spec =

@@ -1,4 +1,4 @@
--- `relevancy::walk::enter` meets its contract.
+-- `relevancy::place::enter` meets its contract.
 use Prim.Native.Nat.{ℕ, _+_, _*_, _≤_, _<_}
 use mathlib.Core.List.{List}
 use mathlib.Core.Path.{_≡_, sym, subst, _∙_}
@@ -8,12 +8,12 @@ use lib.Seq.{take-set-le}
 use borrow.Author.Needs.{needs}
 use Rattle.ground.proofs.Turns.{ClauseKnown}
 use Rattle.store.specs.Store.{Store, Added}
-use Rattle.relevancy.specs.Walk.{nodeAt, nextAt, markAt, altsAt, factsIn}
+use Rattle.relevancy.specs.Place.{nodeAt, nextAt, markAt, altsAt, factsIn}
 use Rattle.relevancy.proofs.NodeLaws.{atoms-few}
 use Rattle.relevancy.proofs.PathLaws.{path-deep, facts-room, put-size, site-clause, alts-length, alts-few, alts-row-at, alt-number}
-use Rattle.relevancy.proofs.WalkLaws.{next-small, entered-next}
-use Rattle.relevancy.proofs.walk.enter.Statement.{statement}
-use Rattle.relevancy.proofs.walk.enter.Tie as tie
+use Rattle.relevancy.proofs.PlaceLaws.{next-small, entered-next}
+use Rattle.relevancy.proofs.place.enter.Statement.{statement}
+use Rattle.relevancy.proofs.place.enter.Tie as tie
 
 -- there is a place for the node, and one of its alternatives is left
 deep : (s : tie.Start) → s .args .depth ≤ 1024
