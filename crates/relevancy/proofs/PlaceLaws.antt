@@ -1,8 +1,8 @@
 -- Making a place: the next alternative of a split node entered, and the node found.
-use Prim.Native.Nat.{ℕ, suc, _+_, _-_, _*_, _≤_, _<_}
+use Prim.Native.Nat.{ℕ, suc, _+_, _-_, _≤_, _<_}
 use mathlib.Core.Bool.{Bool, true, false, cond}
 use mathlib.Core.List.{List, [], _∷_, _++_}
-use mathlib.Core.Option.{Option, some}
+use mathlib.Core.Option.{some}
 use mathlib.Core.Path.{_≡_, refl, sym, ap, subst, _∙_}
 use native.Mathlib.Omega.{arith}
 use denote.Enum.Declared.{tagOf}
@@ -15,7 +15,7 @@ use Rattle.lists.proofs.Member.{all-map, all-has}
 use Rattle.search.specs.Closure.{Closed}
 use Rattle.search.specs.Ground.{Found, opened, split}
 use Rattle.search.specs.Relevancy.{hornRules, trueSet, branches, findR, modelBits}
-use Rattle.search.specs.Machine.{Branch, Place, entered, enter, back, place, placed, root, Genuine}
+use Rattle.search.specs.Machine.{Branch, entered, enter, back, place, placed, root, Genuine}
 use Rattle.search.proofs.Closure.{least-ind}
 use Rattle.search.proofs.Relevancy.{true-entered}
 use Rattle.search.proofs.Walk.{path-small}
@@ -27,7 +27,7 @@ use Rattle.problem.specs.Table.{Lawful}
 use Rattle.ground.specs.Instance.{Instance}
 use Rattle.ground.proofs.Instances.{ground-proper}
 use Rattle.relevancy.specs.Node.{groundIn, Opening, Started, Rests, Seeded, Stands, Listed, ClosedNode, OpenNode, SplitNode, Settled}
-use Rattle.relevancy.specs.Place.{nodeAt, siteAt, nextAt, markAt, altsAt, entryAt, branchOf, pathIn, factsIn, PathKept, Fresh, Parted, Noted, Entered, foundIn, placeIn, nextIn, bitsIn, Reached, Finding, Making, Beginning, Blank}
+use Rattle.relevancy.specs.Place.{nodeAt, siteAt, nextAt, markAt, altsAt, entryAt, branchOf, pathIn, factsIn, PathKept, Fresh, Parted, Noted, Entered, foundIn, placeIn, nextIn, Finding, Making, Beginning, Blank}
 use Rattle.relevancy.specs.declared.node.Node.{Node}
 use Rattle.relevancy.specs.declared.node.Node.the-variants.{Closed as ClosedAt, Open as OpenAt, Split as SplitAt}
 use Rattle.relevancy.specs.declared.place.Found.{Found as Told}

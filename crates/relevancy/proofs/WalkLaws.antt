@@ -1,6 +1,5 @@
 -- The walk's steps: what visiting and trying say of running on.
 use Prim.Native.Nat.{ℕ, suc, _+_, _-_, _*_, _≤_, _<_}
-use mathlib.Core.Bool.{Bool}
 use mathlib.Core.List.{List, [], _∷_, _++_}
 use mathlib.Core.Option.{Option, some}
 use mathlib.Core.Path.{_≡_, refl, sym, ap, subst, _∙_}
@@ -21,7 +20,7 @@ use Rattle.problem.specs.Layout.{problemIn}
 use Rattle.problem.specs.Table.{Lawful}
 use Rattle.ground.specs.Instance.{Instance}
 use Rattle.relevancy.specs.Node.{groundIn, Rests, Stands, Listed}
-use Rattle.relevancy.specs.Place.{nodeAt, siteAt, nextAt, markAt, altsAt, entryAt, pathIn, factsIn, PathKept, Parted, nextIn, bitsIn, Reached, Making}
+use Rattle.relevancy.specs.Place.{nodeAt, siteAt, nextAt, markAt, altsAt, entryAt, pathIn, factsIn, PathKept, Parted, bitsIn, Reached, Making}
 use Rattle.relevancy.specs.Walk.{AllShut, Ended, runsFrom, triesFrom, outcomeIn, TellsOutcome}
 use Rattle.relevancy.specs.declared.place.Found.{Found as Told}
 use Rattle.relevancy.specs.declared.place.Found.the-variants.{Closed as ToldClosed, Open as ToldOpen, Split as ToldSplit}
@@ -29,7 +28,7 @@ use Rattle.relevancy.proofs.place.Found.{the-type as found-type}
 use Rattle.relevancy.proofs.walk.Walked.{the-type as walked-type}
 use Rattle.relevancy.specs.declared.walk.Walked.{Walked}
 use Rattle.relevancy.specs.declared.walk.Walked.the-variants.{Shut, Opened, Exhausted as LimitMet}
-use Rattle.relevancy.proofs.PathLaws.{site-same, path-same, put-facts, put-size, put-rest, alts-length, alts-few}
+use Rattle.relevancy.proofs.PathLaws.{site-same, path-same, put-facts, put-rest, alts-length, alts-few}
 use Rattle.relevancy.proofs.PlaceLaws.{next-some}
 
 -- ---- visiting

@@ -5,3 +5,4 @@ pub mod Marks
 pub mod Place
 pub mod Walk
 pub mod Engine
+pub mod Claims
