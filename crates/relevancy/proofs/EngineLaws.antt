@@ -47,14 +47,6 @@ give-more f answer a h =
     ∙ sym (append-assoc (map bit (tabulate f a)) (bit (f a) ∷ []) (drop (suc a) answer))
     ∙ rw (add-one, map-append bit (tabulate f a) (f a ∷ []))
 
--- a buffer of zeros has no facts
-pub blank-zeros : (x : List ℕ) (n : ℕ) → n ≡ 65536 → x ≡ replicate n 0 → Blank x
-blank-zeros x n e z =
-    record {
-      size = ap length z ∙ length-replicate n 0 ∙ e;
-      zeros = λ i h. ap (λ (l : List ℕ). getD l i 0) z ∙ getD-replicate n i 0 0 (omega arith);
-    }
-
 -- the facts lie in the first bytes of the work
 facts-bit : (x : List ℕ) (a : ℕ) → a < 6150 → isSet x a ≡ isSet (factsIn x) a
 facts-bit x a h = ap (λ (b : ℕ). eqb b 1) (sym (getD-take 6150 x a 0 h))

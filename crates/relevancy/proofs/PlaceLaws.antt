@@ -7,7 +7,7 @@ use mathlib.Core.Path.{_≡_, refl, sym, ap, subst, _∙_}
 use native.Mathlib.Omega.{arith}
 use denote.Enum.Declared.{tagOf}
 use lib.Dec.{T}
-use lib.ListN.{length, take, drop, getD, set, length-set}
+use lib.ListN.{length, take, drop, getD, set, length-set, replicate, length-replicate, getD-replicate}
 use lib.Seq.{getD-set-same, getD-set-other, getD-take, split-at, drop-cons}
 use Rattle.lists.specs.Key.{natKey}
 use Rattle.lists.specs.Member.{All, In, has}
@@ -304,6 +304,14 @@ module _ (tb : List ℕ) (h : Lawful tb) (work : List ℕ) (depth : ℕ) (node :
       }
 
 -- ---- the root
+
+-- a buffer of zeros has no facts
+pub blank-zeros : (x : List ℕ) (n : ℕ) → n ≡ 65536 → x ≡ replicate n 0 → Blank x
+blank-zeros x n e z =
+    record {
+      size = ap length z ∙ length-replicate n 0 ∙ e;
+      zeros = λ i h. ap (λ (l : List ℕ). getD l i 0) z ∙ getD-replicate n i 0 0 (omega arith);
+    }
 
 pub blank-store : (work : List ℕ) → Blank work → Store 2050 (factsIn work) 0
 unfolding logged

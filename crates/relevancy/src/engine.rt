@@ -32,6 +32,9 @@ fn limit_in(table: &[u8]) -> u32
     number_of(table[4], table[5], table[6], table[7])
 }
 
+// The bit of an atom that is not relevant: it is in the model given.
+const IRRELEVANT: u8 = 1;
+
 // Whether atom a is in the model given: it is true, or not relevant.
 fn in_model(work: &[u8], a: usize) -> u8
     requires { ⌜ 1025 + a ≤ 6149 ⌝ }
@@ -44,7 +47,7 @@ fn in_model(work: &[u8], a: usize) -> u8
     if holds(work, 1025 + a) {
         return 0;
     }
-    1
+    IRRELEVANT
 }
 
 // Puts the model's bits into the answer.
@@ -59,28 +62,35 @@ fn give(work: &[u8], answer: &mut [u8], atoms: usize)
     }
 }
 
-// The relevancy walk of a valid table, in a buffer of 65,536 bytes, which is left zero.
+// The relevancy walk of a valid table, in a buffer of 65,536 bytes.
+fn decide(table: &[u8], answer: &mut [u8], work: &mut [u8]) -> Verdict
+    requires { ⌜ Lawful (now table) ⌝ }
+    requires { ⌜ (1024 ≤ length (now answer)) × (length (now work) ≡ 65536) ⌝ }
+    ensures { λ r. ⌜ (r ≡ verdictOf (outcomeIn (now (table .entry)))) × (now (answer .exit) ≡ answerOf (outcomeIn (now (table .entry))) (now (answer .entry))) ⌝ }
+{
+    let walked = walk(table, work);
+    match walked {
+        Walked::Opened(count) => {
+            give(work, answer, pair(table[8], table[9]));
+            return Verdict::Satisfied(count);
+        }
+        Walked::Shut(count) => {
+            return Verdict::Refuted(count);
+        }
+        _ => {}
+    }
+    Verdict::Exhausted(limit_in(table))
+}
+
+// The same, and the buffer is left zero.
 fn run(table: &[u8], answer: &mut [u8], work: &mut [u8]) -> Verdict
     requires { ⌜ Lawful (now table) ⌝ }
     requires { ⌜ (1024 ≤ length (now answer)) × (length (now work) ≡ 65536) ⌝ }
     ensures { λ r. ⌜ (r ≡ verdictOf (outcomeIn (now (table .entry)))) × (now (answer .exit) ≡ answerOf (outcomeIn (now (table .entry))) (now (answer .entry))) × (now (work .exit) ≡ replicate 65536 0) ⌝ }
 {
+    let verdict = decide(table, answer, work);
     lists::zero(work);
-    let walked = walk(table, work);
-    match walked {
-        Walked::Opened(count) => {
-            give(work, answer, pair(table[8], table[9]));
-            lists::zero(work);
-            return Verdict::Satisfied(count);
-        }
-        Walked::Shut(count) => {
-            lists::zero(work);
-            return Verdict::Refuted(count);
-        }
-        _ => {}
-    }
-    lists::zero(work);
-    Verdict::Exhausted(limit_in(table))
+    verdict
 }
 
 // Fits a lent table: the relevancy walk under the table's own limit.

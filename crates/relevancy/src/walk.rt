@@ -6,8 +6,9 @@ use ground::atom::pair;
 use store::undo;
 ghost use mathlib.Core.Path.{_≡_};
 ghost use Prim.Native.Nat.{_+_, _*_, _≤_};
+ghost use lib.ListN.{length};
 ghost use Rattle.problem.specs.Table.{Lawful};
-ghost use Rattle.relevancy.specs.Place.{markAt, Parted, Reached, Blank};
+ghost use Rattle.relevancy.specs.Place.{markAt, Parted, Reached};
 ghost use Rattle.relevancy.specs.Walk.{Ended, runsFrom, triesFrom, TellsOutcome};
 
 // How a part of the walk ends: all closed after so many entries, open after so many, or the limit met.
@@ -93,12 +94,13 @@ pub fn number_of(a: u8, b: u8, c: u8, d: u8) -> u32
     (((a as u32) * 256 + (b as u32)) * 256 + (c as u32)) * 256 + (d as u32)
 }
 
-// Walks a table under its limit, in a work buffer without facts.
+// Walks a table under its limit, in a work buffer with any bytes.
 pub fn walk(table: &[u8], work: &mut [u8]) -> Walked
     requires { ⌜ Lawful (now table) ⌝ }
-    requires { ⌜ Blank (now work) ⌝ }
+    requires { ⌜ length (now work) ≡ 65536 ⌝ }
     ensures { λ x. ⌜ TellsOutcome (now (table .entry)) x (now (work .exit)) ⌝ }
 {
+    lists::zero(work);
     let found = root(table, work);
     let limit = number_of(table[4], table[5], table[6], table[7]);
     visit(table, work, 0, 0, found, 0, limit)
