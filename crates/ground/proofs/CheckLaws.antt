@@ -8,11 +8,11 @@ use mathlib.Core.Option.{Option, none, some, Option·none-ne-some}
 use mathlib.Core.Path.{_≡_, refl, sym, ap, subst, _∙_}
 use native.Mathlib.Omega.{arith}
 use borrow.Author.Tests.{eq-eqb}
-use lib.Dec.{T, eqb, eqb→eq}
+use lib.Dec.{T, T-not, eqb, eqb→eq}
 use lib.ListN.{length, getD, length-map}
 use Rattle.lists.specs.Member.{All, Any, every, first}
 use Rattle.lists.proofs.Member.{all-map, every-all, all-every, some-fails, first-none}
-use Rattle.lists.proofs.Test.{and-T, T-left, T-right, T-true, T-false, decided, fails}
+use Rattle.lists.proofs.Test.{and-T, T-left, T-right, T-true, T-false, decided, fails, not-not}
 use Rattle.search.specs.Ground.{Model}
 use Rattle.problem.specs.Problem.{Problem}
 use Rattle.ground.specs.declared.check.Judging.the-variants.{Model as IsModel, Violated}
@@ -22,14 +22,6 @@ use Rattle.ground.specs.Claims.{FirstViolated}
 
 -- ---- tests, and the first member that passes one
 
-refuted : (b : Bool) → T (not b) → T b → ⊥
-refuted true n t = n
-refuted false n t = t
-
-twice : (b : Bool) → T (not (not b)) → T b
-twice true t = tt
-twice false t = t
-
 module _ {A : Type 0} where
   any-map : (P Q : A → Type 0) → ((x : A) → P x → Q x) → (xs : List A) → Any P xs → Any Q xs
   any-map P Q f (x ∷ xs) (inl p) = inl (f x p)
@@ -37,7 +29,7 @@ module _ {A : Type 0} where
 
   -- no member passes a test that every member fails
   apart : (p : A → Bool) (xs : List A) → Any (λ x. T (p x)) xs → All (λ x. T (not (p x))) xs → ⊥
-  apart p (x ∷ xs) (inl t) a = refuted (p x) (a .0) t
+  apart p (x ∷ xs) (inl t) a = T-not (p x) (a .0) t
   apart p (x ∷ xs) (inr t) a = apart p xs t (a .1)
 
   pub none-first : (p : A → Bool) (xs : List A) → All (λ x. T (not (p x))) xs → first p xs ≡ none
@@ -149,10 +141,10 @@ module _ (q : Problem) (answer : List ℕ) (i : Instance) where
     where
       go : T (every (λ a. not (isSet answer a)) ((groundOf q) .alts i)) ⊎ T (not (every (λ a. not (isSet answer a)) ((groundOf q) .alts i)))
           → ∥ Any (λ a. T (isSet answer a)) ((groundOf q) .alts i) ∥₁
-      go (inl n) = absurd (refuted (violates q answer i) t (violated-to (c, every-all (λ a. not (isSet answer a)) ((groundOf q) .alts i) n)))
+      go (inl n) = absurd (T-not (violates q answer i) t (violated-to (c, every-all (λ a. not (isSet answer a)) ((groundOf q) .alts i) n)))
       go (inr n) =
           let some-alt = some-fails (λ a. not (isSet answer a)) ((groundOf q) .alts i) n in
-          ∣ any-map (λ a. T (not (not (isSet answer a)))) (λ a. T (isSet answer a)) (λ a. twice (isSet answer a)) ((groundOf q) .alts i) some-alt ∣₁
+          ∣ any-map (λ a. T (not (not (isSet answer a)))) (λ a. T (isSet answer a)) (λ a. not-not (isSet answer a)) ((groundOf q) .alts i) some-alt ∣₁
 
   pub kept-to : Kept → T (not (violates q answer i))
   kept-to k =

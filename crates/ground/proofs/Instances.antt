@@ -50,6 +50,13 @@ module _ (c : ℕ) (arities values : List ℕ) (v : ℕ) (all : length values �
       (all-map (AtomFits c arities v) (λ a. number c arities values a < A) number-below atoms f)
 
 module _ (q : Problem) where
+  pub atoms-are : (groundOf q) .atoms ≡ atomCount (q .constants) (q .arities)
+  unfolding groundOf
+  atoms-are = refl
+
+  pub atoms-few : Fits q → (groundOf q) .atoms ≤ 1024
+  atoms-few f = omega (arith, atoms-are, f .atoms-fit)
+
   -- what `Proper` asks of an instance
   abbrev Bounded : Instance → Type 0
   Bounded i =

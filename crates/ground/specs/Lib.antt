@@ -1,8 +1,11 @@
 pub mod Instance
 pub mod Names
 pub mod ModelCheck
+pub mod Heading
 pub mod Matching
 pub mod Report
 pub mod Walks
 pub mod Cases
 pub mod Claims
+pub mod Visit
+pub mod Verdict

@@ -3,3 +3,4 @@ pub mod atom;
 pub mod check;
 pub mod instance;
 pub mod matching;
+pub mod verdict;

@@ -55,6 +55,10 @@ pub fails : (b : Bool) → (T b → ⊥) → T (not b)
 fails true f = f tt
 fails false f = tt
 
+pub not-not : (b : Bool) → T (not (not b)) → T b
+not-not true p = tt
+not-not false p = p
+
 -- tests that pass alike are equal
 pub same-test : (a b : Bool) → (T a → T b) → (T b → T a) → a ≡ b
 same-test true true f g = refl

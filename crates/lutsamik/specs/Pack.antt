@@ -6,8 +6,8 @@ use Rattle.problem.specs.declared.read.Reading.{Reading}
 use Rattle.problem.specs.declared.read.Reading.the-variants.{Refused, Accepted}
 use Rattle.problem.specs.declared.write.Writing.{Writing}
 use Rattle.problem.specs.declared.write.Writing.the-variants.{Unwritten, Written}
-use Rattle.relevancy.specs.declared.engine.Verdict.{Verdict}
-use Rattle.relevancy.specs.declared.engine.Verdict.the-variants as verdict
+use Rattle.ground.specs.declared.verdict.Verdict.{Verdict}
+use Rattle.ground.specs.declared.verdict.Verdict.the-variants as verdict
 
 -- with the line of a refusal
 abbrev pub packReading : Reading → ℕ

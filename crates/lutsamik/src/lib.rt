@@ -1,8 +1,8 @@
 // The operations, for a host in C: numbers and byte slices go in, and one number comes back.
 use ground::check::Judging;
+use ground::verdict::Verdict;
 use problem::read::Reading;
 use problem::write::Writing;
-use relevancy::engine::Verdict;
 ghost use mathlib.Core.Path.{_≡_};
 ghost use Rattle.problem.specs.Table.{readResult, readLeaves, writeResult, writeLeaves};
 ghost use Rattle.ground.specs.ModelCheck.{judgeResult};

@@ -61,7 +61,7 @@ module _ (q : Problem) (f : Fits q) where
       ∙ List·getD-append (q .limit ++ counts) (replicate 6 0) 0 i (omega (arith, length-append (q .limit) counts))
       ∙ List·getD-append (q .limit) counts 0 i (omega arith)
 
-  count-byte : (i : ℕ) → i < 2 → getD (layout q) (8 + i) 0 ≡ getD (bytes2 (atomCount (q .constants) (q .arities))) i 0
+  pub count-byte : (i : ℕ) → i < 2 → getD (layout q) (8 + i) 0 ≡ getD (bytes2 (atomCount (q .constants) (q .arities))) i 0
   count-byte i h =
       let four : length (q .limit) ≡ 4 = f .limit-four in
       let counts : List ℕ = bytes2 (atomCount (q .constants) (q .arities)) in

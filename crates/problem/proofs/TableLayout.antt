@@ -198,7 +198,7 @@ module _ (q : Problem) (f : Fits q) where
       ∙ List·getD-append (heading q ++ predicatePart q) (clausePart q) 0 i (omega (arith, fore-length))
       ∙ List·getD-append (heading q) (predicatePart q) 0 i (omega (arith, heading-length q f))
 
-  predicates-byte : (i : ℕ) → i < 128 → getD (layout q) (16 + i) 0 ≡ getD (predicateRecords (q .constants) 0 (q .arities)) i 0
+  pub predicates-byte : (i : ℕ) → i < 128 → getD (layout q) (16 + i) 0 ≡ getD (predicateRecords (q .constants) 0 (q .arities)) i 0
   unfolding predicatePart
   predicates-byte i h =
       not-spare (16 + i)
@@ -241,8 +241,8 @@ atom-same : (p r : ℕ) (x y : List ℕ) → p ≡ r → x ≡ y → _≡_ {A = 
 atom-same p r x y e g = rw (e, g)
 
 module _ (c : ℕ) (arities : List ℕ) (v : ℕ) (small : All (λ n. n ≤ 3) arities) where
-  -- where the six bytes of an atom's slot stand, the atom is found
-  atom-back : (tb : List ℕ) (at : ℕ) (a : Atom) → AtomFits c arities v a → ((j : ℕ) → j < 6 → getD tb (at + j) 0 ≡ getD (slot c arities a) j 0) → atomIn arities tb at ≡ a
+  -- where the first four bytes of an atom's slot stand, the atom is found
+  pub atom-back : (tb : List ℕ) (at : ℕ) (a : Atom) → AtomFits c arities v a → ((j : ℕ) → j < 4 → getD tb (at + j) 0 ≡ getD (slot c arities a) j 0) → atomIn arities tb at ≡ a
   atom-back tb at a f same =
       atom-same
       (getD tb at 0)
@@ -274,7 +274,7 @@ module _ (c : ℕ) (arities : List ℕ) (v : ℕ) (small : All (λ n. n ≤ 3) a
           ∙ slots-at c arities atoms (all-short c arities v atoms small f) noAtom i j h hj
 
       found : (i : ℕ) → i < length atoms → atomIn arities tb (at + 6 * i) ≡ getD atoms i noAtom
-      found i h = atom-back tb (at + 6 * i) (getD atoms i noAtom) (all-at (AtomFits c arities v) atoms noAtom i h f) (byte i h)
+      found i h = atom-back tb (at + 6 * i) (getD atoms i noAtom) (all-at (AtomFits c arities v) atoms noAtom i h f) (λ j hj. byte i h j (omega arith))
 
 clause-same : (v w : ℕ) (x y z u : List Atom) → v ≡ w → x ≡ y → z ≡ u → _≡_ {A = Clause} (record { vars = v; conds = x; alts = z }) (record { vars = w; conds = y; alts = u })
 clause-same v w x y z u e g h = rw (e, g, h)

@@ -31,7 +31,7 @@ fn at_most(n: u8, limit: u8) -> u8
 }
 
 // A byte as two digits.
-fn put_byte(out: &mut [u8], at: usize, b: u8) -> usize
+pub fn put_byte(out: &mut [u8], at: usize, b: u8) -> usize
     requires { ⌜ at + 2 ≤ length (now out) ⌝ }
     ensures { λ r. ⌜ Put (now (out .entry)) at (hexByte b) 2 r (now (out .exit)) ⌝ }
 {
@@ -41,7 +41,7 @@ fn put_byte(out: &mut [u8], at: usize, b: u8) -> usize
 }
 
 // The end of a line.
-fn put_end(out: &mut [u8], at: usize) -> usize
+pub fn put_end(out: &mut [u8], at: usize) -> usize
     requires { ⌜ at + 1 ≤ length (now out) ⌝ }
     ensures { λ r. ⌜ Put (now (out .entry)) at (10 ∷ []) 1 r (now (out .exit)) ⌝ }
 {

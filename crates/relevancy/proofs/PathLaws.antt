@@ -17,12 +17,11 @@ use Rattle.problem.specs.Table.{Lawful}
 use Rattle.ground.specs.Instance.{Instance, number, clauseOf, groundAtoms, groundOf}
 use Rattle.ground.specs.ModelCheck.{Placed}
 use Rattle.ground.proofs.AtomLaws.{Row, slotNumber, clause-fits, alts-count, alts-row, alts-numbers}
-use Rattle.ground.proofs.Instances.{ground-proper}
+use Rattle.ground.proofs.Instances.{atoms-few, ground-proper}
 use Rattle.ground.proofs.Turns.{ClauseKnown, clause-known, numbers-take}
 use Rattle.relevancy.specs.declared.choose.Choice.the-variants.{At}
 use Rattle.relevancy.specs.Node.{groundIn, choiceOf, Listed}
 use Rattle.relevancy.specs.Place.{nodeAt, fourAt, siteAt, nextAt, altsAt, branchOf, pathIn, factsIn, PathKept, Noted}
-use Rattle.relevancy.proofs.NodeLaws.{atoms-few}
 use mathlib.Core.Option.{some}
 
 -- ---- the path looks at its own bytes alone
@@ -61,7 +60,7 @@ path-more tb work depth = rw add-one
 -- a genuine path has a place for each of its nodes
 pub path-deep : (tb : List ℕ) → Lawful tb → (work : List ℕ) (depth : ℕ) → Genuine (findR (groundIn tb)) (pathIn tb work depth) → depth ≤ 1024
 path-deep tb h work depth g =
-    omega (arith, path-short (groundIn tb) (ground-proper (problemIn tb) (h .fits)) (pathIn tb work depth) g, path-length tb work depth, atoms-few tb h)
+    omega (arith, path-short (groundIn tb) (ground-proper (problemIn tb) (h .fits)) (pathIn tb work depth) g, path-length tb work depth, atoms-few (problemIn tb) (h .fits))
 
 -- ---- the facts lent and put back
 

@@ -11,6 +11,7 @@ use lib.ListN.{length, take, drop, getD, length-map, length-append, length-drop,
 use lib.Seq.{take-at}
 use borrow.Author.Tests.{ltb-true, ltb-false, lt-ltb, le-ltb}
 use Rattle.lists.specs.Member.{All, Any, every}
+use Rattle.lists.proofs.Test.{T-true}
 use Rattle.lists.proofs.Member.{all-zip, any-zip, all-every, all-mapped, all-of}
 use Rattle.lists.proofs.Tabulate.{tabulate-length}
 use Rattle.search.specs.Ground.{Ground, Proper, Model, Marked, Found, closed, opened, split}
@@ -26,15 +27,14 @@ use Rattle.problem.proofs.Theorems.{theorems as tables}
 use Rattle.ground.specs.declared.check.Judging.the-variants.{Model as IsModel}
 use Rattle.ground.specs.Instance.{Instance}
 use Rattle.ground.specs.ModelCheck.{isSet, judgeResult}
-use Rattle.ground.proofs.Instances.{ground-proper}
+use Rattle.ground.proofs.Instances.{atoms-are, atoms-few, ground-proper}
 use Rattle.ground.proofs.CheckLaws.{model-checked}
-use Rattle.relevancy.specs.declared.engine.Verdict.the-variants.{Refused, Satisfied as IsSatisfied, Refuted as IsRefuted, Exhausted as IsExhausted}
+use Rattle.ground.specs.declared.verdict.Verdict.the-variants.{Refused, Satisfied as IsSatisfied, Refuted as IsRefuted, Exhausted as IsExhausted}
 use Rattle.relevancy.specs.Node.{groundIn}
 use Rattle.relevancy.specs.Walk.{outcomeIn}
-use Rattle.relevancy.specs.Engine.{verdictOf, answerOf, fitResult, fitAnswer}
+use Rattle.ground.specs.Verdict.{verdictOf, answerOf}
+use Rattle.relevancy.specs.Engine.{fitResult, fitAnswer}
 use Rattle.relevancy.specs.Claims.{Taken, limitLent, FullWalk, Demand2, Theorems}
-use Rattle.relevancy.proofs.CloseLaws.{atoms-small}
-use Rattle.relevancy.proofs.MarkLaws.{atoms-are}
 use Rattle.relevancy.proofs.EngineLaws.{short-table, short-answer, short-work, long-enough, fit-short, fit-invalid}
 
 -- ---- a verdict and its outcome
@@ -117,7 +117,7 @@ module _ (bits : List Bool) (answer : List ℕ) where
   abbrev left : List ℕ
   left = map bit bits ++ drop (length bits) answer
 
-  given-set : (a : ℕ) → a < length bits → isSet left a ≡ getD bits a false
+  pub given-set : (a : ℕ) → a < length bits → isSet left a ≡ getD bits a false
   given-set a h =
       let long : a < length (map bit bits) = rw (length-map bits bit) h in
       ap (λ (x : ℕ). eqb x 1) (List·getD-append (map bit bits) (drop (length bits) answer) 0 a long ∙ bits-at bits a h) ∙ bit-set (getD bits a false)
@@ -128,11 +128,7 @@ module _ (bits : List Bool) (answer : List ℕ) where
   given-marks : every (λ b. ltb b 2) (take (length bits) left) ≡ true
   given-marks =
       ap (every (λ b. ltb b 2)) (take-at (map bit bits) (drop (length bits) answer) (length bits) (length-map bits bit))
-      ∙ truth (every (λ b. ltb b 2) (map bit bits)) (all-every (λ b. ltb b 2) (map bit bits) (all-mapped bit (λ b. T (ltb b 2)) bits (all-of (λ b. T (ltb (bit b) 2)) bit-low bits)))
-    where
-      truth : (b : Bool) → T b → b ≡ true
-      truth true t = refl
-      truth false t = absurd t
+      ∙ T-true (every (λ b. ltb b 2) (map bit bits)) (all-every (λ b. ltb b 2) (map bit bits) (all-mapped bit (λ b. T (ltb b 2)) bits (all-of (λ b. T (ltb (bit b) 2)) bit-low bits)))
 
 -- two sets that agree below A are both models, or neither
 model-same : {I : Type 0} (p : Ground I) (M N : ℕ → Type 0) → Proper p → ((a : ℕ) → a < p .atoms → M a → N a) → ((a : ℕ) → a < p .atoms → N a → M a) → Model p M → Model p N
@@ -160,11 +156,7 @@ module _ (tb answer work : List ℕ) (taken : Taken tb answer work) where
   o = outcomeIn t
 
   good : isValid t ≡ true
-  good = truth (isValid t) (tables .valid t .1 (taken .valid))
-    where
-      truth : (b : Bool) → T b → b ≡ true
-      truth true u = refl
-      truth false u = absurd u
+  good = T-true (isValid t) (tables .valid t .1 (taken .valid))
 
   lawful : Lawful t
   lawful = tables .lawful t (taken .valid)
@@ -210,12 +202,12 @@ module _ (tb answer work : List ℕ) (taken : Taken tb answer work) where
     judged : judgeResult tb (fitAnswer tb answer work) ≡ IsModel
     unfolding judgeResult
     judged =
-        let few : length bits ≤ 1024 = omega (arith, bits-length, atoms-small t lawful) in
+        let few : length bits ≤ 1024 = omega (arith, bits-length, atoms-few (problemIn t) (lawful .fits)) in
         let wide : 1024 ≤ length (fitAnswer tb answer work) = rw (given-is, given-length bits answer (omega (arith, taken .answer-long))) (taken .answer-long) in
         let A : ℕ = atomCount ((problemIn t) .constants) ((problemIn t) .arities) in
         let marks : every (λ b. ltb b 2) (take A (fitAnswer tb answer work)) ≡ true =
         ap (λ (x : List ℕ). every (λ b. ltb b 2) (take A x)) given-is
-        ∙ ap (λ (m : ℕ). every (λ b. ltb b 2) (take m (map bit bits ++ drop (length bits) answer))) (sym (bits-length ∙ atoms-are t))
+        ∙ ap (λ (m : ℕ). every (λ b. ltb b 2) (take m (map bit bits ++ drop (length bits) answer))) (sym (bits-length ∙ atoms-are (problemIn t)))
         ∙ given-marks bits answer in
         rw (le-ltb (length tb) 4096 (taken .table-long), le-ltb (length (fitAnswer tb answer work)) 1024 wide, good, marks) (model-checked (problemIn t) (fitAnswer tb answer work) model)
 

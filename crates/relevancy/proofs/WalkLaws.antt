@@ -248,13 +248,6 @@ module _ (tb : List ℕ) (h : Lawful tb) (work : List ℕ) (depth : ℕ) (node :
 
 -- ---- the whole walk
 
-pub limit-bytes : (tb : List ℕ) → ((getD tb 4 0 * 256 + getD tb 5 0) * 256 + getD tb 6 0) * 256 + getD tb 7 0 ≡ limitOf ((problemIn tb) .limit)
-unfolding problemIn
-limit-bytes tb = rw (byte 0 (omega arith), byte 1 (omega arith), byte 2 (omega arith), byte 3 (omega arith))
-  where
-    byte : (i : ℕ) → i < 4 → getD (take 4 (drop 4 tb)) i 0 ≡ getD tb (4 + i) 0
-    byte i l = getD-take 4 (drop 4 tb) i 0 l ∙ getD-drop 4 tb i 0
-
 -- visiting the root is the whole walk
 pub root-told : (tb work : List ℕ) (limit : ℕ) → limit ≡ limitOf ((problemIn tb) .limit) → (x : Walked) (left : List ℕ)
     → Ended tb work 0 0 (runsFrom tb work 0 0 limit) 0 limit x left → TellsOutcome tb x left

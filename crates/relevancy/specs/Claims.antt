@@ -15,8 +15,8 @@ use Rattle.problem.specs.Table.{Valid}
 use Rattle.ground.specs.declared.check.Judging.the-variants.{Model as IsModel}
 use Rattle.ground.specs.Instance.{Instance}
 use Rattle.ground.specs.ModelCheck.{isSet, judgeResult}
-use Rattle.relevancy.specs.declared.engine.Verdict.{Verdict}
-use Rattle.relevancy.specs.declared.engine.Verdict.the-variants.{Refused, Satisfied as IsSatisfied, Refuted as IsRefuted, Exhausted as IsExhausted}
+use Rattle.ground.specs.declared.verdict.Verdict.{Verdict}
+use Rattle.ground.specs.declared.verdict.Verdict.the-variants.{Refused, Satisfied as IsSatisfied, Refuted as IsRefuted, Exhausted as IsExhausted}
 use Rattle.relevancy.specs.Node.{groundIn}
 use Rattle.relevancy.specs.Engine.{fitResult, fitAnswer}
 

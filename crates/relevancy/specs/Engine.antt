@@ -7,20 +7,10 @@ use lib.ListN.{length, take, drop, replicate}
 use Rattle.search.specs.Machine.{Outcome, Satisfied, Refuted, Exhausted}
 use Rattle.store.specs.Store.{isSet, bit}
 use Rattle.problem.specs.Table.{isValid}
-use Rattle.relevancy.specs.declared.engine.Verdict.{Verdict}
-use Rattle.relevancy.specs.declared.engine.Verdict.the-variants.{Refused, Satisfied as IsSatisfied, Refuted as IsRefuted, Exhausted as IsExhausted}
+use Rattle.ground.specs.declared.verdict.Verdict.{Verdict}
+use Rattle.ground.specs.declared.verdict.Verdict.the-variants.{Refused}
+use Rattle.ground.specs.Verdict.{verdictOf, answerOf}
 use Rattle.relevancy.specs.Walk.{outcomeIn}
-
-abbrev pub verdictOf : Outcome → Verdict
-verdictOf (Satisfied n bits) = IsSatisfied n
-verdictOf (Refuted n) = IsRefuted n
-verdictOf (Exhausted n) = IsExhausted n
-
--- "An engine that answers fits puts 1 or 0 in the first A answer bytes; none and spent leave the answer untouched."
-abbrev pub answerOf : Outcome → List ℕ → List ℕ
-answerOf (Satisfied n bits) answer = map bit bits ++ drop (length bits) answer
-answerOf (Refuted n) answer = answer
-answerOf (Exhausted n) answer = answer
 
 abbrev pub tooShort : List ℕ → List ℕ → List ℕ → Bool
 tooShort tb answer work = ltb (length tb) 4096 || ltb (length answer) 1024 || ltb (length work) 65536
@@ -36,7 +26,3 @@ fitAnswer tb answer work = cond (tooShort tb answer work) answer (cond (isValid 
 -- "Work bytes are zero afterwards, up to 65,536."
 unfoldable pub fitWork : List ℕ → List ℕ → List ℕ → List ℕ
 fitWork tb answer work = cond (tooShort tb answer work) work (cond (isValid (take 4096 tb)) (replicate 65536 0 ++ drop 65536 work) work)
-
--- atom a is in the model given
-abbrev pub chosenBit : List ℕ → ℕ → Bool
-chosenBit work a = isSet work a || not (isSet work (1025 + a))

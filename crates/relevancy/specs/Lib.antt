@@ -1,7 +1,7 @@
 pub mod Node
-pub mod Visit
 pub mod Fire
 pub mod Marks
+pub mod Index
 pub mod Place
 pub mod Walk
 pub mod Engine

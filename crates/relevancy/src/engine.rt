@@ -1,10 +1,11 @@
 // The relevancy engine's operation.
 use crate::walk::Walked;
-use crate::walk::number_of;
 use crate::walk::walk;
 use ground::atom::pair;
+use ground::verdict::Verdict;
+use ground::verdict::give;
+use ground::verdict::limit_in;
 use problem::write::valid;
-use store::holds;
 ghost use mathlib.Core.Path.{_≡_};
 ghost use mathlib.Core.List.{_++_, map};
 ghost use Prim.Native.Nat.{_+_, _≤_};
@@ -14,53 +15,8 @@ ghost use Rattle.store.specs.Store.{isSet, bit};
 ghost use Rattle.problem.specs.Problem.{limitOf};
 ghost use Rattle.problem.specs.Table.{Lawful};
 ghost use Rattle.relevancy.specs.Walk.{outcomeIn};
-ghost use Rattle.relevancy.specs.Engine.{verdictOf, answerOf, chosenBit, fitResult, fitAnswer, fitWork};
-
-// What the engine says: a refusal's number, or fits, none or spent with the count of entries.
-pub enum Verdict {
-    Refused(u8),
-    Satisfied(u32),
-    Refuted(u32),
-    Exhausted(u32),
-}
-
-// The limit in a table.
-fn limit_in(table: &[u8]) -> u32
-    requires { ⌜ length (now table) ≡ 4096 ⌝ }
-    ensures { λ r. ⌜ r ≡ limitOf (take 4 (drop 4 (now (table .entry)))) ⌝ }
-{
-    number_of(table[4], table[5], table[6], table[7])
-}
-
-// The bit of an atom that is not relevant: it is in the model given.
-const IRRELEVANT: u8 = 1;
-
-// Whether atom a is in the model given: it is true, or not relevant.
-fn in_model(work: &[u8], a: usize) -> u8
-    requires { ⌜ 1025 + a ≤ 6149 ⌝ }
-    requires { ⌜ 6150 ≤ length (now work) ⌝ }
-    ensures { λ r. ⌜ r ≡ bit (chosenBit (now (work .entry)) a) ⌝ }
-{
-    if holds(work, a) {
-        return 1;
-    }
-    if holds(work, 1025 + a) {
-        return 0;
-    }
-    IRRELEVANT
-}
-
-// Puts the model's bits into the answer.
-fn give(work: &[u8], answer: &mut [u8], atoms: usize)
-    requires { ⌜ (atoms ≤ 1024) × (atoms ≤ length (now answer)) × (6150 ≤ length (now work)) ⌝ }
-    ensures { λ _. ⌜ now (answer .exit) ≡ map bit (modelBits atoms (isSet (now (work .entry))) (λ a. isSet (now (work .entry)) (1025 + a))) ++ drop atoms (now (answer .entry)) ⌝ }
-{
-    let mut a: usize = 0;
-    while a < atoms {
-        answer[a] = in_model(work, a);
-        a += 1;
-    }
-}
+ghost use Rattle.ground.specs.Verdict.{verdictOf, answerOf};
+ghost use Rattle.relevancy.specs.Engine.{fitResult, fitAnswer, fitWork};
 
 // The relevancy walk of a valid table, in a buffer of 65,536 bytes.
 fn decide(table: &[u8], answer: &mut [u8], work: &mut [u8]) -> Verdict

@@ -2,6 +2,7 @@
 pub mod choose;
 pub mod close;
 pub mod engine;
+pub mod index;
 pub mod mark;
 pub mod node;
 pub mod place;

@@ -5,10 +5,12 @@ use crate::node::settle;
 use ground::atom::number_at;
 use ground::atom::pair;
 use store::add;
+ghost use mathlib.Core.Bool.{true, false};
 ghost use mathlib.Core.Path.{_≡_};
 ghost use Prim.Native.Nat.{_≤_, _<_};
 ghost use lib.ListN.{length};
 ghost use Rattle.problem.specs.Table.{Lawful};
+ghost use Rattle.relevancy.specs.Index.{Indexed};
 ghost use Rattle.relevancy.specs.Place.{nextAt, altsAt, Fresh, Parted, Noted, Entered, Finding, Making, Beginning, Blank};
 
 // How a place is found: closed or split, with the number of its facts, or open. The split is written down in the path.
@@ -52,12 +54,21 @@ fn enter(table: &[u8], work: &mut [u8], depth: usize) -> usize
 }
 
 // Finds the place at `depth`, whose truths begin with n facts, of which `done` are worked off.
-fn find(table: &[u8], work: &mut [u8], depth: usize, n: usize, done: usize) -> Found
+fn find(
+    table: &[u8],
+    conds: &[u16; 384],
+    alts: &[u16; 384],
+    work: &mut [u8],
+    depth: usize,
+    n: usize,
+    done: usize,
+) -> Found
     requires { ⌜ Lawful (now table) ⌝ }
+    requires { ⌜ Indexed (now table) false (now conds) × Indexed (now table) true (now alts) ⌝ }
     requires { ⌜ Fresh (now table) (now work) depth n done ⌝ }
     ensures { λ x. ⌜ Finding (now (table .entry)) (now (work .entry)) depth n done x (now (work .exit)) ⌝ }
 {
-    let node = settle(table, &mut work[0..6150], n, done);
+    let node = settle(table, conds, alts, &mut work[0..6150], n, done);
     match node {
         Node::Split(m, k, a, b, c, d) => {
             note(work, depth, m, k, a, b, c, d);
@@ -72,8 +83,15 @@ fn find(table: &[u8], work: &mut [u8], depth: usize, n: usize, done: usize) -> F
 }
 
 // Makes the next place: enters the next alternative of the split node at `depth`.
-pub fn place(table: &[u8], work: &mut [u8], depth: usize) -> Found
+pub fn place(
+    table: &[u8],
+    conds: &[u16; 384],
+    alts: &[u16; 384],
+    work: &mut [u8],
+    depth: usize,
+) -> Found
     requires { ⌜ Lawful (now table) ⌝ }
+    requires { ⌜ Indexed (now table) false (now conds) × Indexed (now table) true (now alts) ⌝ }
     requires { ⌜ Parted (now table) (now work) depth ⌝ }
     requires { ⌜ nextAt (now work) depth < length (altsAt (now table) (now work) depth) ⌝ }
     ensures { λ x. ⌜ Making (now (table .entry)) (now (work .entry)) depth x (now (work .exit)) ⌝ }
@@ -81,15 +99,16 @@ pub fn place(table: &[u8], work: &mut [u8], depth: usize) -> Found
     let at = 55302 + 8 * depth;
     let mark = pair(work[at + 6], work[at + 7]);
     let n = enter(table, work, depth);
-    find(table, work, depth + 1, n, mark)
+    find(table, conds, alts, work, depth + 1, n, mark)
 }
 
 // Makes the root, in a work buffer without facts.
-pub fn root(table: &[u8], work: &mut [u8]) -> Found
+pub fn root(table: &[u8], conds: &[u16; 384], alts: &[u16; 384], work: &mut [u8]) -> Found
     requires { ⌜ Lawful (now table) ⌝ }
+    requires { ⌜ Indexed (now table) false (now conds) × Indexed (now table) true (now alts) ⌝ }
     requires { ⌜ Blank (now work) ⌝ }
     ensures { λ x. ⌜ Beginning (now (table .entry)) x (now (work .exit)) ⌝ }
 {
     let n = start(table, &mut work[0..6150]);
-    find(table, work, 0, n, 0)
+    find(table, conds, alts, work, 0, n, 0)
 }

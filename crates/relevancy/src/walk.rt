@@ -1,13 +1,17 @@
 // The walk: visiting a node, which calls the trying of alternatives, which calls visiting.
+use crate::index::build;
 use crate::place::Found;
 use crate::place::place;
 use crate::place::root;
 use ground::atom::pair;
+use ground::verdict::limit_in;
 use store::undo;
+ghost use mathlib.Core.Bool.{true, false};
 ghost use mathlib.Core.Path.{_≡_};
 ghost use Prim.Native.Nat.{_+_, _*_, _≤_};
 ghost use lib.ListN.{length};
 ghost use Rattle.problem.specs.Table.{Lawful};
+ghost use Rattle.relevancy.specs.Index.{Indexed};
 ghost use Rattle.relevancy.specs.Place.{markAt, Parted, Reached};
 ghost use Rattle.relevancy.specs.Walk.{Ended, runsFrom, triesFrom, TellsOutcome};
 
@@ -21,6 +25,8 @@ pub enum Walked {
 // Visits the node at `depth`, which is found so; its facts are taken back to the first `done` where all is closed.
 pub fn visit(
     table: &[u8],
+    conds: &[u16; 384],
+    alts: &[u16; 384],
     work: &mut [u8],
     depth: usize,
     done: usize,
@@ -29,13 +35,14 @@ pub fn visit(
     limit: u32,
 ) -> Walked
     requires { ⌜ Lawful (now table) ⌝ }
+    requires { ⌜ Indexed (now table) false (now conds) × Indexed (now table) true (now alts) ⌝ }
     requires { ⌜ Reached (now table) (now work) depth done found ⌝ }
     requires { ⌜ count ≤ limit ⌝ }
     ensures { λ x. ⌜ Ended (now (table .entry)) (now (work .entry)) depth done (runsFrom (now (table .entry)) (now (work .entry)) depth count limit) count limit x (now (work .exit)) ⌝ }
 {
     match found {
         Found::Split(m) => {
-            let walked = try_next(table, work, depth, count, limit);
+            let walked = try_next(table, conds, alts, work, depth, count, limit);
             match walked {
                 Walked::Shut(shut) => {
                     undo(&mut work[0..6150], 2050, m, done);
@@ -59,8 +66,17 @@ pub fn visit(
 }
 
 // Tries the alternatives left at the split node at `depth`.
-fn try_next(table: &[u8], work: &mut [u8], depth: usize, count: u32, limit: u32) -> Walked
+fn try_next(
+    table: &[u8],
+    conds: &[u16; 384],
+    alts: &[u16; 384],
+    work: &mut [u8],
+    depth: usize,
+    count: u32,
+    limit: u32,
+) -> Walked
     requires { ⌜ Lawful (now table) ⌝ }
+    requires { ⌜ Indexed (now table) false (now conds) × Indexed (now table) true (now alts) ⌝ }
     requires { ⌜ Parted (now table) (now work) depth ⌝ }
     requires { ⌜ count ≤ limit ⌝ }
     ensures { λ x. ⌜ Ended (now (table .entry)) (now (work .entry)) depth (markAt (now (work .entry)) depth) (triesFrom (now (table .entry)) (now (work .entry)) depth count limit) count limit x (now (work .exit)) ⌝ }
@@ -73,11 +89,21 @@ fn try_next(table: &[u8], work: &mut [u8], depth: usize, count: u32, limit: u32)
         return Walked::Exhausted;
     }
     let mark = pair(work[at + 6], work[at + 7]);
-    let found = place(table, work, depth);
-    let walked = visit(table, work, depth + 1, mark, found, count + 1, limit);
+    let found = place(table, conds, alts, work, depth);
+    let walked = visit(
+        table,
+        conds,
+        alts,
+        work,
+        depth + 1,
+        mark,
+        found,
+        count + 1,
+        limit,
+    );
     match walked {
         Walked::Shut(shut) => {
-            return try_next(table, work, depth, shut, limit);
+            return try_next(table, conds, alts, work, depth, shut, limit);
         }
         Walked::Opened(opened) => {
             return Walked::Opened(opened);
@@ -87,21 +113,16 @@ fn try_next(table: &[u8], work: &mut [u8], depth: usize, count: u32, limit: u32)
     Walked::Exhausted
 }
 
-// A number of four bytes, the high byte first.
-pub fn number_of(a: u8, b: u8, c: u8, d: u8) -> u32
-    ensures { λ r. ⌜ r ≡ ((a * 256 + b) * 256 + c) * 256 + d ⌝ }
-{
-    (((a as u32) * 256 + (b as u32)) * 256 + (c as u32)) * 256 + (d as u32)
-}
-
 // Walks a table under its limit, in a work buffer with any bytes.
 pub fn walk(table: &[u8], work: &mut [u8]) -> Walked
     requires { ⌜ Lawful (now table) ⌝ }
     requires { ⌜ length (now work) ≡ 65536 ⌝ }
     ensures { λ x. ⌜ TellsOutcome (now (table .entry)) x (now (work .exit)) ⌝ }
 {
+    let conds = build(table, false);
+    let alts = build(table, true);
     lists::zero(work);
-    let found = root(table, work);
-    let limit = number_of(table[4], table[5], table[6], table[7]);
-    visit(table, work, 0, 0, found, 0, limit)
+    let found = root(table, &conds, &alts, work);
+    let limit = limit_in(table);
+    visit(table, &conds, &alts, work, 0, 0, found, 0, limit)
 }

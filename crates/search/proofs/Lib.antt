@@ -1,3 +1,4 @@
+pub mod Ground
 pub mod Closure
 pub mod Machine
 pub mod Path
@@ -9,5 +10,7 @@ pub mod Model
 pub mod Magic
 pub mod Regroup
 pub mod OneTrail
+pub mod MagicPath
+pub mod Limit
 pub mod Cases
 pub mod Theorems

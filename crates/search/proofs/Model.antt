@@ -11,7 +11,7 @@ use lib.Dec.{T, T-not}
 use lib.ListN.{getD}
 use Rattle.lists.specs.Key.{natKey}
 use Rattle.lists.specs.Member.{All, Any, every, first, has, In}
-use Rattle.lists.proofs.Test.{and-T, decided}
+use Rattle.lists.proofs.Test.{and-T, decided, not-not}
 use Rattle.lists.proofs.Member.{all-map, all-zip, any-zip, every-all, all-every, some-fails, first-none}
 use Rattle.lists.proofs.Tabulate.{tabulate-at}
 use Rattle.search.specs.Ground.{Ground, Proper, Model, Marked, closed, opened, split, goals, orFalse, disjunctive}
@@ -148,11 +148,7 @@ module _ {I : Type 0} (p : Ground I) (proper : Proper p) (l : List ℕ) where
       Unsplit i = T (not (splittable p (isTrue p l) (isRelevant p l) i))
 
       unmarked : (a : ℕ) → a < p .atoms → T (not (not (chosen a))) → Marked bits a
-      unmarked a h u = subst T (sym (bit-chosen bits (o .2) a h)) (twice (chosen a) u)
-        where
-          twice : (b : Bool) → T (not (not b)) → T b
-          twice true w = tt
-          twice false w = w
+      unmarked a h u = subst T (sym (bit-chosen bits (o .2) a h)) (not-not (chosen a) u)
 
       met : (i : I) → Proper₁ i → Horn i → Asked i → Unsplit i → All (Marked bits) (p .conds i) → ∥ Any (Marked bits) (p .alts i) ∥₁
       met i b h q s c = go (decided (every (λ a. not (chosen a)) (p .alts i)))

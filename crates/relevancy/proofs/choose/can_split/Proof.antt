@@ -41,10 +41,10 @@ can-split-spec =
     sym
     (split-held (s .args .table .now) (s .args .r .now) (s .args .k) (s .args .values .now) (two s) _ (n .none-holds .ensures)
     (not-true (n .none-holds .result) (c .if2 .taken))))  -- returns-2
-    (λ c κs. search needs)  -- all-relevant-requires
+    (λ c κs. search needs)  -- alternatives-relevant-requires
     (λ c.
     let n = c .before .before in
     let h = n .before .before .before in
     let s = h .before .before .before .before in
     split-rest (s .args .table .now) (s .args .r .now) (s .args .k) (s .args .values .now) (two s) _ _ (h .holding .ensures) (known s .conditions) (n .before .if1 .left)
-    _ (n .none-holds .ensures) (not-false (n .none-holds .result) (c .before .if2 .left)) _ (c .all-relevant .ensures)))  -- returns-3
+    _ (n .none-holds .ensures) (not-false (n .none-holds .result) (c .before .if2 .left)) _ (c .alternatives-relevant .ensures)))  -- returns-3

@@ -1,17 +1,22 @@
 -- `relevancy::engine::decide` meets its contract.
-use Prim.Native.Nat.{ℕ, _≤_}
+use Prim.Native.Nat.{ℕ, _+_, _≤_}
 use borrow.Author.Needs.{needs}
 use mathlib.Core.List.{List}
 use mathlib.Core.Path.{_≡_, sym, ap, subst, _∙_}
 use native.Mathlib.Omega.{arith}
 use lib.ListN.{length}
-use Rattle.search.specs.Machine.{Exhausted}
+use Rattle.search.specs.Relevancy.{modelBits}
+use Rattle.search.specs.Machine.{Satisfied, Exhausted}
+use Rattle.store.specs.Store.{isSet}
+use Rattle.problem.specs.Layout.{problemIn}
 use Rattle.ground.proofs.AtomLaws.{table-size}
+use Rattle.ground.proofs.VerdictLaws.{limit-of, told-satisfied, told-refuted, told-exhausted}
+use Rattle.ground.proofs.Instances.{atoms-few}
 use Rattle.relevancy.specs.declared.walk.Walked.{Walked}
 use Rattle.relevancy.specs.Node.{groundIn}
-use Rattle.relevancy.specs.Walk.{TellsOutcome}
-use Rattle.relevancy.proofs.CloseLaws.{false-bytes, atoms-small}
-use Rattle.relevancy.proofs.EngineLaws.{limit-of, run-satisfied, run-refuted, run-exhausted}
+use Rattle.relevancy.specs.Place.{factsIn}
+use Rattle.relevancy.specs.Walk.{TellsOutcome, outcomeIn}
+use Rattle.relevancy.proofs.CloseLaws.{false-bytes}
 use Rattle.relevancy.proofs.engine.decide.Statement.{statement}
 use Rattle.relevancy.proofs.engine.decide.Tie as tie
 
@@ -29,7 +34,7 @@ decide-spec =
     let tb : List ℕ = s .args .table .now in
     let w = c .before .before .before .before .before .before .before .before .before .before in
     let n : c .pair .result ≡ (groundIn tb) .atoms = c .pair .ensures ∙ false-bytes tb (s .pre .0) in
-    let few : c .pair .result ≤ 1024 = omega (arith, atoms-small tb (s .pre .0)) in
+    let few : c .pair .result ≤ 1024 = omega (arith, atoms-few (problemIn tb) (s .pre .0 .fits)) in
     let room : 1024 ≤ length (s .args .answer .now) = s .pre .1 .0 in
     (few, omega arith, omega (arith, w .walk .kept .1 .0, s .pre .1 .1)))  -- give-requires
     (λ c. search needs)  -- same-length
@@ -41,9 +46,9 @@ decide-spec =
     let k = c .before .before .before .before .before .before .before .before .before .walked .given in
     let p = c .before .before .before in
     let n : p .pair .result ≡ (groundIn tb) .atoms = p .pair .ensures ∙ false-bytes tb (s .pre .0) in
-    let few : p .pair .result ≤ 1024 = omega (arith, atoms-small tb (s .pre .0)) in
+    let few : p .pair .result ≤ 1024 = omega (arith, atoms-few (problemIn tb) (s .pre .0 .fits)) in
     let tells = subst (λ (x : Walked). TellsOutcome tb x (w .walk .last .1 .0)) (k .1) (w .walk .ensures) in
-    let fits = run-satisfied tb (s .args .answer .now) (w .walk .last .1 .0) (p .pair .result) (k .0 .0) n few tells in
+    let fits = told-satisfied (outcomeIn tb) (s .args .answer .now) 6150 (w .walk .last .1 .0) (p .pair .result) (k .0 .0) (omega arith) (tells ∙ ap (λ (a : ℕ). Satisfied (k .0 .0) (modelBits a (isSet (factsIn (w .walk .last .1 .0))) (λ x. isSet (factsIn (w .walk .last .1 .0)) (1025 + x)))) (sym n)) in
     (fits .0, c .before .before .give .ensures ∙ fits .1))  -- returns
     (λ c. search needs)  -- enum-known-walked-2
     (λ c. search needs)  -- same-length-3
@@ -52,7 +57,7 @@ decide-spec =
     let tb : List ℕ = s .args .table .now in
     let w = c .before .before .before .before .before in
     let k = c .before .walked2 .given in
-    run-refuted tb (s .args .answer .now) (k .0 .0) (subst (λ (x : Walked). TellsOutcome tb x (w .walk .last .1 .0)) (k .1) (w .walk .ensures)))  -- returns-2
+    told-refuted (outcomeIn tb) (s .args .answer .now) (k .0 .0) (subst (λ (x : Walked). TellsOutcome tb x (w .walk .last .1 .0)) (k .1) (w .walk .ensures)))  -- returns-2
     (λ c. search needs)  -- enum-told
     (λ c κs. let s = c .before .before .before .before .before .before .before .before .before in table-size (s .args .table .now) (s .pre .0))  -- limit-in-requires
     (λ c. search needs)  -- same-length-4
@@ -61,4 +66,4 @@ decide-spec =
     let tb : List ℕ = s .args .table .now in
     let w = c .before .before .before .before .before in
     let tells = subst (λ (x : Walked). TellsOutcome tb x (w .walk .last .1 .0)) (c .before .enum-told .given .1) (w .walk .ensures) in
-    run-exhausted tb (s .args .answer .now) (c .limit-in .result) (tells ∙ ap Exhausted (sym (c .limit-in .ensures ∙ limit-of tb)))))  -- returns-3
+    told-exhausted (outcomeIn tb) (s .args .answer .now) (c .limit-in .result) (tells ∙ ap Exhausted (sym (c .limit-in .ensures ∙ limit-of tb)))))  -- returns-3

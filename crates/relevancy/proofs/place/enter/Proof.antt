@@ -6,10 +6,11 @@ use native.Mathlib.Omega.{arith}
 use lib.ListN.{length, getD, set, length-set}
 use lib.Seq.{take-set-le}
 use borrow.Author.Needs.{needs}
+use Rattle.problem.specs.Layout.{problemIn}
 use Rattle.ground.proofs.Turns.{ClauseKnown}
 use Rattle.store.specs.Store.{Store, Added}
+use Rattle.ground.proofs.Instances.{atoms-few}
 use Rattle.relevancy.specs.Place.{nodeAt, nextAt, markAt, altsAt, factsIn}
-use Rattle.relevancy.proofs.NodeLaws.{atoms-few}
 use Rattle.relevancy.proofs.PathLaws.{path-deep, facts-room, put-size, site-clause, alts-length, alts-few, alts-row-at, alt-number}
 use Rattle.relevancy.proofs.PlaceLaws.{next-small, entered-next}
 use Rattle.relevancy.proofs.place.enter.Statement.{statement}
@@ -113,7 +114,7 @@ enter-spec =
           arith,
           met (p .before .before .before),
           next-small (s .args .table .now) (s .pre .0) (s .args .work .now) (s .args .depth) (s .pre .1 .0) (s .pre .1 .1),
-          atoms-few (s .args .table .now) (s .pre .0),
+          atoms-few (problemIn (s .args .table .now)) (s .pre .0 .fits),
         ),
         omega arith,
       ),

@@ -11,31 +11,31 @@ use Rattle.relevancy.proofs.place.place.Tie as tie
 
 -- there is room in the path for the split node
 deep : (s : tie.Start) → s .args .depth ≤ 1024
-deep s = path-deep (s .args .table .now) (s .pre .0) (s .args .work .now) (s .args .depth) (s .pre .1 .0 .genuine)
+deep s = path-deep (s .args .table .now) (s .pre .0) (s .args .work .now) (s .args .depth) (s .pre .1 .1 .0 .genuine)
 
 pub place-spec : {M : Type 1} → statement M
 place-spec =
     tie.close
     (tie.spec
-    (λ c. let s = c .before .before in omega (arith, deep s, s .pre .1 .0 .size))  -- mul-at
-    (λ c. let s = c .before .before in omega (arith, deep s, s .pre .1 .0 .size))  -- add-at
-    (λ c. let s = c .before .before in omega (arith, deep s, s .pre .1 .0 .size))  -- add-pair
-    (λ c. let s = c .before .before .before in omega (arith, deep s, s .pre .1 .0 .size))  -- slice-read-pair
-    (λ c. let s = c .before .before .before in omega (arith, deep s, s .pre .1 .0 .size))  -- add-pair-2
-    (λ c. let s = c .before .before .before .before in omega (arith, deep s, s .pre .1 .0 .size))  -- slice-read-pair-2
+    (λ c. let s = c .before .before in omega (arith, deep s, s .pre .1 .1 .0 .size))  -- mul-at
+    (λ c. let s = c .before .before in omega (arith, deep s, s .pre .1 .1 .0 .size))  -- add-at
+    (λ c. let s = c .before .before in omega (arith, deep s, s .pre .1 .1 .0 .size))  -- add-pair
+    (λ c. let s = c .before .before .before in omega (arith, deep s, s .pre .1 .1 .0 .size))  -- slice-read-pair
+    (λ c. let s = c .before .before .before in omega (arith, deep s, s .pre .1 .1 .0 .size))  -- add-pair-2
+    (λ c. let s = c .before .before .before .before in omega (arith, deep s, s .pre .1 .1 .0 .size))  -- slice-read-pair-2
     (λ c κs. search needs)  -- pair-requires
-    (λ c κs. search needs)  -- enter-requires
-    (λ c. let s = c .before .before .before .before .before .before .before .before .before .before in omega (arith, deep s, s .pre .1 .0 .size))  -- add-find
+    (λ c κs. let s = c .before .before .before .before .before .before in (s .pre .0, s .pre .1 .1))  -- enter-requires
+    (λ c. let s = c .before .before .before .before .before .before .before .before .before .before in omega (arith, deep s, s .pre .1 .1 .0 .size))  -- add-find
     (λ c κs.
     let s = c .before .before .before .before .before .before .before .before .before .before in
     let e = c .before .before .before in
-    (s .pre .0, subst (Fresh (s .args .table .now) (e .enter .last .1 .0) (s .args .depth + 1) (e .enter .result)) (sym (c .before .before .before .before .before .pair .ensures)) (e .enter .ensures .fresh)))  -- find-requires
+    (s .pre .0, (s .pre .1 .0, subst (Fresh (s .args .table .now) (e .enter .last .1 .0) (s .args .depth + 1) (e .enter .result)) (sym (c .before .before .before .before .before .pair .ensures)) (e .enter .ensures .fresh))))  -- find-requires
     (λ c.
     let s = c .before .before .before .before .before .before .before .before .before .before .before .before .before in
-    c .before .before .find .ensures .reached .size ∙ sym (s .pre .1 .0 .size))  -- same-length
+    c .before .before .find .ensures .reached .size ∙ sym (s .pre .1 .1 .0 .size))  -- same-length
     (λ c.
     let s = c .before .before .before .before .before .before .before .before .before .before .before .before .before in
     let e = c .before .before .before .before .before .before in
     let f = c .before .before in
-    place-made (s .args .table .now) (s .pre .0) (s .args .work .now) (s .args .depth) (s .pre .1 .0) (s .pre .1 .1) (e .enter .last .1 .0) (e .enter .result) (e .enter .ensures) (f .find .result) (f .find .last .1 .0)
-    (subst (λ (m : ℕ). Finding (s .args .table .now) (e .enter .last .1 .0) (s .args .depth + 1) (e .enter .result) m (f .find .result) (f .find .last .1 .0)) (c .before .before .before .before .before .before .before .before .pair .ensures) (f .find .ensures))))  -- returns
+    place-made (s .args .table .now) (s .pre .0) (s .args .work .now) (s .args .depth) (s .pre .1 .1 .0) (s .pre .1 .1 .1) (e .enter .last .1 .0) (e .enter .result) (e .enter .ensures) (f .find .result) (f .find .last .1 .1 .1 .0)
+    (subst (λ (m : ℕ). Finding (s .args .table .now) (e .enter .last .1 .0) (s .args .depth + 1) (e .enter .result) m (f .find .result) (f .find .last .1 .1 .1 .0)) (c .before .before .before .before .before .before .before .before .pair .ensures) (f .find .ensures))))  -- returns

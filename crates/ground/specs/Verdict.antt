@@ -1,0 +1,24 @@
+-- An engine's verdict by the outcome of its walk, and the answer that it leaves.
+use Prim.Native.Nat.{ℕ, _+_}
+use mathlib.Core.Bool.{Bool, not, _||_}
+use mathlib.Core.List.{List, _++_, map}
+use lib.ListN.{length, drop}
+use Rattle.search.specs.Machine.{Outcome, Satisfied, Refuted, Exhausted}
+use Rattle.store.specs.Store.{isSet, bit}
+use Rattle.ground.specs.declared.verdict.Verdict.{Verdict}
+use Rattle.ground.specs.declared.verdict.Verdict.the-variants.{Satisfied as IsSatisfied, Refuted as IsRefuted, Exhausted as IsExhausted}
+
+abbrev pub verdictOf : Outcome → Verdict
+verdictOf (Satisfied n bits) = IsSatisfied n
+verdictOf (Refuted n) = IsRefuted n
+verdictOf (Exhausted n) = IsExhausted n
+
+-- "An engine that answers fits puts 1 or 0 in the first A answer bytes; none and spent leave the answer untouched."
+abbrev pub answerOf : Outcome → List ℕ → List ℕ
+answerOf (Satisfied n bits) answer = map bit bits ++ drop (length bits) answer
+answerOf (Refuted n) answer = answer
+answerOf (Exhausted n) answer = answer
+
+-- atom a is in the model given
+abbrev pub chosenBit : List ℕ → ℕ → Bool
+chosenBit work a = isSet work a || not (isSet work (1025 + a))
