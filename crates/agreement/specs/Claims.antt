@@ -1,0 +1,53 @@
+-- Demand 3 at the operations: one claim about the two whole trails of a table. The contracts of `relevancy::engine::fit` and `magic::engine::fit` equate what they give
+-- and leave with `fitResult`, `fitAnswer` and `magicResult`, `magicRules`, `magicAnswer`. `proofs/Theorems.antt` proves `Theorems`.
+use Prim.Native.Nat.{ℕ, _≤_}
+use mathlib.Core.Bool.{_&&_}
+use mathlib.Core.List.{List}
+use mathlib.Core.Path.{_≡_}
+use lib.ListN.{length, take}
+use Rattle.lists.specs.Member.{All}
+use Rattle.search.specs.Ground.{Ground}
+use Rattle.search.specs.Relevancy.{isTrue, isRelevant, findR}
+use Rattle.search.specs.Magic.{tru, rel, holds}
+use Rattle.search.specs.Machine.{Place, entered, trail, outcome}
+use Rattle.problem.specs.Table.{Valid}
+use Rattle.ground.specs.Instance.{Instance}
+use Rattle.ground.specs.Names.{instanceKey}
+use Rattle.ground.specs.Verdict.{verdictOf, answerOf}
+use Rattle.relevancy.specs.Claims.{groundLent, limitLent}
+use Rattle.relevancy.specs.Engine.{fitResult, fitAnswer}
+use Rattle.magic.specs.Facts.{falseIn, magicIn, findIn}
+use Rattle.magic.specs.Engine.{magicResult, magicRules, magicAnswer}
+
+-- both operations take the call: the buffers lent to each are long enough, and some accepted text reads to the table
+pub record BothTaken (tb rules answer work₁ work₂ : List ℕ) : Type 0 where
+  pub table-long : 4096 ≤ length tb
+  pub rules-long : 16384 ≤ length rules
+  pub answer-long : 1024 ≤ length answer
+  pub work-long : (65536 ≤ length work₁) × (65536 ≤ length work₂)
+  pub valid : Valid (take 4096 tb)
+
+-- at a place, for every atom and "false": what the magic engine's rules hold relevant is relevant, and what they hold true is true and relevant
+pub record SameFacts (tb bs : List ℕ) (s : Place Instance) (x : ℕ) : Type 0 where
+  pub relevant : holds instanceKey (falseIn bs) (magicIn bs) (entered (s .path)) (rel x) ≡ isRelevant (groundLent tb) (entered (s .path)) x
+  pub true-relevant : holds instanceKey (falseIn bs) (magicIn bs) (entered (s .path)) (tru x)
+      ≡ (isTrue (groundLent tb) (entered (s .path)) x && isRelevant (groundLent tb) (entered (s .path)) x)
+
+-- bs are the bytes that the magic engine leaves in the rules buffer: the rules that it walks by
+pub record OneWalk (tb rules answer work₁ work₂ bs : List ℕ) : Type 0 where
+  -- the two whole trails, place by place: the path with the alternatives left at each node, and how the place is found, with clause and values
+  pub trails : trail (findIn bs) (limitLent tb) ≡ trail (findR (groundLent tb)) (limitLent tb)
+  -- at every place the facts
+  pub facts : All (λ s. (x : ℕ) → SameFacts tb bs s x) (trail (findR (groundLent tb)) (limitLent tb))
+  -- each engine's verdict, count and fitting are those of its own walk
+  pub by-relevancy : fitResult tb answer work₁ ≡ verdictOf (outcome (findR (groundLent tb)) (limitLent tb))
+  pub left-by-relevancy : fitAnswer tb answer work₁ ≡ answerOf (outcome (findR (groundLent tb)) (limitLent tb)) answer
+  pub by-magic : magicResult tb rules answer work₂ ≡ verdictOf (outcome (findIn bs) (limitLent tb))
+  pub left-by-magic : magicAnswer tb rules answer work₂ ≡ answerOf (outcome (findIn bs) (limitLent tb)) answer
+  -- and they are equal
+  pub verdicts : magicResult tb rules answer work₂ ≡ fitResult tb answer work₁
+  pub answers : magicAnswer tb rules answer work₂ ≡ fitAnswer tb answer work₁
+
+pub record Theorems : Type 0 where
+  pub demand-3 : (tb rules answer work₁ work₂ : List ℕ) → BothTaken tb rules answer work₁ work₂
+      → OneWalk tb rules answer work₁ work₂ (magicRules tb rules answer work₂)

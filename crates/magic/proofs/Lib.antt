@@ -1,0 +1,17 @@
+pub mod RewriteLaws
+pub mod LayoutLaws
+pub mod RegroupLaws
+pub mod FactLaws
+pub mod RuledLaws
+pub mod HeldLaws
+pub mod NodeLaws
+pub mod Cases
+pub mod PathLaws
+pub mod PlaceLaws
+pub mod AltLaws
+pub mod WalkLaws
+pub mod EngineLaws
+pub mod Theorems
+pub mod AskLaws
+pub mod ChooseLaws
+pub mod CloseLaws

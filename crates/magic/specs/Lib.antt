@@ -1,0 +1,12 @@
+pub mod Rules
+pub mod RulesLayout
+pub mod Rewrite
+pub mod Facts
+pub mod Node
+pub mod Applied
+pub mod Fire
+pub mod Place
+pub mod Walk
+pub mod Engine
+pub mod Cases
+pub mod Claims
