@@ -1,0 +1,4 @@
+pub mod OrderLaws
+pub mod ReportLaws
+pub mod ToldLaws
+pub mod PrintLaws

@@ -1,0 +1,64 @@
+// The printed lines.
+use ground::matching::decode;
+use problem::write::put_byte;
+use problem::write::put_end;
+ghost use mathlib.Core.List.{[], _∷_};
+ghost use Prim.Native.Nat.{_+_, _*_, _<_, _≤_};
+ghost use lib.ListN.{length, getD};
+ghost use Rattle.problem.specs.Digit.{hexLine};
+ghost use Rattle.problem.specs.Problem.{atomCount};
+ghost use Rattle.problem.specs.Layout.{problemIn};
+ghost use Rattle.problem.specs.Table.{Lawful};
+ghost use Rattle.problem.specs.Printed.{Put};
+ghost use Rattle.ground.specs.Report.{atomsInOrder, verdictLine, refusal};
+
+// A frame as a line.
+fn put_frame(frame: &[u8], out: &mut [u8], at: usize) -> usize
+    requires { ⌜ at + (2 * length (now frame) + 1) ≤ length (now out) ⌝ }
+    ensures { λ r. ⌜ Put (now (out .entry)) at (hexLine (now (frame .entry))) (2 * length (now (frame .entry)) + 1) r (now (out .exit)) ⌝ }
+{
+    let mut next = at;
+    let mut i: usize = 0;
+    while i < frame.len() {
+        next = put_byte(out, next, frame[i]);
+        i += 1;
+    }
+    put_end(out, next)
+}
+
+// The line of a verdict and a count.
+pub fn put_count(verdict: u8, count: u32, out: &mut [u8], at: usize) -> usize
+    requires { ⌜ at + 13 ≤ length (now out) ⌝ }
+    ensures { λ r. ⌜ Put (now (out .entry)) at (verdictLine verdict count) 13 r (now (out .exit)) ⌝ }
+{
+    let a = (count / 16777216 % 256) as u8;
+    let b = (count / 65536 % 256) as u8;
+    let c = (count / 256 % 256) as u8;
+    let d = (count % 256) as u8;
+    let frame = [129, verdict, a, b, c, d];
+    put_frame(&frame, out, at)
+}
+
+// The line of a refusal.
+pub fn put_refusal(e: u8, line: u16, out: &mut [u8], at: usize) -> usize
+    requires { ⌜ at + 9 ≤ length (now out) ⌝ }
+    ensures { λ r. ⌜ Put (now (out .entry)) at (refusal e line) 9 r (now (out .exit)) ⌝ }
+{
+    let high = (line / 256 % 256) as u8;
+    let low = (line % 256) as u8;
+    let frame = [143, e, high, low];
+    put_frame(&frame, out, at)
+}
+
+// The line of the atom with number a.
+pub fn put_atom(table: &[u8], a: usize, out: &mut [u8], at: usize) -> usize
+    requires { ⌜ Lawful (now table) ⌝ }
+    requires { ⌜ (a < atomCount ((problemIn (now table)) .constants) ((problemIn (now table)) .arities)) × (at + 11 ≤ length (now out)) ⌝ }
+    ensures { λ r. ⌜ Put (now (out .entry)) at (hexLine (130 ∷ getD (atomsInOrder (problemIn (now (table .entry)))) a [])) 11 r (now (out .exit)) ⌝ }
+{
+    let mut args = [0u8; 3];
+    let p = decode(table, a, &mut args);
+    let n = 2 + (table[16 + 4 * (p as usize)] as usize);
+    let frame = [130, p, args[0], args[1], args[2]];
+    put_frame(&frame[..n], out, at)
+}
