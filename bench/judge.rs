@@ -8,14 +8,14 @@ mod library;
 mod logic;
 #[path = "../tests/reference.rs"]
 mod reference;
+mod timing;
 
 use library::{packed, FITTING};
 use logic::Judging;
 use reference::{Atom, Clause, Ticket, ANSWER, TEXT_OUT};
 use std::hint::black_box;
-use std::time::Instant;
+use timing::{best, time, ROUNDS};
 
-const ROUNDS: usize = 60;
 const CALLS: u32 = 10;
 
 fn main() {
@@ -53,21 +53,21 @@ fn ticket(variables: u8, constants: u8, n: usize, clauses: usize) -> Ticket {
 }
 
 /// Nanoseconds for judging by the library, for checking the table by it, which is writing it, and for judging by the
-/// fast and by the independent judge. They take turns, so that each meets the same conditions.
+/// fast and by the independent judge.
 fn measure(ticket: &Ticket) -> [f64; 4] {
     let (text, table) = (reference::print(ticket), reference::encode(ticket));
     assert!(reference::read(&text).is_ok(), "the ticket is refused");
     let mut answer = vec![0; ANSWER];
     answer[..ticket.power(ticket.arities[0] as usize) as usize].fill(1);
+    let judging = |judge: fn(&[u8], &[u8]) -> u64| time(CALLS, FITTING, || judge(black_box(&table), black_box(&answer)));
     let mut out = vec![0; TEXT_OUT];
-    let mut best = [f64::MAX; 4];
-    for _ in 0..ROUNDS {
-        best[0] = best[0].min(time(FITTING, || library::judge(black_box(&table), black_box(&answer))));
-        best[1] = best[1].min(time(packed(0, text.len() as u32), || library::write(black_box(&table), black_box(&mut out))));
-        best[2] = best[2].min(time(FITTING, || judger::judge(black_box(&table), black_box(&answer))));
-        best[3] = best[3].min(time(FITTING, || independent(black_box(&table), black_box(&answer))));
-    }
-    best
+    let written = packed(0, text.len() as u32);
+    best([
+        &mut || judging(library::judge),
+        &mut || time(CALLS, written, || library::write(black_box(&table), black_box(&mut out))),
+        &mut || judging(judger::judge),
+        &mut || judging(independent),
+    ])
 }
 
 /// FITTING, or 0 for anything else.
@@ -77,13 +77,4 @@ fn independent(table: &[u8], answer: &[u8]) -> u64 {
         Judging::Fitting => FITTING,
         _ => 0,
     }
-}
-
-/// Nanoseconds for one call, each with the answer expected.
-fn time(answer: u64, mut call: impl FnMut() -> u64) -> f64 {
-    let start = Instant::now();
-    for _ in 0..CALLS {
-        assert_eq!(black_box(call()), answer);
-    }
-    start.elapsed().as_nanos() as f64 / CALLS as f64
 }

@@ -9,13 +9,13 @@ mod reader;
 mod reference;
 #[path = "../tests/tickets.rs"]
 mod tickets;
+mod timing;
 
 use library::packed;
 use reference::{TABLE, TEXT_OUT};
 use std::hint::black_box;
-use std::time::Instant;
+use timing::{best, time, ROUNDS};
 
-const ROUNDS: usize = 60;
 const CALLS: u32 = 100;
 
 fn main() {
@@ -45,29 +45,18 @@ fn main() {
 }
 
 /// Nanoseconds for reading by the library, reading in Rust, and checking the table, which is writing it.
-/// The three take turns, so that each meets the same conditions.
 fn measure(text: &[u8], table: &[u8]) -> [f64; 3] {
-    let mut best = [f64::MAX; 3];
-    let mut lent = vec![0; TABLE];
-    let mut out = vec![0; TEXT_OUT];
-    for _ in 0..ROUNDS {
-        lent.fill(0xA5);
-        best[0] = best[0].min(time(packed(0, 0), || library::read(black_box(text), black_box(&mut lent))));
-        assert_eq!(lent, table, "the library's table is another");
-        lent.fill(0xA5);
-        best[1] = best[1].min(time(packed(0, 0), || reader::read(black_box(text), black_box(&mut lent))));
-        assert_eq!(lent, table, "the table of the reader in Rust is another");
-        best[2] = best[2].min(time(packed(0, text.len() as u32), || library::write(black_box(table), black_box(&mut out))));
+    let reading = |read: fn(&[u8], &mut [u8]) -> u64| {
+        let mut lent = vec![0xA5; TABLE];
+        let took = time(CALLS, packed(0, 0), || read(black_box(text), black_box(&mut lent)));
+        assert_eq!(lent, table, "a table is another");
+        took
+    };
+    let writing = || {
+        let mut out = vec![0; TEXT_OUT];
+        let took = time(CALLS, packed(0, text.len() as u32), || library::write(black_box(table), black_box(&mut out)));
         assert_eq!(&out[..text.len()], text, "the text written is another");
-    }
-    best
-}
-
-/// Nanoseconds for one call, each with the answer expected.
-fn time(answer: u64, mut call: impl FnMut() -> u64) -> f64 {
-    let start = Instant::now();
-    for _ in 0..CALLS {
-        assert_eq!(black_box(call()), answer);
-    }
-    start.elapsed().as_nanos() as f64 / CALLS as f64
+        took
+    };
+    best([&mut || reading(library::read), &mut || reading(reader::read), &mut || writing()])
 }

@@ -1,4 +1,4 @@
-/* Lutsamik: reading and writing tickets, fitting them, and judging answers to them.
+/* Lutsamik: reading and writing tickets, fitting them, rewriting them, and judging answers to them.
  *
  * Link with liblutsamik.a (made by `rt staticlib lutsamik`, as target/staticlib/liblutsamik.a).
  * The library keeps no state, takes no memory and calls nothing back: an operation works on the
@@ -25,6 +25,7 @@ extern "C" {
 #define LUTSAMIK_TABLE_BYTES 4096
 #define LUTSAMIK_ANSWER_BYTES 1024
 #define LUTSAMIK_TEXT_BYTES 7168
+#define LUTSAMIK_RULES_BYTES 16384
 #define LUTSAMIK_WORK_BYTES 65536
 
 /* Refusals. 1 to 10 come from reading and name a line of the text; the others name none. */
@@ -97,6 +98,20 @@ uint64_t lutsamik_judge(const uint8_t *table, size_t table_len, const uint8_t *a
 uint64_t lutsamik_fit_relevancy(const uint8_t *table, size_t table_len, uint8_t *answer, size_t answer_len,
                                 uint8_t *work, size_t work_len);
 
+/* Rewrites the ticket in a table into magic rules.
+ *
+ * Rewritten: the answer has no refusal and the number of rules (at most 320); what follows them in the rules
+ * buffer is untouched. The layout of the rules is the library's own. Refused: LUTSAMIK_SHORT_BUFFER (rules must
+ * hold LUTSAMIK_RULES_BYTES, however few rules there are), then LUTSAMIK_NO_TABLE. */
+uint64_t lutsamik_rewrite(const uint8_t *table, size_t table_len, uint8_t *rules, size_t rules_len);
+
+/* Fits the ticket in a table, by the magic engine: it rewrites the ticket, and walks by the rules alone.
+ *
+ * Not refused: verdict, count, answer and work are as lutsamik_fit_relevancy gives and leaves them, and the rules buffer is as
+ * lutsamik_rewrite leaves it, whatever the verdict. Refused: LUTSAMIK_SHORT_BUFFER, then LUTSAMIK_NO_TABLE. */
+uint64_t lutsamik_fit_magic(const uint8_t *table, size_t table_len, uint8_t *rules, size_t rules_len, uint8_t *answer,
+                            size_t answer_len, uint8_t *work, size_t work_len);
+
 /* What an operation gave back, taken apart. Bits 0 to 7: the refusal, or 0. */
 static inline unsigned lutsamik_refusal(uint64_t answer) { return (unsigned)(answer & 0xFF); }
 
@@ -105,6 +120,9 @@ static inline uint32_t lutsamik_line(uint64_t answer) { return (uint32_t)(answer
 
 /* Bits 32 to 63 of a writing that was not refused: the number of bytes written. */
 static inline uint32_t lutsamik_written(uint64_t answer) { return (uint32_t)(answer >> 32); }
+
+/* Bits 32 to 63 of a rewriting that was not refused: the number of rules. */
+static inline uint32_t lutsamik_rules(uint64_t answer) { return (uint32_t)(answer >> 32); }
 
 /* Bits 8 to 15 of a fitting that was not refused: LUTSAMIK_NONE, LUTSAMIK_FITS or LUTSAMIK_SPENT. */
 static inline unsigned lutsamik_verdict(uint64_t answer) { return (unsigned)(answer >> 8 & 0xFF); }

@@ -6,57 +6,34 @@ mod memory;
 mod random;
 mod reference;
 mod report;
+mod threads;
 mod tickets;
 
 use library::{packed, violated, FITTING};
 use logic::{Atoms, Ground, Judging};
-use memory::{less_than, Memory};
+use memory::{less_than, same_bytes, Memory};
 use random::Random;
 use reference::{Ticket, ANSWER, BAD_ANSWER, NO_TABLE, SHORT_BUFFER, TABLE};
-use report::{dump, same_answer, same_bytes, Report};
+use report::{dump, same_answer, Report};
+use threads::{add_each, row, Run, Tally};
 
-const THREADS: u64 = 2;
-const DEFAULT_ANSWERS: u64 = 600_000;
+const ANSWERS: u64 = 600_000;
 
-/// Models are looked for where there are no more instances than these.
+/// Fittings are looked for where there are no more instances than these.
 const SMALL: usize = 1500;
 
 fn main() {
-    let answers = match std::env::args().nth(1) {
-        Some(word) => word.parse().expect("the number of answers"),
-        None => DEFAULT_ANSWERS,
-    };
-    let threads: Vec<_> = (0..THREADS).map(|i| std::thread::spawn(move || run(i, answers.div_ceil(THREADS)))).collect();
-    let mut tally = Tally::new();
-    for thread in threads {
-        match thread.join().expect("a thread panicked") {
-            Ok(part) => tally.add(&part),
-            Err(report) => fail(&report),
-        }
-    }
-    tally.print();
-    let missing = tally.missing();
-    if !missing.is_empty() {
-        fail(&format!("these never came: {}", missing.join(", ")));
-    }
-    println!("judge: {} answers, all agree", tally.answers);
+    threads::run("judge", ANSWERS, 101, run);
 }
 
-fn fail(report: &str) -> ! {
-    println!("{report}");
-    println!("judge: FAILED");
-    std::process::exit(1);
-}
-
-fn run(seed: u64, answers: u64) -> Result<Tally, Report> {
-    let mut run = Run { random: Random::new(seed + 101), tally: Tally::new() };
+fn run(run: &mut Run<Met>, answers: u64) -> Result<(), Report> {
     for bytes in [[0x00; TABLE], [0xFF; TABLE]] {
         run.judging(&Table::of(bytes.to_vec()), &[0; ANSWER])?;
     }
     while run.tally.answers < answers {
         run.step()?;
     }
-    Ok(run.tally)
+    Ok(())
 }
 
 /// 4,096 bytes and the ground instances of the ticket that they are the table of, if they are.
@@ -72,12 +49,7 @@ impl Table {
     }
 }
 
-struct Run {
-    random: Random,
-    tally: Tally,
-}
-
-impl Run {
+impl Run<Met> {
     /// A ticket and many answers to it; then its table damaged, and buffers that are too short.
     fn step(&mut self) -> Result<(), Report> {
         let mut ticket = tickets::ticket(&mut self.random);
@@ -98,7 +70,7 @@ impl Run {
         self.too_little(&table, &marks(&set))
     }
 
-    /// This set, a random one, all atoms, none; models, and models with one atom more or less.
+    /// This set, a random one, all atoms, none; fittings, and fittings with one atom more or less.
     fn sets(&mut self, table: &Table, set: &[bool]) -> Result<(), Report> {
         let another = self.any_set(set.len());
         let all = vec![true; set.len()];
@@ -109,24 +81,24 @@ impl Run {
         let Some(ground) = &table.ground else { return Ok(()) };
         let starts = if ground.instances.len() <= SMALL { vec![set, &another, &all, &none] } else { vec![set] };
         for start in starts {
-            if let Some(model) = model_near(&mut self.random, ground, start) {
-                self.judging(table, &marks(&model))?;
-                self.near_model(table, ground, model)?;
+            if let Some(fitting) = fitting_near(&mut self.random, ground, start) {
+                self.judging(table, &marks(&fitting))?;
+                self.near_fitting(table, ground, fitting)?;
             }
         }
         Ok(())
     }
 
-    /// A model with one atom flipped: each in turn where they are few, else one of some instances.
-    fn near_model(&mut self, table: &Table, ground: &Ground, mut model: Atoms) -> Result<(), Report> {
-        let mut flips: Vec<usize> = (0..model.len()).collect();
+    /// A fitting with one atom flipped: each in turn where they are few, else one of some instances.
+    fn near_fitting(&mut self, table: &Table, ground: &Ground, mut fitting: Atoms) -> Result<(), Report> {
+        let mut flips: Vec<usize> = (0..fitting.len()).collect();
         if flips.len() > 8 {
             flips = (0..6.min(ground.instances.len())).filter_map(|_| self.atom_of_an_instance(ground)).collect();
         }
         for at in flips {
-            model[at] = !model[at];
-            self.judging(table, &marks(&model))?;
-            model[at] = !model[at];
+            fitting[at] = !fitting[at];
+            self.judging(table, &marks(&fitting))?;
+            fitting[at] = !fitting[at];
         }
         Ok(())
     }
@@ -222,8 +194,8 @@ impl Run {
     }
 }
 
-/// A model that a few repairs of this set lead to.
-fn model_near(random: &mut Random, ground: &Ground, set: &[bool]) -> Option<Atoms> {
+/// A fitting that a few repairs of this set lead to.
+fn fitting_near(random: &mut Random, ground: &Ground, set: &[bool]) -> Option<Atoms> {
     let mut set = set.to_vec();
     for _ in 0..40 {
         let Some(instance) = ground.first_violated(&set) else { return Some(set) };
@@ -250,7 +222,7 @@ fn packed_judging(judging: Judging) -> u64 {
 }
 
 /// What a run has met: how often each answer came.
-struct Tally {
+struct Met {
     answers: u64,
     refused: [u64; 33],
     fitting: u64,
@@ -263,11 +235,13 @@ struct Tally {
 /// The refusals that each run must meet.
 const REFUSALS: [u8; 3] = [SHORT_BUFFER, NO_TABLE, BAD_ANSWER];
 
-impl Tally {
-    fn new() -> Tally {
-        Tally { answers: 0, refused: [0; 33], fitting: 0, violated: [0; 64], past_first: [0; 4], other_tables: 0, every_place: 0 }
+impl Default for Met {
+    fn default() -> Met {
+        Met { answers: 0, refused: [0; 33], fitting: 0, violated: [0; 64], past_first: [0; 4], other_tables: 0, every_place: 0 }
     }
+}
 
+impl Met {
     fn count(&mut self, judging: Judging) {
         self.answers += 1;
         match judging {
@@ -281,16 +255,17 @@ impl Tally {
             }
         }
     }
+}
 
-    fn add(&mut self, other: &Tally) {
-        let add = |to: &mut [u64], from: &[u64]| to.iter_mut().zip(from).for_each(|(to, from)| *to += from);
+impl Tally for Met {
+    fn add(&mut self, other: &Met) {
         self.answers += other.answers;
         self.fitting += other.fitting;
         self.other_tables += other.other_tables;
         self.every_place += other.every_place;
-        add(&mut self.refused, &other.refused);
-        add(&mut self.violated, &other.violated);
-        add(&mut self.past_first, &other.past_first);
+        add_each(&mut self.refused, &other.refused);
+        add_each(&mut self.violated, &other.violated);
+        add_each(&mut self.past_first, &other.past_first);
     }
 
     fn print(&self) {
@@ -299,20 +274,24 @@ impl Tally {
         }
         println!(" fitting {:8}", self.fitting);
         println!("violated {:8}, by clause:", self.violated.iter().sum::<u64>());
-        for (row, times) in self.violated.chunks(8).enumerate() {
-            println!("{:8} {}", 8 * row, times.iter().map(|times| format!("{times:8}")).collect::<String>());
+        for (i, times) in self.violated.chunks(8).enumerate() {
+            println!("{:8}{}", 8 * i, row(times));
         }
         println!("violated with a value past 0 of 80, 81, 82, 83: {:?}", self.past_first);
         println!("changed tables that are again a ticket's: {}", self.other_tables);
         println!("answers with a bad byte at each place in turn: {}", self.every_place);
     }
 
-    /// The answers that never came.
     fn missing(&self) -> Vec<String> {
-        let mut missing: Vec<String> = REFUSALS.iter().filter(|number| self.refused[**number as usize] == 0).map(u8::to_string).collect();
+        let refusals = REFUSALS.iter().filter(|number| self.refused[**number as usize] == 0);
+        let mut missing: Vec<String> = refusals.map(|number| format!("refusal {number}")).collect();
         missing.extend((self.fitting == 0).then(|| "fitting".to_string()));
         missing.extend((0..64).filter(|clause| self.violated[*clause] == 0).map(|clause| format!("violated clause {clause}")));
         missing.extend((0..4).filter(|i| self.past_first[*i] == 0).map(|i| format!("a value past 0 of {:X}", 0x80 + i)));
         missing
+    }
+
+    fn agreed(&self) -> String {
+        format!("{} answers", self.answers)
     }
 }

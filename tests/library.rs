@@ -5,7 +5,18 @@ extern "C" {
     fn lutsamik_read(text: *const u8, text_len: usize, table: *mut u8, table_len: usize) -> u64;
     fn lutsamik_write(table: *const u8, table_len: usize, out: *mut u8, out_len: usize) -> u64;
     fn lutsamik_judge(table: *const u8, table_len: usize, answer: *const u8, answer_len: usize) -> u64;
+    fn lutsamik_rewrite(table: *const u8, table_len: usize, rules: *mut u8, rules_len: usize) -> u64;
     fn lutsamik_fit_relevancy(table: *const u8, table_len: usize, answer: *mut u8, answer_len: usize, work: *mut u8, work_len: usize) -> u64;
+    fn lutsamik_fit_magic(
+        table: *const u8,
+        table_len: usize,
+        rules: *mut u8,
+        rules_len: usize,
+        answer: *mut u8,
+        answer_len: usize,
+        work: *mut u8,
+        work_len: usize,
+    ) -> u64;
 }
 
 pub fn read(text: &[u8], table: &mut [u8]) -> u64 {
@@ -25,7 +36,18 @@ pub fn fit_relevancy(table: &[u8], answer: &mut [u8], work: &mut [u8]) -> u64 {
     unsafe { lutsamik_fit_relevancy(table.as_ptr(), table.len(), answer.as_mut_ptr(), answer.len(), work.as_mut_ptr(), work.len()) }
 }
 
-/// An answer of reading or writing: the refusal number (0: none) in bits 0 to 7, the line or the length in bits 32 to 63.
+pub fn rewrite(table: &[u8], rules: &mut [u8]) -> u64 {
+    unsafe { lutsamik_rewrite(table.as_ptr(), table.len(), rules.as_mut_ptr(), rules.len()) }
+}
+
+pub fn fit_magic(table: &[u8], rules: &mut [u8], answer: &mut [u8], work: &mut [u8]) -> u64 {
+    let (rules, rules_len) = (rules.as_mut_ptr(), rules.len());
+    let (answer, answer_len) = (answer.as_mut_ptr(), answer.len());
+    unsafe { lutsamik_fit_magic(table.as_ptr(), table.len(), rules, rules_len, answer, answer_len, work.as_mut_ptr(), work.len()) }
+}
+
+/// An answer of reading, writing or rewriting: the refusal number (0: none) in bits 0 to 7, the line, the length or the number of
+/// rules in bits 32 to 63.
 pub fn packed(number: u8, high: u32) -> u64 {
     number as u64 | (high as u64) << 32
 }

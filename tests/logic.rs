@@ -1,5 +1,5 @@
 //! The logic of a ticket, from document 01 alone: ground atoms by their numbers, instances in the walk's
-//! order, and the model check. Plain and naive; it shares nothing with the crates.
+//! order, and judging. Plain and naive; it shares nothing with the crates.
 #![allow(dead_code)] // each program uses its own part
 
 use crate::reference::{is_variable, Atom, Clause, Ticket, ANSWER, BAD_ANSWER, NO_TABLE, SHORT_BUFFER, TABLE};

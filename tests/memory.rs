@@ -2,6 +2,7 @@
 #![allow(dead_code)] // each program uses its own part
 
 use crate::random::Random;
+use crate::report::Report;
 
 const MARGIN: usize = 40;
 
@@ -44,25 +45,25 @@ impl Memory {
         memory
     }
 
-    /// The same memory, but each bit of the lent buffer is the other.
-    pub fn complemented(&self) -> Memory {
-        let mut memory = self.clone();
-        memory.lent_mut().iter_mut().for_each(|byte| *byte = !*byte);
-        memory
-    }
-
     /// The same memory, but the lent buffer ends earlier.
     pub fn truncated(&self, len: usize) -> Memory {
         Memory { bytes: self.bytes.clone(), len }
     }
 
     /// Where the two differ first, counted from the start of the lent buffer.
-    pub fn first_difference(&self, other: &Memory) -> Option<isize> {
+    fn first_difference(&self, other: &Memory) -> Option<isize> {
         if self == other {
             return None;
         }
         let at = self.bytes.iter().zip(&other.bytes).position(|(a, b)| a != b)?;
         Some(at as isize - MARGIN as isize)
+    }
+}
+
+pub fn same_bytes(what: &str, expected: &Memory, found: &Memory, about: impl Fn() -> String) -> Result<(), Report> {
+    match expected.first_difference(found) {
+        None => Ok(()),
+        Some(at) => Err(format!("the {what} differs at byte {at}: {}", about())),
     }
 }
 

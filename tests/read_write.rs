@@ -5,64 +5,35 @@ mod mangle;
 mod memory;
 mod random;
 mod reference;
+mod refusals;
 mod report;
-mod tally;
+mod threads;
 mod tickets;
 
 use library::packed;
-use memory::{less_than, Memory};
-use random::Random;
+use memory::{less_than, same_bytes, Memory};
 use reference::{NO_TABLE, SHORT_BUFFER, TABLE, TEXT_OUT};
-use report::{dump, same_answer, same_bytes, Report};
-use tally::Tally;
+use refusals::Refusals;
+use report::{dump, same_answer, Report};
+use threads::Run;
 
-const THREADS: u64 = 2;
-const DEFAULT_TEXTS: u64 = 1_200_000;
-
-struct Run {
-    random: Random,
-    tally: Tally,
-}
+const TEXTS: u64 = 1_200_000;
 
 fn main() {
-    let texts = match std::env::args().nth(1) {
-        Some(word) => word.parse().expect("the number of texts"),
-        None => DEFAULT_TEXTS,
-    };
-    let threads: Vec<_> = (0..THREADS).map(|i| std::thread::spawn(move || run(i, texts.div_ceil(THREADS)))).collect();
-    let mut tally = Tally::new();
-    for thread in threads {
-        match thread.join().expect("a thread panicked") {
-            Ok(part) => tally.add(&part),
-            Err(report) => fail(&report),
-        }
-    }
-    tally.print();
-    let missing = tally.missing();
-    if !missing.is_empty() {
-        fail(&format!("these refusals never came: {missing:?}"));
-    }
-    println!("read_write: {} texts, all agree", tally.texts);
+    threads::run("read_write", TEXTS, 1, run);
 }
 
-fn fail(report: &str) -> ! {
-    println!("{report}");
-    println!("read_write: FAILED");
-    std::process::exit(1);
-}
-
-fn run(seed: u64, texts: u64) -> Result<Tally, Report> {
-    let mut run = Run { random: Random::new(seed + 1), tally: Tally::new() };
+fn run(run: &mut Run<Refusals>, texts: u64) -> Result<(), Report> {
     for table in [[0x00; TABLE], [0xFF; TABLE]] {
         run.writing(&table)?;
     }
     while run.tally.texts < texts {
         run.step()?;
     }
-    Ok(run.tally)
+    Ok(())
 }
 
-impl Run {
+impl Run<Refusals> {
     /// A ticket, whole or with one thing changed (then its table is tried too), and its text, whole or damaged.
     fn step(&mut self) -> Result<(), Report> {
         let mut ticket = tickets::ticket(&mut self.random);

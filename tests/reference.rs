@@ -78,7 +78,17 @@ impl Ticket {
     }
 }
 
+impl Atom {
+    pub fn new(predicate: u8, arguments: &[u8]) -> Atom {
+        Atom { predicate, arguments: arguments.to_vec() }
+    }
+}
+
 impl Clause {
+    pub fn new(conditions: &[Atom], alternatives: &[Atom]) -> Clause {
+        Clause { conditions: conditions.to_vec(), alternatives: alternatives.to_vec() }
+    }
+
     /// The clause's different variables, in the order in which they first appear.
     pub fn variables(&self) -> Vec<u8> {
         let mut found = variables_of(&self.conditions);

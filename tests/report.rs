@@ -1,22 +1,22 @@
-//! Comparing what a call left with what was expected, and telling the difference.
-
-use crate::memory::Memory;
+//! Comparing what was found with what was expected, and telling the difference.
+#![allow(dead_code)] // each program uses its own part
 
 /// What went wrong, told in full.
 pub type Report = String;
 
+pub fn same<T: PartialEq + std::fmt::Debug>(what: &str, expected: T, found: T) -> Result<(), Report> {
+    if expected == found {
+        return Ok(());
+    }
+    Err(format!("{what}: {found:?}, expected {expected:?}"))
+}
+
+/// Of the library's answers, which are packed.
 pub fn same_answer(expected: u64, found: u64, about: impl Fn() -> String) -> Result<(), Report> {
     if expected == found {
         return Ok(());
     }
     Err(format!("answer {found:#X}, expected {expected:#X}: {}", about()))
-}
-
-pub fn same_bytes(what: &str, expected: &Memory, found: &Memory, about: impl Fn() -> String) -> Result<(), Report> {
-    match expected.first_difference(found) {
-        None => Ok(()),
-        Some(at) => Err(format!("the {what} differs at byte {at}: {}", about())),
-    }
 }
 
 /// The bytes of a table that are not zero.

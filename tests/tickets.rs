@@ -49,8 +49,11 @@ pub fn full(random: &mut Random) -> Ticket {
 }
 
 /// A small ticket whose walk is likely to make entries: facts, chains, splits and denials over few atoms. One in
-/// three has little but splits and denials, many of them, and a long walk.
+/// three has little but splits and denials, many of them, and a long walk; one in forty is crowded.
 pub fn to_walk(random: &mut Random) -> Ticket {
+    if random.once_in(40) {
+        return crowded(random);
+    }
     let constants = random.pick(&[0, 1, 2, 2, 3, 3, 4, 5]);
     let mut ticket = empty(random, constants, Vec::new());
     for _ in 0..random.within(2, 8) {
@@ -77,16 +80,39 @@ pub fn to_walk(random: &mut Random) -> Ticket {
     ticket
 }
 
+/// A ticket of splits and denials, nearly all ground, over some thirty atoms: most walks make ten entries or more, and
+/// many a hundred.
+pub fn crowded(random: &mut Random) -> Ticket {
+    let constants = random.pick(&[0, 2, 3, 4]);
+    let mut ticket = empty(random, constants, Vec::new());
+    let atoms = random.within(24, 32) as u64;
+    while ticket.atoms() < atoms {
+        ticket.arities.push(if constants == 0 { 0 } else { random.pick(&[0, 1, 1, 1]) });
+    }
+    for _ in 0..random.within(18, 24) {
+        let m = random.pick(&[2, 2, 3, 3, 4]);
+        let split = clause(random, &ticket, 0, m, 0);
+        ticket.clauses.push(split);
+    }
+    for _ in 0..random.within(24, 40) {
+        let (n, variables) = (random.pick(&[2, 2, 2, 3]), random.pick(&[0, 0, 0, 0, 1]));
+        let denial = clause(random, &ticket, n, 0, variables);
+        ticket.clauses.push(denial);
+    }
+    random.shuffle(&mut ticket.clauses);
+    ticket
+}
+
 /// A ticket whose walk enters each atom of its first predicate, of arity 2, one below the other: first those with
 /// argument 00 in the second place, then the rest by them. With a second predicate, of arity 0, a denial wants them all
 /// and closes nothing; without, it closes the path that holds them all.
 pub fn deep(constants: u8, predicates: usize, limit: u32) -> Ticket {
-    let atom = |x: u8, y: u8| Atom { predicate: 0, arguments: vec![x, y] };
+    let atom = |x: u8, y: u8| Atom::new(0, &[x, y]);
     let (variable, another) = (0x80, 0x81);
-    let mut clauses: Vec<Clause> = (0..constants).map(|k| Clause { conditions: vec![], alternatives: vec![atom(k, 0); 2] }).collect();
-    clauses.extend((1..constants).map(|k| Clause { conditions: vec![atom(variable, 0)], alternatives: vec![atom(variable, k); 2] }));
-    let last = if predicates == 2 { Atom { predicate: 1, arguments: vec![] } } else { atom(constants - 1, constants - 1) };
-    clauses.push(Clause { conditions: vec![atom(variable, another), last], alternatives: vec![] });
+    let mut clauses: Vec<Clause> = (0..constants).map(|k| Clause::new(&[], &[atom(k, 0), atom(k, 0)])).collect();
+    clauses.extend((1..constants).map(|k| Clause::new(&[atom(variable, 0)], &[atom(variable, k), atom(variable, k)])));
+    let last = if predicates == 2 { Atom::new(1, &[]) } else { atom(constants - 1, constants - 1) };
+    clauses.push(Clause::new(&[atom(variable, another), last], &[]));
     Ticket { constants, limit: limit.to_be_bytes(), arities: vec![2, 0][..predicates].to_vec(), clauses }
 }
 
@@ -129,6 +155,17 @@ fn fitting_clause(random: &mut Random, ticket: &Ticket, left: u64) -> Clause {
     clause(random, ticket, 0, 0, 0)
 }
 
+/// Adds a clause of n conditions, m alternatives and at most this many variables, with constants below `constants`;
+/// none where it would pass the limit of 16,384.
+pub fn add_clause(random: &mut Random, ticket: &mut Ticket, (n, m, most_variables): (usize, usize, u8), constants: u8) {
+    let narrow = Ticket { constants: constants.min(ticket.constants), ..ticket.clone() };
+    let next = clause(random, &narrow, n, m, most_variables);
+    let sum: u64 = ticket.clauses.iter().chain([&next]).map(|clause| ticket.marks(clause)).sum();
+    if sum <= 16384 {
+        ticket.clauses.push(next);
+    }
+}
+
 /// A clause of n conditions and m alternatives. Where no argument can be had, an atom is left out.
 fn clause(random: &mut Random, ticket: &Ticket, n: usize, m: usize, most_variables: u8) -> Clause {
     let mut known = 0;
@@ -161,22 +198,27 @@ fn atom(random: &mut Random, ticket: &Ticket, known: &mut u8, most_variables: u8
 
 /// A is 1,024, or a little to either side.
 pub fn atoms_near_limit(random: &mut Random) -> Ticket {
+    let atoms = random.pick(&[1023, 1024, 1024, 1024, 1025, 1025, 1026]);
+    let mut ticket = with_atoms(random, atoms);
+    let clauses = random.below(4);
+    add_clauses(random, &mut ticket, clauses);
+    ticket
+}
+
+/// No clauses, and this many atoms, some hundreds.
+pub fn with_atoms(random: &mut Random, atoms: u64) -> Ticket {
     loop {
         let constants = random.within(4, 32) as u8;
         let mut ticket = empty(random, constants, Vec::new());
-        let target = random.pick(&[1023, 1024, 1024, 1024, 1025, 1025, 1026]);
         for arity in [3, 2, 1, 0] {
-            while ticket.atoms() + ticket.power(arity) <= target {
+            while ticket.atoms() + ticket.power(arity) <= atoms {
                 ticket.arities.push(arity as u8);
             }
         }
-        if ticket.arities.len() > 32 {
-            continue;
+        if ticket.arities.len() <= 32 {
+            random.shuffle(&mut ticket.arities);
+            return ticket;
         }
-        random.shuffle(&mut ticket.arities);
-        let clauses = random.below(4);
-        add_clauses(random, &mut ticket, clauses);
-        return ticket;
     }
 }
 

@@ -8,8 +8,8 @@ pub struct Worked {
 }
 
 /// Beginnings: K1's, with c = 2 and three predicates of arity 1; c = 0 and one predicate of arity 0.
-pub const K1: &str = "0101020300000064\n0201\n0201\n0201\n";
-pub const BARE: &str = "0101000100000064\n0200\n";
+const K1: &str = "0101020300000064\n0201\n0201\n0201\n";
+const BARE: &str = "0101000100000064\n0200\n";
 
 pub fn worked() -> Vec<Worked> {
     let predicates = "0201\n0201\n0201\n";

@@ -2,6 +2,8 @@
 use Prim.Native.Nat.{ℕ, _+_, _*_}
 use Rattle.ground.specs.declared.check.Judging.{Judging}
 use Rattle.ground.specs.declared.check.Judging.the-variants.{Unjudged, Model as IsModel, Violated}
+use Rattle.magic.specs.declared.rewrite.Rewriting.{Rewriting}
+use Rattle.magic.specs.declared.rewrite.Rewriting.the-variants as rewriting
 use Rattle.problem.specs.declared.read.Reading.{Reading}
 use Rattle.problem.specs.declared.read.Reading.the-variants.{Refused, Accepted}
 use Rattle.problem.specs.declared.write.Writing.{Writing}
@@ -32,3 +34,8 @@ packVerdict (verdict.Refused e) = e
 packVerdict (verdict.Satisfied n) = 256 + 4294967296 * n
 packVerdict (verdict.Refuted n) = 4294967296 * n
 packVerdict (verdict.Exhausted n) = 512 + 4294967296 * n
+
+-- with the number of rules
+abbrev pub packRewriting : Rewriting → ℕ
+packRewriting (rewriting.Refused e) = e
+packRewriting (rewriting.Rewritten n) = 4294967296 * n

@@ -1,13 +1,16 @@
 // The operations, for a host in C: numbers and byte slices go in, and one number comes back.
 use ground::check::Judging;
 use ground::verdict::Verdict;
+use magic::rewrite::Rewriting;
 use problem::read::Reading;
 use problem::write::Writing;
 ghost use mathlib.Core.Path.{_≡_};
 ghost use Rattle.problem.specs.Table.{readResult, readLeaves, writeResult, writeLeaves};
 ghost use Rattle.ground.specs.ModelCheck.{judgeResult};
 ghost use Rattle.relevancy.specs.Engine.{fitResult, fitAnswer, fitWork};
-ghost use Rattle.lutsamik.specs.Pack.{packReading, packWriting, packJudging, packVerdict};
+ghost use Rattle.magic.specs.Engine.{magicResult, magicRules, magicAnswer, magicWork};
+ghost use Rattle.magic.specs.Rewrite.{rewriteResult, rewriteLeaves};
+ghost use Rattle.lutsamik.specs.Pack.{packReading, packWriting, packJudging, packVerdict, packRewriting};
 
 fn pack_reading(r: Reading) -> u64
     ensures { λ n. ⌜ n ≡ packReading r ⌝ }
@@ -52,6 +55,15 @@ fn pack_verdict(v: Verdict) -> u64
     }
 }
 
+fn pack_rewriting(r: Rewriting) -> u64
+    ensures { λ n. ⌜ n ≡ packRewriting r ⌝ }
+{
+    match r {
+        Rewriting::Refused(e) => e as u64,
+        Rewriting::Rewritten(count) => 4294967296 * (count as u64),
+    }
+}
+
 // Reads a text into a table of 4,096 bytes.
 #[no_mangle]
 pub extern "C" fn lutsamik_read(text: &[u8], table: &mut [u8]) -> u64
@@ -82,4 +94,25 @@ pub extern "C" fn lutsamik_fit_relevancy(table: &[u8], answer: &mut [u8], work: 
     ensures { λ n. ⌜ (n ≡ packVerdict (fitResult (now (table .entry)) (now (answer .entry)) (now (work .entry)))) × (now (answer .exit) ≡ fitAnswer (now (table .entry)) (now (answer .entry)) (now (work .entry))) × (now (work .exit) ≡ fitWork (now (table .entry)) (now (answer .entry)) (now (work .entry))) ⌝ }
 {
     pack_verdict(relevancy::engine::fit(table, answer, work))
+}
+
+// Rewrites a table into magic rules, in a rules buffer of 16,384 bytes.
+#[no_mangle]
+pub extern "C" fn lutsamik_rewrite(table: &[u8], rules: &mut [u8]) -> u64
+    ensures { λ n. ⌜ (n ≡ packRewriting (rewriteResult (now (table .entry)) (now (rules .entry)))) × (now (rules .exit) ≡ rewriteLeaves (now (table .entry)) (now (rules .entry))) ⌝ }
+{
+    pack_rewriting(magic::rewrite::rewrite(table, rules))
+}
+
+// Fits a table by the magic engine, with 16,384 bytes for the rules, 1,024 answer bytes and 65,536 to work in.
+#[no_mangle]
+pub extern "C" fn lutsamik_fit_magic(
+    table: &[u8],
+    rules: &mut [u8],
+    answer: &mut [u8],
+    work: &mut [u8],
+) -> u64
+    ensures { λ n. ⌜ (n ≡ packVerdict (magicResult (now (table .entry)) (now (rules .entry)) (now (answer .entry)) (now (work .entry)))) × (now (rules .exit) ≡ magicRules (now (table .entry)) (now (rules .entry)) (now (answer .entry)) (now (work .entry))) × (now (answer .exit) ≡ magicAnswer (now (table .entry)) (now (rules .entry)) (now (answer .entry)) (now (work .entry))) × (now (work .exit) ≡ magicWork (now (table .entry)) (now (rules .entry)) (now (answer .entry)) (now (work .entry))) ⌝ }
+{
+    pack_verdict(magic::engine::fit(table, rules, answer, work))
 }

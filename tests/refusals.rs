@@ -1,6 +1,8 @@
-//! What a run has met: how often each refusal came, and at how many different lines.
+//! What reading and writing have met: how often each refusal came, and at how many different lines.
 
-pub struct Tally {
+use crate::threads::{add_each, Tally};
+
+pub struct Refusals {
     pub texts: u64,
     pub accepted: u64,
     pub longest: usize,
@@ -12,11 +14,13 @@ pub struct Tally {
 /// The refusals that each run must meet.
 const ALL: [u8; 12] = [1, 2, 3, 4, 5, 6, 7, 8, 9, 10, 11, 31];
 
-impl Tally {
-    pub fn new() -> Tally {
-        Tally { texts: 0, accepted: 0, longest: 0, other_tables: 0, refused: [0; 32], lines: [[false; 128]; 32] }
+impl Default for Refusals {
+    fn default() -> Refusals {
+        Refusals { texts: 0, accepted: 0, longest: 0, other_tables: 0, refused: [0; 32], lines: [[false; 128]; 32] }
     }
+}
 
+impl Refusals {
     pub fn refusal(&mut self, number: u8, line: u32) {
         self.refused[number as usize] += 1;
         self.lines[number as usize][line as usize] = true;
@@ -26,21 +30,21 @@ impl Tally {
         self.accepted += 1;
         self.longest = self.longest.max(text.len());
     }
+}
 
-    pub fn add(&mut self, other: &Tally) {
+impl Tally for Refusals {
+    fn add(&mut self, other: &Refusals) {
         self.texts += other.texts;
         self.accepted += other.accepted;
         self.longest = self.longest.max(other.longest);
         self.other_tables += other.other_tables;
-        for number in 0..32 {
-            self.refused[number] += other.refused[number];
-            for line in 0..128 {
-                self.lines[number][line] |= other.lines[number][line];
-            }
+        add_each(&mut self.refused, &other.refused);
+        for (lines, others) in self.lines.iter_mut().zip(&other.lines) {
+            lines.iter_mut().zip(others).for_each(|(line, other)| *line |= other);
         }
     }
 
-    pub fn print(&self) {
+    fn print(&self) {
         println!("refusal    times  lines");
         for number in ALL {
             let lines = self.lines[number as usize][1..].iter().filter(|met| **met).count();
@@ -50,8 +54,11 @@ impl Tally {
         println!("changed tables that are again a ticket's: {}", self.other_tables);
     }
 
-    /// The refusals that never came.
-    pub fn missing(&self) -> Vec<u8> {
-        ALL.into_iter().filter(|number| self.refused[*number as usize] == 0).collect()
+    fn missing(&self) -> Vec<String> {
+        ALL.iter().filter(|number| self.refused[**number as usize] == 0).map(|number| format!("refusal {number}")).collect()
+    }
+
+    fn agreed(&self) -> String {
+        format!("{} texts", self.texts)
     }
 }

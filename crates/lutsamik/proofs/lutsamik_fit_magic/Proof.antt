@@ -1,0 +1,19 @@
+-- `lutsamik::lutsamik_fit_magic` meets its contract.
+use borrow.Author.Needs.{needs}
+use mathlib.Core.Path.{ap, _∙_}
+use Rattle.lutsamik.specs.Pack.{packVerdict}
+use Rattle.lutsamik.proofs.lutsamik_fit_magic.Statement.{statement}
+use Rattle.lutsamik.proofs.lutsamik_fit_magic.Tie as tie
+
+pub lutsamik-fit-magic-spec : {M : Type 1} → statement M
+lutsamik-fit-magic-spec =
+    tie.close
+    (tie.spec
+    (λ c κs. search needs)  -- fit-requires
+    (λ c κs. search needs)  -- pack-verdict-requires
+    (λ c. search needs)  -- same-length
+    (λ c. search needs)  -- same-length-2
+    (λ c. search needs)  -- same-length-3
+    (λ c.
+    let fit = c .before .before .before .before .before .before .before .fit in
+    (c .pack-verdict .ensures ∙ ap packVerdict (fit .ensures .0), fit .ensures .1, fit .ensures .2, fit .ensures .3)))  -- returns
