@@ -49,7 +49,7 @@ fn worked_tickets() -> Result<(), Report> {
 /// The tickets that the program `cases` runs, with the lines that it expects.
 fn case_files() -> Result<(), Report> {
     let files = std::fs::read_dir(CASES).expect("the cases' data").map(|entry| entry.expect("a file").path());
-    let tickets: Vec<_> = files.filter(|path| path.extension().is_some_and(|kind| kind == "ticket")).collect();
+    let tickets: Vec<_> = files.filter(|path| path.extension().is_some_and(|kind| kind == "text")).collect();
     for ticket in &tickets {
         let read = |path: &std::path::Path| std::fs::read(path).expect("a file of a case");
         both_print(&ticket.display().to_string(), &read(ticket), &read(&ticket.with_extension("lines")))?;

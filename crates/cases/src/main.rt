@@ -30,9 +30,9 @@ fn say(name: &[u8], engine: &[u8], good: bool) {
 }
 
 // Runs a case: each engine must print the same lines.
-fn case(name: &[u8], ticket: &[u8], lines: &[u8]) {
+fn case(name: &[u8], source: &[u8], lines: &[u8]) {
     let mut text = [0u8; 8192];
-    let size = load(ticket, &mut text);
+    let size = load(source, &mut text);
     let mut expected = [0u8; 12288];
     let most = load(lines, &mut expected);
     let mut out = [0u8; 12288];
@@ -48,33 +48,33 @@ fn case(name: &[u8], ticket: &[u8], lines: &[u8]) {
 
 // One problem under four limits.
 fn limits() {
-    case(b"K1", b"K1.ticket", b"K1.lines");
-    case(b"K2", b"K2.ticket", b"K2.lines");
-    case(b"K3", b"K3.ticket", b"K3.lines");
-    case(b"K4", b"K4.ticket", b"K4.lines");
+    case(b"K1", b"K1.text", b"K1.lines");
+    case(b"K2", b"K2.text", b"K2.lines");
+    case(b"K3", b"K3.text", b"K3.lines");
+    case(b"K4", b"K4.text", b"K4.lines");
 }
 
 // The other marked cases.
 fn marked() {
-    case(b"K5", b"K5.ticket", b"K5.lines");
-    case(b"K6", b"K6.ticket", b"K6.lines");
-    case(b"K7", b"K7.ticket", b"K7.lines");
-    case(b"K8", b"K8.ticket", b"K8.lines");
-    case(b"K9", b"K9.ticket", b"K9.lines");
+    case(b"K5", b"K5.text", b"K5.lines");
+    case(b"K6", b"K6.text", b"K6.lines");
+    case(b"K7", b"K7.text", b"K7.lines");
+    case(b"K8", b"K8.text", b"K8.lines");
+    case(b"K9", b"K9.text", b"K9.lines");
 }
 
 // The largest tickets, and those just past them.
 fn largest() {
-    case(b"K10", b"K10.ticket", b"K10.lines");
-    case(b"K10 refused", b"K10_refused.ticket", b"K10_refused.lines");
-    case(b"K11", b"K11.ticket", b"K11.lines");
-    case(b"K11 refused", b"K11_refused.ticket", b"K11_refused.lines");
+    case(b"K10", b"K10.text", b"K10.lines");
+    case(b"K10 refused", b"K10_refused.text", b"K10_refused.lines");
+    case(b"K11", b"K11.text", b"K11.lines");
+    case(b"K11 refused", b"K11_refused.text", b"K11_refused.lines");
 }
 
 // Document 000's examples.
 fn examples() {
-    case(b"example 1", b"example_1.ticket", b"example_1.lines");
-    case(b"example 7", b"example_7.ticket", b"example_7.lines");
+    case(b"example 1", b"example_1.text", b"example_1.lines");
+    case(b"example 7", b"example_7.text", b"example_7.lines");
 }
 
 fn main() {
