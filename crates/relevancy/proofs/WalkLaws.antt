@@ -12,6 +12,7 @@ use Rattle.lists.specs.Member.{All, has}
 use Rattle.search.specs.Ground.{Found, split}
 use Rattle.search.specs.Relevancy.{hornRules, branches, findR}
 use Rattle.search.specs.Machine.{Branch, Outcome, Exhausted, entered, enter, back, place, proceed, outcome, resume, Genuine}
+use Rattle.search.proofs.Limit.{resume-exhausted}
 use Rattle.search.proofs.Machine.{proceed-open, proceed-closed, proceed-split}
 use Rattle.store.specs.Store.{Store, Undone, logged}
 use Rattle.store.specs.Worked.{Worked}
@@ -83,12 +84,6 @@ module _ (tb work : List ℕ) (depth done count limit : ℕ) (within : count ≤
     split-exhausted tried e = split-tries ∙ e
 
 -- ---- trying
-
-resume-exhausted : {I : Type 0} (find : List ℕ → Found I) (i : I) (ds : List ℕ) (bs : List (Branch I)) (o : Option (List (Branch I))) (left count : ℕ) → left ≡ 0 → 0 < length ds
-    → resume find left count (enter i ds bs o) ≡ Exhausted count
-unfolding resume
-resume-exhausted find i [] bs o left count e l = absurd (omega arith)
-resume-exhausted find i (a ∷ ds) bs o left count e l = rw e
 
 module _ (tb : List ℕ) (h : Lawful tb) (work : List ℕ) (depth count limit : ℕ) (node : Parted tb work depth) (within : count ≤ limit) where
   abbrev finds : List ℕ → Found Instance
