@@ -1,6 +1,10 @@
-//! How long fitting takes: by each of the library's engines, and by the tests' independent walk, which repeats passes
-//! over all instances at each node. The same tickets and limits, in one run; verdict and count must agree. The magic
-//! engine's time has the rewriting in it.
+//! How long fitting takes: by each of the library's engines, by the tests' independent walk, which repeats passes over
+//! all instances at each node, and by an engine in Rust made for speed. The same tickets and limits, in one run; verdict,
+//! count and fitting must agree. The library's times have checking the table and rewriting in them, the fast engine's
+//! has grounding.
+mod first_of;
+mod grounded;
+mod instances;
 #[path = "../tests/library.rs"]
 mod library;
 #[path = "../tests/logic.rs"]
@@ -12,20 +16,24 @@ mod random;
 mod reference;
 #[path = "../tests/tickets.rs"]
 mod tickets;
+mod rows;
 mod timing;
 #[path = "../tests/walk.rs"]
 mod walk;
 
 use reference::{Ticket, ANSWER, RULES, WORK};
 use timing::timed;
-use walk::{walk, Relevancy};
+use walk::{walk, Outcome, Relevancy};
 
 /// Each engine's best of these counts.
 const ROUNDS: usize = 3;
 
 fn main() {
-    println!("{:59}                  ns / entry                      ratios of times", "");
-    println!("{:42} instances  verdict  entries   relevancy      magic       Rust   Rust/relevancy   Rust/magic   relevancy/magic", "");
+    println!("{:68}            ns / entry                      ratios of times", "");
+    println!(
+        "{:42} instances  verdict  entries   relevancy      magic       slow     fast   slow/relevancy   slow/magic   relevancy/fast   magic/fast",
+        ""
+    );
     row("8 pigeons in 7 holes", &puzzles::pigeons());
     row("3-colouring on 30 constants", &puzzles::colouring(false, u32::MAX));
     row("a reversed Horn chain of 1,024 steps", &puzzles::chain());
@@ -40,34 +48,39 @@ fn main() {
 /// Times are for each entry made and the root, so that a walk that makes no entry has one too.
 fn row(name: &str, ticket: &Ticket) {
     assert!(reference::read(&reference::print(ticket)).is_ok(), "{name} is refused");
-    let (outcome, rust) = timed(|| walk(&Relevancy::new(ticket), u32::from_be_bytes(ticket.limit), &mut |_, _| {}));
-    let expected = library::fit(outcome.verdict as u8, outcome.count);
-    let [relevancy, magic] = by_engines(name, ticket, expected);
+    let (outcome, slow) = timed(|| walk(&Relevancy::new(ticket), u32::from_be_bytes(ticket.limit), &mut |_, _| {}));
+    let [relevancy, magic, fast] = by_engines(name, ticket, &outcome);
     let instances: u64 = ticket.clauses.iter().map(|clause| ticket.instances(clause)).sum();
     let verdict = ["none", "fits", "spent"][outcome.verdict as usize];
-    let [by_relevancy, by_magic, by_rust] = [relevancy, magic, rust].map(|took| took / (outcome.count as f64 + 1.0));
+    let [by_relevancy, by_magic, by_slow, by_fast] = [relevancy, magic, slow, fast].map(|took| took / (outcome.count as f64 + 1.0));
     println!(
-        "{name:42} {instances:9} {verdict:>8} {:8} {by_relevancy:11.0} {by_magic:10.0} {by_rust:10.0} {:16.2} {:12.2} {:17.2}",
+        "{name:42} {instances:9} {verdict:>8} {:8} {by_relevancy:11.0} {by_magic:10.0} {by_slow:10.0} {by_fast:8.0} {:16.2} {:12.2} {:16.2} {:12.2}",
         outcome.count,
-        rust / relevancy,
-        rust / magic,
-        relevancy / magic
+        slow / relevancy,
+        slow / magic,
+        relevancy / fast,
+        magic / fast
     );
 }
 
-/// The nanoseconds of a call by the relevancy engine, and of one by the magic engine, which must both give this answer.
-/// They take turns, so that each meets the same conditions.
-fn by_engines(name: &str, ticket: &Ticket, expected: u64) -> [f64; 2] {
+/// The nanoseconds of a call by the relevancy engine, by the magic engine and by the fast one, which must all end with
+/// this. They take turns, so that each meets the same conditions.
+fn by_engines(name: &str, ticket: &Ticket, outcome: &Outcome) -> [f64; 3] {
     let table = reference::encode(ticket);
-    let (mut rules, mut answer, mut work) = (vec![0; RULES], vec![0; ANSWER], vec![0; WORK]);
-    let mut best = [f64::MAX; 2];
+    let (mut rules, mut work) = (vec![0; RULES], vec![0; WORK]);
+    let mut best = [f64::MAX; 3];
     for _ in 0..ROUNDS {
-        let relevancy = timed(|| library::fit_relevancy(&table, &mut answer, &mut work));
-        let magic = timed(|| library::fit_magic(&table, &mut rules, &mut answer, &mut work));
-        for (best, (found, took)) in best.iter_mut().zip([relevancy, magic]) {
-            assert!(found == expected, "{name}: {found:X}, expected {expected:X}");
-            *best = best.min(took);
+        let mut answers = [[0; ANSWER]; 2];
+        let (relevancy, by_relevancy) = timed(|| library::fit_relevancy(&table, &mut answers[0], &mut work));
+        let (magic, by_magic) = timed(|| library::fit_magic(&table, &mut rules, &mut answers[1], &mut work));
+        let (fast, by_fast) = timed(|| grounded::fit(ticket));
+        assert!(fast == *outcome, "{name}: the fast engine differs");
+        for (engine, answer) in [relevancy, magic].iter().zip(&answers) {
+            assert!(*engine == library::fit(outcome.verdict as u8, outcome.count), "{name}: {engine:X}");
+            let marks: Option<Vec<bool>> = outcome.fitting.as_ref().map(|fitting| answer[..fitting.len()].iter().map(|mark| *mark == 1).collect());
+            assert!(marks == outcome.fitting, "{name}: the fitting differs");
         }
+        best = [best[0].min(by_relevancy), best[1].min(by_magic), best[2].min(by_fast)];
     }
     best
 }
