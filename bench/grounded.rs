@@ -172,7 +172,7 @@ impl<'a> Walk<'a> {
         self.wanted.add(self.instances.falsity);
         let chaining = &self.instances.chaining;
         let given = (0..chaining.conditions.len() as u16).filter(|instance| chaining.conditions.of(*instance).is_empty());
-        given.for_each(|instance| self.truth.add(chaining.alternatives.of(instance)[0]));
+        given.for_each(|instance| self.truth.add(chaining.alternatives.only(instance)));
         !self.truth.holds(self.instances.falsity)
     }
 
@@ -196,7 +196,7 @@ impl<'a> Walk<'a> {
             let untrue = &mut self.untrue[*instance as usize];
             *untrue -= 1;
             if *untrue == 0 {
-                let given = self.instances.chaining.alternatives.of(*instance)[0];
+                let given = self.instances.chaining.alternatives.only(*instance);
                 if given == self.instances.falsity {
                     self.unchain(&places[..=i]);
                     return false;
@@ -242,7 +242,7 @@ impl<'a> Walk<'a> {
     fn want_past_in_chaining(&mut self, fact: u16) {
         let chaining = &self.instances.chaining;
         for instance in self.places.before_another_in_chaining.of(fact) {
-            if self.wanted.holds(chaining.alternatives.of(*instance)[0]) {
+            if self.wanted.holds(chaining.alternatives.only(*instance)) {
                 want_conditions(chaining.conditions.of(*instance), &self.truth, &mut self.wanted);
             }
         }

@@ -24,6 +24,12 @@ impl Rows {
         &self.members[self.starts[row as usize] as usize..self.starts[row as usize + 1] as usize]
     }
 
+    /// The member of a row, where each row has one.
+    #[inline]
+    pub fn only(&self, row: u16) -> u16 {
+        self.members[row as usize]
+    }
+
     pub fn lengths(&self) -> impl Iterator<Item = usize> + '_ {
         self.starts.windows(2).map(|ends| (ends[1] - ends[0]) as usize)
     }
