@@ -1,54 +1,97 @@
-//! The engine written for speed makes the walk of document 01: on random tickets of all sizes, under several limits, its
-//! verdict, count and fitting are those of the tests' independent walk. Usage: agree [NUMBER OF TICKETS].
-mod first_of;
+//! The engine made for speed makes the walk of document 01: on random tickets, small and large, and under limits around
+//! the count, its verdict, count and fitting are those of the tests' independent walk. Usage: agree [NUMBER OF SMALL TICKETS].
 mod grounded;
-mod instances;
+#[allow(dead_code)] // the tests use the whole of it
+#[path = "../tests/large.rs"]
+mod large;
 #[path = "../tests/logic.rs"]
 mod logic;
+#[path = "../tests/mix.rs"]
+mod mix;
 #[path = "../tests/random.rs"]
 mod random;
 #[path = "../tests/reference.rs"]
 mod reference;
-mod rows;
+#[path = "../tests/report.rs"]
+mod report;
+#[allow(dead_code)] // as above
+#[path = "../tests/sizes.rs"]
+mod sizes;
+#[path = "../tests/threads.rs"]
+mod threads;
 #[path = "../tests/tickets.rs"]
 mod tickets;
 #[path = "../tests/walk.rs"]
 mod walk;
 
-use random::Random;
+use mix::Mix;
 use reference::Ticket;
+use report::{same, Report};
+use threads::{Run, Tally};
 use walk::{walk, Relevancy};
 
-const TICKETS: u64 = 4000;
+const TICKETS: u64 = 10_000;
 
-/// Walks are cut here: of small tickets, of those of any size, and of deep paths.
+/// For each thread, of each family of large ones.
+const LARGE_TICKETS: usize = 2;
+
+/// Walks are cut here: of small tickets, and of those of any size.
 const LONG: u32 = 200;
 const SHORT: u32 = 3;
-const DEEP: u32 = 500;
 
 fn main() {
-    let many = std::env::args().nth(1).map_or(TICKETS, |word| word.parse().expect("the argument is a number"));
-    let mut random = Random::new(301);
-    let mut met = [0; 3];
-    for _ in 0..many {
-        agrees(&tickets::to_walk(&mut random), LONG, &mut met);
-        let any = tickets::ticket(&mut random);
-        if reference::read(&reference::print(&any)).is_ok() {
-            agrees(&any, SHORT, &mut met);
-        }
-    }
-    [1, 2].into_iter().for_each(|predicates| agrees(&tickets::deep(20, predicates, 0), DEEP, &mut met));
-    assert!(met.iter().all(|times| *times > many / 10), "a verdict is too rare: none, fits, spent {met:?}");
-    println!("agree: {} none, {} fits and {} spent, as by the independent walk", met[0], met[1], met[2]);
+    threads::run("agree", TICKETS, 301, run);
 }
 
-/// Under this limit, under the count of the walk and just below it.
-fn agrees(ticket: &Ticket, limit: u32, met: &mut [u64; 3]) {
-    let whole = walk(&Relevancy::new(ticket), limit, &mut |_, _| {});
-    for limit in [limit, whole.count, whole.count.saturating_sub(1)] {
+fn run(run: &mut Run<Met>, many: u64) -> Result<(), Report> {
+    for _ in 0..many {
+        agrees(&tickets::to_walk(&mut run.random), LONG, &mut run.tally.small)?;
+        let any = tickets::ticket(&mut run.random);
+        if reference::read(&reference::print(&any)).is_ok() {
+            agrees(&any, SHORT, &mut run.tally.any)?;
+        }
+    }
+    for family in large::FAMILIES.iter().flat_map(|family| [family; LARGE_TICKETS]) {
+        agrees(&(family.draw)(&mut run.random), family.cut, &mut run.tally.any)?;
+    }
+    Ok(())
+}
+
+/// Without a limit but where the walk is cut, and with limits up to the count.
+fn agrees(ticket: &Ticket, cut: u32, met: &mut Mix) -> Result<(), Report> {
+    let whole = walk(&Relevancy::new(ticket), cut, &mut |_, _| {});
+    met.ticket(&whole);
+    for limit in [cut, whole.count, whole.count.saturating_sub(1), 0] {
         let ticket = Ticket { limit: limit.to_be_bytes(), ..ticket.clone() };
         let found = grounded::fit(&ticket);
-        met[found.verdict as usize] += 1;
-        assert_eq!(found, whole.under(limit), "limit {limit} of\n{}", String::from_utf8_lossy(&reference::print(&ticket)));
+        met.limited(found.verdict);
+        same("outcome", whole.under(limit), found).map_err(|report| format!("{report}\n{}", String::from_utf8_lossy(&reference::print(&ticket))))?;
+    }
+    Ok(())
+}
+
+/// Small tickets, and those of any size.
+#[derive(Default)]
+struct Met {
+    small: Mix,
+    any: Mix,
+}
+
+impl Tally for Met {
+    fn add(&mut self, other: &Met) {
+        self.small.add(&other.small);
+        self.any.add(&other.any);
+    }
+
+    fn print(&self) {
+        self.small.print();
+    }
+
+    fn missing(&self) -> Vec<String> {
+        [self.small.rare_verdicts(), self.small.rare_counts(1000)].concat()
+    }
+
+    fn agreed(&self) -> String {
+        format!("{} small tickets and {} of any size", self.small.tickets, self.any.tickets)
     }
 }

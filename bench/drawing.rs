@@ -1,8 +1,9 @@
 //! What was measured, as an SVG drawing: for each puzzle the library's two engines as bars on a log scale, on the left
 //! against the engine made for speed, on the right against the straightforward one.
 
+use crate::engines::Engine;
 use crate::means::Ratios;
-use crate::measured::{Engine, Measured, MANY};
+use crate::measured::{Measured, MANY};
 
 const COLOURS: [&str; 2] = ["#4477aa", "#ee7733"];
 
@@ -11,8 +12,8 @@ const NAMES: f64 = 310.0;
 const PANEL: f64 = 390.0;
 const GAP: f64 = 50.0;
 const TOP: f64 = 92.0;
-const ROW: f64 = 28.0;
-const BAR: f64 = 10.0;
+const ROW: f64 = 30.0;
+const BAR: f64 = 11.0;
 
 /// A line of the drawing: in each panel a ratio for each of the library's engines.
 struct Row {
@@ -34,17 +35,21 @@ pub fn of(all: &[Measured]) -> String {
     let bottom = TOP + ROW * rows.len() as f64;
     let titles = ["time over the optimised engine's (short is good)", "straightforward engine's time over it (long is good)"];
     let panels = [0, 1].map(|i| Panel::new(NAMES + i as f64 * (PANEL + GAP), titles[i], rows.iter().flat_map(|row| row.ratios[i])));
-    let mut svg = format!(
-        "<svg xmlns=\"http://www.w3.org/2000/svg\" viewBox=\"0 0 {WIDTH} {height}\" width=\"{WIDTH}\" height=\"{height}\" font-family=\"sans-serif\" font-size=\"12\" fill=\"#222\">\n\
-         <rect width=\"{WIDTH}\" height=\"{height}\" fill=\"white\"/>\n",
-        height = bottom + 40.0
-    );
+    let mut svg = opening(bottom + 44.0);
     svg += &legend();
     panels.iter().for_each(|panel| svg += &panel.axis(bottom));
     for (i, row) in rows.iter().enumerate() {
         svg += &row.drawn(TOP + ROW * i as f64, &panels);
     }
-    svg + "</svg>\n"
+    let large = format!("large: more than {MANY} instances and more than {MANY} entries");
+    svg + &text(16.0, bottom + 34.0, "start", &large) + "</svg>\n"
+}
+
+/// A white sheet of this height.
+fn opening(height: f64) -> String {
+    let size = format!("width=\"{WIDTH}\" height=\"{height}\"");
+    let style = "font-family=\"sans-serif\" font-size=\"12\" fill=\"#222\"";
+    format!("<svg xmlns=\"http://www.w3.org/2000/svg\" viewBox=\"0 0 {WIDTH} {height}\" {size} {style}>\n<rect {size} fill=\"white\"/>\n")
 }
 
 fn legend() -> String {
@@ -71,9 +76,9 @@ fn rows(all: &[Measured]) -> Vec<Row> {
         .map(|measured| Row { name: measured.name.to_string(), is_mean: false, ratios: ratios(&|one, other| measured.ratio(one, other)) })
         .collect();
     let large: Vec<&Measured> = all.iter().filter(|measured| measured.is_large()).collect();
-    for (name, of) in [("geometric mean of all".to_string(), all.iter().collect()), (format!("with over {MANY} instances and entries"), large)] {
+    for (name, of) in [("geometric mean of all", all.iter().collect()), ("geometric mean of the large ones", large)] {
         let mean = |one, other| Ratios::new(of.iter().copied(), one, other).geometric_mean();
-        rows.push(Row { name, is_mean: true, ratios: ratios(&mean) });
+        rows.push(Row { name: name.to_string(), is_mean: true, ratios: ratios(&mean) });
     }
     rows
 }
@@ -82,8 +87,8 @@ impl Row {
     fn drawn(&self, y: f64, panels: &[Panel; 2]) -> String {
         let weight = if self.is_mean { "bold" } else { "normal" };
         let name = text(NAMES - 12.0, y + ROW / 2.0 + 2.0, "end", &self.name);
-        let bars = panels.iter().zip(&self.ratios).flat_map(|(panel, ratios)| (0..2).map(move |i| panel.bar(y + 3.0 + BAR * i as f64, ratios[i], COLOURS[i])));
-        format!("<g font-weight=\"{weight}\">\n{name}{}</g>\n", bars.collect::<String>())
+        let bar = |panel: usize, i: usize| panels[panel].bar(y + 3.0 + BAR * i as f64, self.ratios[panel][i], COLOURS[i]);
+        format!("<g font-weight=\"{weight}\">\n{name}{}{}{}{}</g>\n", bar(0, 0), bar(0, 1), bar(1, 0), bar(1, 1))
     }
 }
 

@@ -1,9 +1,8 @@
 //! How long fitting takes: the puzzles by all engines, as tables, and as a drawing where one is asked for.
 //! Usage: fit [--svg FILE].
 mod drawing;
-mod first_of;
+mod engines;
 mod grounded;
-mod instances;
 #[path = "../tests/library.rs"]
 mod library;
 #[path = "../tests/logic.rs"]
@@ -15,15 +14,12 @@ mod puzzles;
 mod random;
 #[path = "../tests/reference.rs"]
 mod reference;
-mod rows;
 mod table;
 #[path = "../tests/tickets.rs"]
 mod tickets;
 mod timing;
 #[path = "../tests/walk.rs"]
 mod walk;
-
-use measured::Measured;
 
 fn main() {
     let arguments: Vec<String> = std::env::args().skip(1).collect();
@@ -32,7 +28,7 @@ fn main() {
         ["--svg", file] => Some(file),
         _ => panic!("usage: fit [--svg FILE]"),
     };
-    let all: Vec<Measured> = puzzles::all().iter().map(Measured::of).collect();
+    let all = measured::all(&puzzles::all());
     table::print(&all);
     if let Some(file) = file {
         std::fs::write(file, drawing::of(&all)).expect("the drawing's file");

@@ -1,6 +1,7 @@
 //! Geometric means of ratios, over puzzles that were measured.
 
-use crate::measured::{Engine, Measured};
+use crate::engines::Engine;
+use crate::measured::Measured;
 
 pub struct Ratios<'a> {
     of: Vec<(&'a Measured, f64)>,

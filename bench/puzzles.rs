@@ -15,16 +15,17 @@ pub struct Puzzle {
     pub ticket: Ticket,
 }
 
+/// The members of a family follow one another.
 pub fn all() -> Vec<Puzzle> {
     let puzzle = |family, name, ticket| Puzzle { family, name, ticket };
     vec![
         puzzle("pigeons", "6 pigeons in 5 holes", pigeons::ground(6)),
         puzzle("pigeons", "7 pigeons in 6 holes", pigeons::ground(7)),
         puzzle("pigeons", "8 pigeons in 7 holes", pigeons::ground(8)),
-        puzzle("pigeons by three variables", "7 pigeons in 6 holes, by three variables", pigeons::by_variables(7, 10, u32::MAX)),
-        puzzle("pigeons by three variables", "the same on 16 constants", pigeons::by_variables(7, 16, 4000)),
-        puzzle("unwanted rules", "6 pigeons, and rules that nobody wants", pigeons::with_unwanted_rules(6, 8)),
-        puzzle("unwanted rules", "the same on 15 constants", pigeons::with_unwanted_rules(6, 15)),
+        puzzle("pigeons by three variables", "7 pigeons by three variables, 10 constants", pigeons::by_variables(7, 10, u32::MAX)),
+        puzzle("pigeons by three variables", "7 pigeons by three variables, 16 constants", pigeons::by_variables(7, 16, 4000)),
+        puzzle("unwanted rules", "6 pigeons and unwanted rules, 8 constants", pigeons::with_unwanted_rules(6, 8)),
+        puzzle("unwanted rules", "6 pigeons and unwanted rules, 15 constants", pigeons::with_unwanted_rules(6, 15)),
         puzzle("colouring", "3-colouring on 30 constants", colouring::points(false, u32::MAX)),
         puzzle("colouring", "a graph without a 3-colouring", colouring::points(true, 3000)),
         puzzle("triangles", "two colours and no triangle of one", colouring::no_triangle()),
@@ -33,7 +34,7 @@ pub fn all() -> Vec<Puzzle> {
         puzzle("Horn chains", "a reversed Horn chain of 256 steps", chain::reversed(16)),
         puzzle("Horn chains", "a reversed Horn chain of 1,024 steps", chain::reversed(32)),
         puzzle("deep paths", "a path of 100 entries", tickets::deep(32, 1, 100)),
-        puzzle("deep paths", "a path of 1,000 entries, in the same ticket", tickets::deep(32, 1, 1000)),
+        puzzle("deep paths", "a path of 1,000 entries", tickets::deep(32, 1, 1000)),
         puzzle("channel routing", "a channel of 6 nets", channel::routing(6, 4)),
         puzzle("channel routing", "a channel of 8 nets", channel::routing(8, 4)),
         puzzle("channel routing", "a channel of 10 nets", channel::routing(10, 4)),

@@ -1,13 +1,14 @@
 //! What was measured, as tables of text.
 
+use crate::engines::Engine;
 use crate::means::Ratios;
-use crate::measured::{Engine, Measured, MANY};
+use crate::measured::{Measured, MANY};
 
 pub fn print(all: &[Measured]) {
-    println!("{:45} {:27} {:^56}   {:^24} {:^26}", "", "", "ns an entry", "times the optimised", "times as fast as straightf.");
-    print!("{:45} instances verdict  entries ", "");
-    Engine::ALL.iter().for_each(|engine| print!(" {:>14}", short(*engine)));
-    (0..2).flat_map(|_| Engine::LIBRARY).for_each(|engine| print!(" {:>12}", short(engine)));
+    println!("{:74} {:^60} {:^22} {:^22}", "", "ns for each entry and the root", "over the optimised", "straightforward over");
+    print!("{:45} instances  verdict  entries ", "");
+    Engine::ALL.iter().for_each(|engine| print!(" {:>15}", engine.name()));
+    (0..2).flat_map(|_| Engine::LIBRARY).for_each(|engine| print!(" {:>10}", engine.name()));
     println!();
     all.iter().for_each(row);
     println!();
@@ -16,19 +17,12 @@ pub fn print(all: &[Measured]) {
     growth(all);
 }
 
-fn short(engine: Engine) -> &'static str {
-    match engine {
-        Engine::Straightforward => "straightf.",
-        _ => engine.name(),
-    }
-}
-
 fn row(measured: &Measured) {
-    let verdict = ["none", "fits", "spent"][measured.verdict as usize];
-    print!("{:45} {:9} {verdict:>7} {:8} ", measured.name, measured.instances, measured.entries);
-    Engine::ALL.iter().for_each(|engine| print!(" {:14.0}", measured.per_entry(*engine)));
-    Engine::LIBRARY.iter().for_each(|engine| print!(" {:12.2}", measured.ratio(*engine, Engine::Optimised)));
-    Engine::LIBRARY.iter().for_each(|engine| print!(" {:12.2}", measured.ratio(Engine::Straightforward, *engine)));
+    let verdict = ["none", "fits", "spent"][measured.outcome.verdict as usize];
+    print!("{:45} {:9} {verdict:>8} {:8} ", measured.name, measured.instances, measured.outcome.count);
+    Engine::ALL.iter().for_each(|engine| print!(" {:15.0}", measured.per_place(*engine)));
+    Engine::LIBRARY.iter().for_each(|engine| print!(" {:10.2}", measured.ratio(*engine, Engine::Optimised)));
+    Engine::LIBRARY.iter().for_each(|engine| print!(" {:10.2}", measured.ratio(Engine::Straightforward, *engine)));
     println!();
 }
 
@@ -38,27 +32,26 @@ fn means(all: &[Measured]) {
     for engine in Engine::LIBRARY {
         let to_optimised = Ratios::new(all, engine, Engine::Optimised);
         let (worst, most) = to_optimised.most();
-        println!("  {:9} / optimised, all tickets        {:8.2}   most  {most:8.2}, {}", engine.name(), to_optimised.geometric_mean(), worst.name);
+        println!("  {:9} / optimised, all tickets         {:8.2}   most  {most:8.2}, {}", engine.name(), to_optimised.geometric_mean(), worst.name);
     }
     for engine in Engine::LIBRARY {
         let over = Ratios::new(large(), Engine::Straightforward, engine);
         let (worst, least) = over.least();
-        println!("  straightforward / {:9}, large ones  {:8.2}   least {least:8.2}, {}", engine.name(), over.geometric_mean(), worst.name);
+        println!("  straightforward / {:9}, large ones   {:8.2}   least {least:8.2}, {}", engine.name(), over.geometric_mean(), worst.name);
     }
 }
 
 /// From each member of a family to the next: how many times the instances, the entries and the time for an entry.
 fn growth(all: &[Measured]) {
-    println!("{:96} {:^28} {:^48}", "growth within a family", "times as many", "times the ns an entry");
-    print!("{:96}", "");
-    ["instances", "entries"].iter().for_each(|name| print!(" {name:>13}"));
-    Engine::ALL.iter().for_each(|engine| print!(" {:>11}", short(*engine)));
+    println!("growth within a family, from one to the next: times the instances, the entries and the ns an entry");
+    print!("{:93} {:>9} {:>8} ", "", "instances", "entries");
+    Engine::ALL.iter().for_each(|engine| print!(" {:>15}", engine.name()));
     println!();
     for pair in all.windows(2).filter(|pair| pair[0].family == pair[1].family) {
         let (one, next) = (&pair[0], &pair[1]);
-        print!("{:45} to  {:46}", one.name, next.name);
-        print!(" {:13.2} {:13.2}", next.instances as f64 / one.instances as f64, (next.entries as f64 + 1.0) / (one.entries as f64 + 1.0));
-        Engine::ALL.iter().for_each(|engine| print!(" {:11.2}", next.per_entry(*engine) / one.per_entry(*engine)));
+        print!("{:45} to {:44}", one.name, next.name);
+        print!(" {:9.2} {:8.2} ", next.instances as f64 / one.instances as f64, next.places() / one.places());
+        Engine::ALL.iter().for_each(|engine| print!(" {:15.2}", next.per_place(*engine) / one.per_place(*engine)));
         println!();
     }
 }

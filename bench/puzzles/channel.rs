@@ -14,10 +14,10 @@ const ABOVE: u8 = 5;
 
 const TRACKS: u8 = 3;
 
-/// Net k meets the `reach` nets after it, and is above the one `reach` further on.
+/// Each net meets the `reach` nets after it, and is above the last of them.
 pub fn routing(nets: u8, reach: u8) -> Ticket {
     let mut clauses = vec![Clause::new(&[Atom::new(NET, &[X])], &LAYERS.map(|layer| Atom::new(layer, &[X])))];
-    clauses.extend([0, 1].map(|layer| Clause { conditions: vec![Atom::new(LAYERS[layer], &[X])], alternatives: tracks(layer as u8).map(|track| on(X, track)).collect() }));
+    clauses.extend([0, 1].map(in_layer));
     clauses.push(denial(&[on(X, Y), on(Z, Y), Atom::new(MEET, &[X, Z])]));
     clauses.extend([0, 1].into_iter().flat_map(out_of_order));
     clauses.extend((0..nets).map(|net| fact(Atom::new(NET, &[net]))));
@@ -34,6 +34,11 @@ fn on(net: u8, track: u8) -> Atom {
 
 fn tracks(layer: u8) -> std::ops::Range<u8> {
     layer * TRACKS..(layer + 1) * TRACKS
+}
+
+/// A net in a layer is on one of its tracks.
+fn in_layer(layer: u8) -> Clause {
+    Clause { conditions: vec![Atom::new(LAYERS[layer as usize], &[X])], alternatives: tracks(layer).map(|track| on(X, track)).collect() }
 }
 
 /// Denials of each two tracks of a layer that are the same or in the wrong order.

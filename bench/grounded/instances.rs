@@ -1,8 +1,8 @@
 //! The instances of a ticket, each grounded once: flat arrays of the numbers of atoms. Splitting instances and chaining
 //! ones are numbered apart, both in the walk's order.
 
+use super::rows::Rows;
 use crate::reference::{is_variable, Atom, Clause, Ticket};
-use crate::rows::Rows;
 
 /// Document 01 lets a clause have no more.
 const MOST_ATOMS: usize = 8;
@@ -81,7 +81,7 @@ impl Pattern {
             } else {
                 self.atoms[i] += weight * *argument as u16;
             }
-            weight = weight.wrapping_mul(self.constants); // past the last argument it is not used
+            weight *= self.constants;
         }
     }
 
@@ -95,17 +95,18 @@ impl Pattern {
         }
     }
 
+    /// Goes on to the next values: the last variable by one, and where it is at its end back to 0, and on with the one
+    /// before it.
+    #[inline]
     fn advance(&self, values: &mut [u16; MOST_VARIABLES], numbers: &mut [u16; MOST_ATOMS]) {
         for variable in (0..self.variables).rev() {
-            let weights = &self.weights[variable];
+            let steps = numbers.iter_mut().zip(&self.weights[variable]);
             values[variable] += 1;
-            let goes_on = values[variable] < self.constants;
-            let steps = if goes_on { 1 } else { self.constants.wrapping_sub(1).wrapping_neg() };
-            numbers.iter_mut().zip(weights).for_each(|(number, weight)| *number = number.wrapping_add(weight.wrapping_mul(steps)));
-            if goes_on {
-                return;
+            if values[variable] < self.constants {
+                return steps.for_each(|(number, weight)| *number += weight);
             }
             values[variable] = 0;
+            steps.for_each(|(number, weight)| *number -= weight * (self.constants - 1));
         }
     }
 }

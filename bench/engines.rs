@@ -1,0 +1,62 @@
+//! The engines that are measured, each called in one way: the library's two; the tests' walk, which repeats passes over
+//! all instances at each node; and the one in Rust made for speed. The library's times have checking the table and
+//! rewriting in them, the others' have grounding.
+
+use crate::grounded;
+use crate::library;
+use crate::reference::{self, Ticket, ANSWER, RULES, WORK};
+use crate::timing::timed;
+use crate::walk::{walk, Outcome, Relevancy, Verdict};
+
+#[derive(Clone, Copy)]
+pub enum Engine {
+    Relevancy,
+    Magic,
+    Straightforward,
+    Optimised,
+}
+
+impl Engine {
+    pub const LIBRARY: [Engine; 2] = [Engine::Relevancy, Engine::Magic];
+    pub const ALL: [Engine; 4] = [Engine::Relevancy, Engine::Magic, Engine::Straightforward, Engine::Optimised];
+
+    pub fn name(self) -> &'static str {
+        ["relevancy", "magic", "straightforward", "optimised"][self as usize]
+    }
+}
+
+/// A ticket, with what is lent to the library for it.
+pub struct Lent<'a> {
+    ticket: &'a Ticket,
+    table: Vec<u8>,
+    rules: Vec<u8>,
+    answer: Vec<u8>,
+    work: Vec<u8>,
+}
+
+impl Lent<'_> {
+    pub fn new(ticket: &Ticket) -> Lent<'_> {
+        Lent { ticket, table: reference::encode(ticket), rules: vec![0; RULES], answer: vec![0; ANSWER], work: vec![0; WORK] }
+    }
+
+    /// What an engine ends with, and the nanoseconds that it took.
+    pub fn call(&mut self, engine: Engine) -> (Outcome, f64) {
+        let Lent { ticket, table, rules, answer, work } = self;
+        answer.fill(0);
+        let (given, took) = match engine {
+            Engine::Relevancy => timed(|| library::fit_relevancy(table, answer, work)),
+            Engine::Magic => timed(|| library::fit_magic(table, rules, answer, work)),
+            Engine::Straightforward => return timed(|| walk(&Relevancy::new(ticket), u32::from_be_bytes(ticket.limit), &mut |_, _| {})),
+            Engine::Optimised => return timed(|| grounded::fit(ticket)),
+        };
+        (outcome(given, &answer[..ticket.atoms() as usize]), took)
+    }
+}
+
+/// The library's answer, with a mark for each atom.
+fn outcome(given: u64, marks: &[u8]) -> Outcome {
+    assert!(given as u8 == 0, "refused: {given:X}");
+    let verdict = [Verdict::None, Verdict::Fits, Verdict::Spent][(given >> 8) as u8 as usize];
+    let fitting = (verdict == Verdict::Fits).then(|| marks.iter().map(|mark| *mark == 1).collect());
+    Outcome { verdict, count: (given >> 32) as u32, fitting }
+}
