@@ -1,149 +1,130 @@
-/* The library from C: reads ticket K1 of document 01, writes it back, asks for the same text, has two answers to it judged, fits it, and
- * rewrites it; and fits K1, K3 and K6 by the magic engine. */
-#include "lutsamik.h"
+/* The header, as C and as C++: results are taken apart, refusals of reading have their names, and each operation is
+ * called on K1 or K6 of document 01. */
+#include <lutsamik.h>
 
 #include <stdio.h>
 #include <string.h>
 
-/* K3 is K1 with a limit of 1; K6 has another last clause. */
-#define COUNTS(limit) "01010203" limit "\n0201\n0201\n0201\n"
+/* K6 is K1 with another last clause. Atoms 0 to 5 are 00 to 21, as predicate and argument. */
+#define COUNTS "0101020300000064\n0201\n0201\n0201\n"
 #define THREE "0300010000\n030102008001800280\n0301000100\n"
-static const char K1[] = COUNTS("00000064") THREE "0301000280\nFF04\n";
-static const char K3[] = COUNTS("00000001") THREE "0301000280\nFF04\n";
-static const char K6[] = COUNTS("00000064") THREE "03020002800001\nFF04\n";
+static const char K1[] = COUNTS THREE "0301000280\nFF04\n";
+static const char K6[] = COUNTS THREE "03020002800001\nFF04\n";
 
 static uint8_t table[LUTSAMIK_TABLE_BYTES];
 static uint8_t out[LUTSAMIK_TEXT_BYTES];
-static uint8_t marks[LUTSAMIK_ANSWER_BYTES];
-static uint8_t work[LUTSAMIK_WORK_BYTES];
 static uint8_t rules[LUTSAMIK_RULES_BYTES];
-static uint8_t rewritten[LUTSAMIK_RULES_BYTES];
+static uint8_t answer[LUTSAMIK_ANSWER_BYTES];
+static uint8_t work[LUTSAMIK_WORK_BYTES];
 
-static int fail(const char *what, uint64_t answer) {
-    printf("smoke: %s: answer %llX\n", what, (unsigned long long)answer);
+static int fail(const char *what, uint64_t result) {
+    printf("smoke: %s: result %016llX\n", what, (unsigned long long)result);
     return 1;
+}
+
+static int read_text(const char *text, size_t len, unsigned refusal, uint32_t line) {
+    uint64_t result = lutsamik_read((const uint8_t *)text, len, table, sizeof table);
+    if (lutsamik_refusal(result) != refusal || lutsamik_line(result) != line)
+        return fail(text, result);
+    return 0;
+}
+
+/* Every byte of the number is another one, so each function is seen to take its own. */
+static int takes_apart(void) {
+    const uint64_t result = UINT64_C(0x0807060504030201);
+    if (lutsamik_refusal(result) != 0x01 || lutsamik_verdict(result) != 0x02 || lutsamik_judged(result) != 0x02 ||
+        lutsamik_clause(result) != 0x04)
+        return fail("the low half is not taken apart", result);
+    if (lutsamik_line(result) != 0x08070605 || lutsamik_written(result) != 0x08070605 ||
+        lutsamik_rules(result) != 0x08070605 || lutsamik_count(result) != 0x08070605)
+        return fail("the high half is not taken whole", result);
+    if (lutsamik_value(result, 0) != 0x05 || lutsamik_value(result, 1) != 0x06 || lutsamik_value(result, 2) != 0x07 ||
+        lutsamik_value(result, 3) != 0x08)
+        return fail("the high half is not taken apart", result);
+    return 0;
+}
+
+#define ONE_PREDICATE "0101020100000000\n0201\n"
+static const struct {
+    const char *text;
+    unsigned refusal;
+    uint32_t line;
+} refused[] = {
+    {"0\n", LUTSAMIK_BAD_LINE, 1},
+    {"", LUTSAMIK_BAD_KIND, 1},
+    {"01\n", LUTSAMIK_BAD_LENGTH, 1},
+    {"0102\n", LUTSAMIK_BAD_VERSION, 1},
+    {ONE_PREDICATE "FF01\n", LUTSAMIK_BAD_COUNT, 3},
+    {ONE_PREDICATE "03010001\n", LUTSAMIK_UNKNOWN, 3},
+    {ONE_PREDICATE "0301000081\n", LUTSAMIK_BAD_NUMBERING, 3},
+    {ONE_PREDICATE "0300010080\n", LUTSAMIK_FREE_VARIABLE, 3},
+    {"0101200200000000\n0202\n0200\nFF00\n", LUTSAMIK_TOO_MANY_ATOMS, 3},
+};
+
+static int refuses(void) {
+    for (size_t i = 0; i < sizeof refused / sizeof refused[0]; i++)
+        if (read_text(refused[i].text, strlen(refused[i].text), refused[i].refusal, refused[i].line))
+            return 1;
+    return 0;
 }
 
 static int reads_and_writes(void) {
     const size_t len = sizeof K1 - 1;
-
-    uint64_t answer = lutsamik_read((const uint8_t *)K1, len, table, sizeof table);
-    if (lutsamik_refusal(answer) != LUTSAMIK_OK)
-        return fail("K1 is not read", answer);
-
-    answer = lutsamik_write(table, sizeof table, out, sizeof out);
-    if (lutsamik_refusal(answer) != LUTSAMIK_OK || lutsamik_written(answer) != len || memcmp(out, K1, len) != 0)
-        return fail("K1 is not written back", answer);
-
-    answer = lutsamik_read((const uint8_t *)K1, len - 1, table, sizeof table);
-    if (lutsamik_refusal(answer) != LUTSAMIK_BAD_LINE || lutsamik_line(answer) != 9)
-        return fail("K1 without its last 0A is not refused 1 at line 9", answer);
+    if (read_text(K1, len, LUTSAMIK_OK, 0))
+        return 1;
+    uint64_t result = lutsamik_write(table, sizeof table, out, sizeof out);
+    if (lutsamik_refusal(result) != LUTSAMIK_OK || lutsamik_written(result) != len || memcmp(out, K1, len) != 0)
+        return fail("K1 is not written back", result);
     return 0;
 }
 
-/* Atoms 0 to 5 are 00 to 21 as predicate and argument. The table is K1's. */
+/* The table is K1's. 00, 01 and 20 together violate clause 1 where 80 is 1. */
 static int judges(void) {
-    /* 00 alone violates clause 1, where 80 is 0. */
-    marks[0] = 1;
-    uint64_t answer = lutsamik_judge(table, sizeof table, marks, sizeof marks);
-    if (lutsamik_refusal(answer) != LUTSAMIK_OK || lutsamik_judged(answer) != LUTSAMIK_VIOLATED || lutsamik_clause(answer) != 1)
-        return fail("K1's clause 1 is not found violated", answer);
-
-    /* With 20 and 01 too, clause 1 is violated where 80 is 1. */
-    marks[4] = 1;
-    marks[1] = 1;
-    answer = lutsamik_judge(table, sizeof table, marks, sizeof marks);
-    if (lutsamik_clause(answer) != 1 || lutsamik_value(answer, 0) != 1 || lutsamik_value(answer, 1) != 0)
-        return fail("K1's clause 1 is not found violated where 80 is 1", answer);
+    answer[0] = answer[1] = answer[4] = 1;
+    uint64_t result = lutsamik_judge(table, sizeof table, answer, sizeof answer);
+    if (lutsamik_refusal(result) != LUTSAMIK_OK || lutsamik_judged(result) != LUTSAMIK_VIOLATED)
+        return fail("three atoms are not found to violate K1", result);
+    if (lutsamik_clause(result) != 1 || lutsamik_value(result, 0) != 1 || lutsamik_value(result, 1) != 0)
+        return fail("K1's clause 1 is not found violated where 80 is 1", result);
     return 0;
 }
 
-/* Document 01 has none for K1, after two entries; the marks stay as they are. */
-static int fits_by_relevancy(void) {
-    uint64_t answer = lutsamik_fit_relevancy(table, sizeof table, marks, sizeof marks, work, sizeof work);
-    if (lutsamik_refusal(answer) != LUTSAMIK_OK || lutsamik_verdict(answer) != LUTSAMIK_NONE || lutsamik_count(answer) != 2)
-        return fail("K1 is not found to have no fitting, after two entries", answer);
-    if (marks[0] != 1 || marks[1] != 1 || marks[2] != 0 || marks[4] != 1)
-        return fail("none does not leave the answer", answer);
+static int is_fit(uint64_t result, unsigned verdict, uint32_t count) {
+    return lutsamik_refusal(result) == LUTSAMIK_OK && lutsamik_verdict(result) == verdict &&
+           lutsamik_count(result) == count;
+}
+
+/* K1 has clauses with 0, 1, 1 and 1 conditions, so 1, 2, 2 and 2 rules; and no fitting, after two entries. */
+static int rewrites_and_fits_none(void) {
+    uint64_t result = lutsamik_rewrite(table, sizeof table, rules, sizeof rules);
+    if (lutsamik_refusal(result) != LUTSAMIK_OK || lutsamik_rules(result) != 7)
+        return fail("K1 is not rewritten into seven rules", result);
+    result = lutsamik_fit_relevancy(table, sizeof table, answer, sizeof answer, work, sizeof work);
+    if (!is_fit(result, LUTSAMIK_NONE, 2))
+        return fail("K1 is not found to have no fitting", result);
     return 0;
 }
 
-/* K1's clauses have 0, 1, 1 and 1 conditions, so 1, 2, 2 and 2 rules. */
-static int rewrites(void) {
-    memset(rules, 0xEE, sizeof rules);
-    uint64_t answer = lutsamik_rewrite(table, sizeof table, rules, sizeof rules - 1);
-    if (lutsamik_refusal(answer) != LUTSAMIK_SHORT_BUFFER || rules[0] != 0xEE)
-        return fail("rewriting into a short buffer is not refused 11", answer);
-    answer = lutsamik_rewrite(table, sizeof table, rules, sizeof rules);
-    if (lutsamik_refusal(answer) != LUTSAMIK_OK || lutsamik_rules(answer) != 7)
-        return fail("K1 is not rewritten into seven rules", answer);
-    if (rules[0] == 0xEE || rules[sizeof rules - 1] != 0xEE)
-        return fail("rewriting does not leave the bytes past the rules", answer);
-    table[0] ^= 1;
-    answer = lutsamik_rewrite(table, sizeof table, rules, sizeof rules);
-    if (lutsamik_refusal(answer) != LUTSAMIK_NO_TABLE)
-        return fail("a table with another number of constants is not refused 31", answer);
-    return 0;
-}
-
-static uint64_t fit_magic(size_t table_len, size_t rules_len, size_t marks_len, size_t work_len) {
-    memset(rules, 0xEE, sizeof rules);
-    memset(marks, 0xEE, sizeof marks);
-    memset(work, 0xEE, sizeof work);
-    return lutsamik_fit_magic(table, table_len, rules, rules_len, marks, marks_len, work, work_len);
-}
-
-/* Whether the magic engine has left the buffers as they were lent. */
-static int untouched(void) { return rules[0] == 0xEE && marks[0] == 0xEE && work[0] == 0xEE; }
-
-/* The magic engine gives a ticket this verdict and count, begins the answer with these marks, leaves the ticket's rules, and leaves
- * work zero. */
-static int fits_by_magic(const char *what, const char *text, unsigned verdict, uint32_t count, const uint8_t begins[7]) {
-    uint64_t answer = lutsamik_read((const uint8_t *)text, strlen(text), table, sizeof table);
-    if (lutsamik_refusal(answer) != LUTSAMIK_OK)
-        return fail(what, answer);
-    memset(rewritten, 0xEE, sizeof rewritten);
-    lutsamik_rewrite(table, sizeof table, rewritten, sizeof rewritten);
-
-    answer = fit_magic(sizeof table, sizeof rules, sizeof marks, sizeof work);
-    if (lutsamik_refusal(answer) != LUTSAMIK_OK || lutsamik_verdict(answer) != verdict || lutsamik_count(answer) != count)
-        return fail(what, answer);
-    if (memcmp(marks, begins, 7) != 0)
-        return fail("the magic engine leaves another answer", answer);
-    if (memcmp(rules, rewritten, sizeof rules) != 0)
-        return fail("the magic engine leaves other rules", answer);
-    if (work[0] != 0 || work[sizeof work - 1] != 0)
-        return fail("the magic engine does not leave work zero", answer);
-    return 0;
-}
-
-/* Document 01 has none for K1, spent for K3, and a fitting of 00, 11 and 20 for K6. */
-static int magic_verdicts(void) {
-    static const uint8_t as_lent[] = {0xEE, 0xEE, 0xEE, 0xEE, 0xEE, 0xEE, 0xEE};
-    static const uint8_t fitting[] = {1, 0, 0, 1, 1, 0, 0xEE};
-    return fits_by_magic("K1 is not found to have no fitting, by the magic engine", K1, LUTSAMIK_NONE, 2, as_lent) ||
-           fits_by_magic("K3 is not spent after one entry, by the magic engine", K3, LUTSAMIK_SPENT, 1, as_lent) ||
-           fits_by_magic("K6 is not found to have a fitting, by the magic engine", K6, LUTSAMIK_FITS, 2, fitting);
-}
-
-/* 11 for each buffer that is a byte too short, also where there is no table; and 31. */
-static int magic_refusals(void) {
-    table[0] ^= 1;
-    for (int which = 0; which < 4; which++) {
-        uint64_t answer = fit_magic(sizeof table - (which == 0), sizeof rules - (which == 1), sizeof marks - (which == 2),
-                                    sizeof work - (which == 3));
-        if (answer != LUTSAMIK_SHORT_BUFFER || !untouched())
-            return fail("the magic engine does not refuse a short buffer by 11", answer);
-    }
-    uint64_t answer = fit_magic(sizeof table, sizeof rules, sizeof marks, sizeof work);
-    if (answer != LUTSAMIK_NO_TABLE || !untouched())
-        return fail("the magic engine does not refuse a table with another number of constants by 31", answer);
+/* K6 is fitted by 00, 11 and 20, after two entries. */
+static int fits_and_judges(void) {
+    static const uint8_t fitting[] = {1, 0, 0, 1, 1, 0};
+    if (read_text(K6, sizeof K6 - 1, LUTSAMIK_OK, 0))
+        return 1;
+    uint64_t result =
+        lutsamik_fit_magic(table, sizeof table, rules, sizeof rules, answer, sizeof answer, work, sizeof work);
+    if (!is_fit(result, LUTSAMIK_FITS, 2))
+        return fail("K6 is not fitted", result);
+    if (memcmp(answer, fitting, sizeof fitting) != 0)
+        return fail("K6 is fitted otherwise", result);
+    result = lutsamik_judge(table, sizeof table, answer, sizeof answer);
+    if (lutsamik_refusal(result) != LUTSAMIK_OK || lutsamik_judged(result) != LUTSAMIK_FITTING)
+        return fail("K6's fitting is not judged to be one", result);
     return 0;
 }
 
 int main(void) {
-    if (reads_and_writes() || judges() || fits_by_relevancy() || rewrites() || magic_verdicts() || magic_refusals())
+    if (takes_apart() || refuses() || reads_and_writes() || judges() || rewrites_and_fits_none() || fits_and_judges())
         return 1;
-    puts("smoke: K1 is read, written back, judged, fitted and rewritten; K1, K3 and K6 are fitted by the rules");
+    puts("smoke: results are taken apart, and each operation answers for K1 or K6");
     return 0;
 }

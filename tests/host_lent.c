@@ -1,0 +1,140 @@
+#include "host_lent.h"
+
+#include <stdio.h>
+#include <stdlib.h>
+#include <string.h>
+
+const size_t required[KINDS] = {0,
+                                LUTSAMIK_TABLE_BYTES,
+                                LUTSAMIK_TEXT_BYTES,
+                                LUTSAMIK_RULES_BYTES,
+                                LUTSAMIK_ANSWER_BYTES,
+                                LUTSAMIK_WORK_BYTES};
+
+static const struct {
+    const char *name;
+    unsigned kinds; /* a bit for each */
+} operations[OPERATIONS] = {{"reading", 1 << TEXT | 1 << TABLE},
+                            {"writing", 1 << TABLE | 1 << OUT},
+                            {"judging", 1 << TABLE | 1 << ANSWER},
+                            {"rewriting", 1 << TABLE | 1 << RULES},
+                            {"the relevancy engine", 1 << TABLE | 1 << ANSWER | 1 << WORK},
+                            {"the magic engine", 1 << TABLE | 1 << RULES | 1 << ANSWER | 1 << WORK}};
+
+int uses(enum operation operation, enum kind kind) { return operations[operation].kinds >> kind & 1; }
+
+static void stop(const char *what, const char *which) {
+    printf("tests/host: %s %s\n", what, which);
+    exit(1);
+}
+
+static uint8_t *block(size_t len) {
+    uint8_t *bytes = malloc(len);
+    if (!bytes)
+        stop("no memory for", "a buffer");
+    return bytes;
+}
+
+/* The ticket's text, in a block of its length. */
+static void load(struct buffer *text, const char *ticket) {
+    char path[128];
+    snprintf(path, sizeof path, "crates/cases/data/%s.text", ticket);
+    FILE *file = fopen(path, "rb");
+    if (!file)
+        stop("cannot open", path);
+    uint8_t bytes[LUTSAMIK_TEXT_BYTES];
+    text->len = fread(bytes, 1, sizeof bytes, file);
+    if (ferror(file) || text->len == sizeof bytes)
+        stop("cannot read", path);
+    fclose(file);
+    text->bytes = memcpy(block(text->len), bytes, text->len);
+}
+
+void lend(struct lent *lent, const char *ticket) {
+    memset(lent, 0, sizeof *lent);
+    lent->ticket = ticket;
+    load(&lent->of[TEXT], ticket);
+    for (int kind = TABLE; kind < KINDS; kind++)
+        resize(&lent->of[kind], required[kind]);
+}
+
+void take_back(struct lent *lent) {
+    for (int kind = 0; kind < KINDS; kind++) {
+        free(lent->of[kind].bytes);
+        free(lent->of[kind].kept);
+    }
+}
+
+void resize(struct buffer *buffer, size_t len) {
+    size_t old = buffer->len < len ? buffer->len : len;
+    uint8_t *bytes = block(len);
+    memset(bytes, FILL, len);
+    if (old > 0)
+        memcpy(bytes, buffer->bytes, old);
+    free(buffer->bytes);
+    buffer->bytes = bytes;
+    buffer->len = len;
+}
+
+void forget(struct buffer *buffer) {
+    free(buffer->bytes);
+    buffer->bytes = block(buffer->len);
+}
+
+void keep(struct buffer *buffer) {
+    free(buffer->kept);
+    buffer->kept = memcpy(block(buffer->len), buffer->bytes, buffer->len);
+}
+
+void keep_all(struct lent *lent) {
+    for (int kind = 0; kind < KINDS; kind++)
+        keep(&lent->of[kind]);
+}
+
+int as_kept(const struct buffer *buffer) { return memcmp(buffer->bytes, buffer->kept, buffer->len) == 0; }
+
+int all(const struct buffer *buffer, size_t from, size_t to, uint8_t value) {
+    while (from < to && buffer->bytes[from] == value)
+        from++;
+    return from == to;
+}
+
+uint64_t call(enum operation operation, const struct lent *lent) {
+    const struct buffer *text = &lent->of[TEXT], *table = &lent->of[TABLE], *out = &lent->of[OUT];
+    const struct buffer *rules = &lent->of[RULES], *answer = &lent->of[ANSWER], *work = &lent->of[WORK];
+    switch (operation) {
+    case READ:
+        return lutsamik_read(text->bytes, text->len, table->bytes, table->len);
+    case WRITE:
+        return lutsamik_write(table->bytes, table->len, out->bytes, out->len);
+    case JUDGE:
+        return lutsamik_judge(table->bytes, table->len, answer->bytes, answer->len);
+    case REWRITE:
+        return lutsamik_rewrite(table->bytes, table->len, rules->bytes, rules->len);
+    case RELEVANCY:
+        return lutsamik_fit_relevancy(table->bytes, table->len, answer->bytes, answer->len, work->bytes, work->len);
+    default:
+        return lutsamik_fit_magic(table->bytes, table->len, rules->bytes, rules->len, answer->bytes, answer->len,
+                                  work->bytes, work->len);
+    }
+}
+
+void read_ticket(const struct lent *lent) { check_result(LUTSAMIK_OK, READ, lent, call(READ, lent)); }
+
+void check(int holds, const char *claim, enum operation operation, const struct lent *lent, uint64_t result) {
+    if (holds)
+        return;
+    printf("tests/host: %s, %s: not so: %s\nresult %016llX; lent:", lent->ticket, operations[operation].name, claim,
+           (unsigned long long)result);
+    for (int kind = 0; kind < KINDS; kind++)
+        if (uses(operation, (enum kind)kind))
+            printf(" %zu", lent->of[kind].len);
+    puts(" bytes");
+    exit(1);
+}
+
+void check_result(uint64_t expected, enum operation operation, const struct lent *lent, uint64_t result) {
+    char claim[64];
+    snprintf(claim, sizeof claim, "the result is %016llX", (unsigned long long)expected);
+    check(result == expected, claim, operation, lent, result);
+}

@@ -1,0 +1,60 @@
+/* What the tests in C lend to the library. Each buffer is a block of its own with just the bytes that the library is
+ * told of, so that valgrind sees a step past its end. */
+#ifndef HOST_LENT_H
+#define HOST_LENT_H
+
+#include <lutsamik.h>
+
+enum kind { TEXT, TABLE, OUT, RULES, ANSWER, WORK, KINDS };
+
+enum operation { READ, WRITE, JUDGE, REWRITE, RELEVANCY, MAGIC, OPERATIONS };
+
+/* What each byte holds that no test has set. */
+enum { FILL = 0xEE };
+
+struct buffer {
+    uint8_t *bytes;
+    size_t len;
+    uint8_t *kept; /* what the bytes were when they were last kept */
+};
+
+struct lent {
+    const char *ticket;
+    struct buffer of[KINDS];
+};
+
+/* How long each kind must be; a text may have any length. */
+extern const size_t required[KINDS];
+
+/* Whether an operation is lent a buffer of this kind. */
+int uses(enum operation operation, enum kind kind);
+
+/* The text of crates/cases/data/TICKET.text, and buffers of exactly the required lengths. */
+void lend(struct lent *lent, const char *ticket);
+void take_back(struct lent *lent);
+
+/* Puts a block of this length in a buffer's place, which begins as the buffer does and is filled up. */
+void resize(struct buffer *buffer, size_t len);
+
+/* Puts a block in a buffer's place that nobody has written: valgrind tells where its bytes decide something. */
+void forget(struct buffer *buffer);
+
+/* Notes what a buffer holds, for as_kept. */
+void keep(struct buffer *buffer);
+void keep_all(struct lent *lent);
+int as_kept(const struct buffer *buffer);
+
+/* Whether the bytes from one place up to another all have this value. */
+int all(const struct buffer *buffer, size_t from, size_t to, uint8_t value);
+
+/* An operation on what it is lent. */
+uint64_t call(enum operation operation, const struct lent *lent);
+
+/* Reads the ticket's text into the table, and ends the program unless it is accepted. */
+void read_ticket(const struct lent *lent);
+
+/* Ends the program unless the claim holds of an operation's call, or unless its result is this one. */
+void check(int holds, const char *claim, enum operation operation, const struct lent *lent, uint64_t result);
+void check_result(uint64_t expected, enum operation operation, const struct lent *lent, uint64_t result);
+
+#endif
