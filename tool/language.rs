@@ -1,0 +1,58 @@
+//! The rule language: a sheet of rules with names, and its translation to and from a ticket's text. docs/LANGUAGE.md has
+//! the grammar. Nothing here decides a ticket; it only spells one.
+#![allow(dead_code)] // each program uses its own part
+
+// Named in full, so that a program in another directory can take this file in.
+#[path = "language/clauses.rs"]
+mod clauses;
+#[path = "language/frames.rs"]
+mod frames;
+#[path = "language/names.rs"]
+mod names;
+#[path = "language/sheet.rs"]
+mod sheet;
+#[path = "language/show.rs"]
+mod show;
+#[path = "language/words.rs"]
+mod words;
+
+pub use names::Names;
+pub use show::show;
+use words::Place;
+
+/// The limit of a sheet that gives none.
+const USUAL_LIMIT: u32 = 1_000_000;
+
+/// A sheet's ticket text, and what its constants and predicates are called.
+#[derive(Clone, Debug, PartialEq, Eq)]
+pub struct Compiled {
+    pub text: Vec<u8>,
+    pub names: Names,
+}
+
+/// What is wrong with a sheet, and where: line and column count from 1, columns in characters.
+#[derive(Clone, Debug, PartialEq, Eq)]
+pub struct Error {
+    pub line: usize,
+    pub column: usize,
+    pub message: String,
+}
+
+impl Error {
+    fn at(place: Place, message: impl Into<String>) -> Error {
+        Error { line: place.line, column: place.column, message: message.into() }
+    }
+}
+
+/// The ticket text of a sheet. Lutsamik's reading accepts it.
+pub fn compile(source: &str) -> Result<Compiled, Error> {
+    let sheet = sheet::read(source)?;
+    let names = Names::declared(&sheet)?;
+    let clauses = clauses::frames(&sheet.rules, &names)?;
+    let mut frames = vec![frames::heading(names.constants().len(), names.arities().count(), sheet.limit.unwrap_or(USUAL_LIMIT))];
+    frames.extend(names.arities().map(|arity| vec![frames::ARITY, arity]));
+    let end = vec![frames::END, clauses.len() as u8];
+    frames.extend(clauses);
+    frames.push(end);
+    Ok(Compiled { text: frames::text(&frames), names })
+}

@@ -1,0 +1,116 @@
+//! A sheet's rules as the clause frames of a ticket: names become numbers, and variables are numbered as they appear.
+
+use super::frames::CLAUSE;
+use super::names::{Names, FIRST_VARIABLE};
+use super::sheet::{Atom, Rule};
+use super::words::{Kind, Word};
+use super::Error;
+
+const MOST_CLAUSES: usize = 64;
+const MOST_ATOMS: usize = 4;
+const MOST_VARIABLES: usize = 4;
+const MOST_MARKS: u64 = 16384;
+
+pub fn frames(rules: &[Rule], names: &Names) -> Result<Vec<Vec<u8>>, Error> {
+    let mut frames = Vec::new();
+    let mut sum = 0;
+    for rule in rules {
+        if frames.len() == MOST_CLAUSES {
+            return Err(Error::at(rule.place, format!("this is one rule too many: at most {MOST_CLAUSES}")));
+        }
+        let (frame, variables) = frame(rule, names)?;
+        let (n, c) = (rule.conditions.len() as u64, names.constants().len() as u64);
+        let marks = n * c.pow(variables);
+        sum += marks;
+        if sum > MOST_MARKS {
+            let this = format!("this rule, {n} conditions with {variables} variables over {c} constants, counts {n} * {c}^{variables} = {marks}");
+            return Err(Error::at(rule.place, format!("{this}; the sum over all rules so far is {sum}, at most {MOST_MARKS}")));
+        }
+        frames.push(frame);
+    }
+    Ok(frames)
+}
+
+/// A rule's frame and its number of variables.
+fn frame(rule: &Rule, names: &Names) -> Result<(Vec<u8>, u32), Error> {
+    few("condition", &rule.conditions)?;
+    few("alternative", &rule.alternatives)?;
+    let frame = vec![CLAUSE, rule.conditions.len() as u8, rule.alternatives.len() as u8];
+    let mut clause = Clause { names, variables: Vec::new(), frame };
+    for atom in &rule.conditions {
+        clause.add(atom, Clause::any_variable)?;
+    }
+    for atom in &rule.alternatives {
+        clause.add(atom, Clause::known_variable)?;
+    }
+    Ok((clause.frame, clause.variables.len() as u32))
+}
+
+fn few(what: &str, atoms: &[Atom]) -> Result<(), Error> {
+    match atoms.get(MOST_ATOMS) {
+        None => Ok(()),
+        Some(atom) => Err(Error::at(atom.name.place, format!("this is one {what} too many: a rule has at most {MOST_ATOMS}"))),
+    }
+}
+
+/// A clause as far as it is translated, with the variables that have appeared.
+struct Clause<'a> {
+    names: &'a Names,
+    variables: Vec<&'a str>,
+    frame: Vec<u8>,
+}
+
+/// A variable's number in its clause.
+type Variable<'a> = fn(&mut Clause<'a>, &Word<'a>) -> Result<usize, Error>;
+
+impl<'a> Clause<'a> {
+    fn add(&mut self, atom: &Atom<'a>, variable: Variable<'a>) -> Result<(), Error> {
+        let (name, place) = (atom.name.text, atom.name.place);
+        let Some((predicate, arity)) = self.names.predicate(name) else {
+            return Err(Error::at(place, format!("no predicate '{name}' is declared")));
+        };
+        if atom.arguments.len() != arity as usize {
+            return Err(Error::at(place, format!("'{name}' has {} here, but is declared as {name}/{arity}", arguments(atom.arguments.len()))));
+        }
+        self.frame.push(predicate);
+        for argument in &atom.arguments {
+            let byte = match argument.kind {
+                Kind::Variable => FIRST_VARIABLE + variable(self, argument)? as u8,
+                _ => self.constant(argument)?,
+            };
+            self.frame.push(byte);
+        }
+        Ok(())
+    }
+
+    fn constant(&self, word: &Word) -> Result<u8, Error> {
+        self.names.constant(word.text).ok_or_else(|| Error::at(word.place, format!("no constant '{}' is declared", word.text)))
+    }
+
+    fn any_variable(&mut self, word: &Word<'a>) -> Result<usize, Error> {
+        if let Some(number) = self.number(word) {
+            return Ok(number);
+        }
+        if self.variables.len() == MOST_VARIABLES {
+            return Err(Error::at(word.place, format!("'{}' is one variable too many: a rule has at most {MOST_VARIABLES}", word.text)));
+        }
+        self.variables.push(word.text);
+        Ok(self.variables.len() - 1)
+    }
+
+    fn known_variable(&mut self, word: &Word<'a>) -> Result<usize, Error> {
+        self.number(word).ok_or_else(|| Error::at(word.place, format!("the variable '{}' stands in no condition of this rule", word.text)))
+    }
+
+    fn number(&self, word: &Word) -> Option<usize> {
+        self.variables.iter().position(|variable| *variable == word.text)
+    }
+}
+
+fn arguments(many: usize) -> String {
+    match many {
+        0 => "no arguments".to_string(),
+        1 => "1 argument".to_string(),
+        _ => format!("{many} arguments"),
+    }
+}

@@ -1,0 +1,141 @@
+//! What the constants and predicates of a ticket are called, by their numbers, and how a sheet declares them.
+
+use super::sheet::{Constants, Predicate, Sheet};
+use super::words::{Kind, Place};
+use super::Error;
+
+const MOST_CONSTANTS: usize = 32;
+const MOST_PREDICATES: usize = 32;
+const MOST_ARGUMENTS: u32 = 3;
+const MOST_ATOMS: usize = 1024;
+
+/// The first variable of a clause; there are four.
+pub const FIRST_VARIABLE: u8 = 0x80;
+const VARIABLES: [&str; 4] = ["X", "Y", "Z", "W"];
+
+/// The names of a ticket's constants, and of its predicates with their arities, in the ticket's order.
+#[derive(Clone, Debug, PartialEq, Eq)]
+pub struct Names {
+    constants: Vec<String>,
+    predicates: Vec<(String, u8)>,
+}
+
+impl Names {
+    /// Names for a ticket that has none: a constant is its number, and predicates are p0, p1 and so on.
+    pub fn plain(constants: u8, arities: &[u8]) -> Names {
+        Names {
+            constants: (0..constants).map(|constant| constant.to_string()).collect(),
+            predicates: arities.iter().enumerate().map(|(i, arity)| (format!("p{i}"), *arity)).collect(),
+        }
+    }
+
+    /// An atom as a sheet has it. A number without a name stands as in a ticket without names.
+    pub fn atom(&self, predicate: u8, args: &[u8]) -> String {
+        let name = self.predicates.get(predicate as usize).map_or_else(|| format!("p{predicate}"), |(name, _)| name.clone());
+        if args.is_empty() {
+            return name;
+        }
+        let args: Vec<String> = args.iter().map(|arg| self.argument(*arg)).collect();
+        format!("{name}({})", args.join(", "))
+    }
+
+    fn argument(&self, arg: u8) -> String {
+        let variable = arg.checked_sub(FIRST_VARIABLE).and_then(|number| VARIABLES.get(number as usize));
+        let name = variable.map(|name| name.to_string()).or_else(|| self.constants.get(arg as usize).cloned());
+        name.unwrap_or_else(|| arg.to_string())
+    }
+
+    pub(super) fn constants(&self) -> &[String] {
+        &self.constants
+    }
+
+    pub(super) fn predicates(&self) -> &[(String, u8)] {
+        &self.predicates
+    }
+
+    pub(super) fn arities(&self) -> impl Iterator<Item = u8> + '_ {
+        self.predicates.iter().map(|(_, arity)| *arity)
+    }
+
+    pub(super) fn constant(&self, name: &str) -> Option<u8> {
+        self.constants.iter().position(|constant| constant == name).map(|number| number as u8)
+    }
+
+    /// A predicate's number and arity.
+    pub(super) fn predicate(&self, name: &str) -> Option<(u8, u8)> {
+        let number = self.predicates.iter().position(|(predicate, _)| predicate == name)?;
+        Some((number as u8, self.predicates[number].1))
+    }
+
+    /// The names that a sheet declares, in its order.
+    pub(super) fn declared(sheet: &Sheet) -> Result<Names, Error> {
+        let mut constants = Declared::new("constant", MOST_CONSTANTS);
+        for item in &sheet.constants {
+            add_constants(&mut constants, item)?;
+        }
+        let constants = constants.names();
+        let mut predicates = Declared::new("predicate", MOST_PREDICATES);
+        let mut atoms = 0;
+        for predicate in &sheet.predicates {
+            predicates.add(predicate.name.text.to_string(), predicate.name.place)?;
+            atoms += atoms_of(predicate, constants.len())?;
+            if atoms > MOST_ATOMS {
+                let message = format!("with this predicate there are {atoms} ground atoms, constants^arguments for each predicate; at most {MOST_ATOMS}");
+                return Err(Error::at(predicate.name.place, message));
+            }
+        }
+        if sheet.predicates.is_empty() {
+            return Err(Error::at(sheet.end, "no predicate is declared"));
+        }
+        let arities = sheet.predicates.iter().map(|predicate| predicate.arity as u8);
+        Ok(Names { constants, predicates: predicates.names().into_iter().zip(arities).collect() })
+    }
+}
+
+/// The constant, or each of a range.
+fn add_constants(constants: &mut Declared, item: &Constants) -> Result<(), Error> {
+    let place = item.first.place;
+    let (Kind::Number(first), Some(Kind::Number(last))) = (item.first.kind, item.last.map(|last| last.kind)) else {
+        return constants.add(item.first.text.to_string(), place);
+    };
+    if first > last {
+        return Err(Error::at(place, format!("the range {first}..{last} goes down")));
+    }
+    (first..=last).try_for_each(|number| constants.add(number.to_string(), place))
+}
+
+/// How many ground atoms a predicate has.
+fn atoms_of(predicate: &Predicate, constants: usize) -> Result<usize, Error> {
+    if predicate.arity > MOST_ARGUMENTS {
+        return Err(Error::at(predicate.arity_place, format!("a predicate has at most {MOST_ARGUMENTS} arguments")));
+    }
+    Ok(constants.pow(predicate.arity))
+}
+
+/// Names of one kind, as far as they are declared, with their places.
+struct Declared {
+    kind: &'static str,
+    most: usize,
+    names: Vec<(String, Place)>,
+}
+
+impl Declared {
+    fn new(kind: &'static str, most: usize) -> Declared {
+        Declared { kind, most, names: Vec::new() }
+    }
+
+    fn add(&mut self, name: String, place: Place) -> Result<(), Error> {
+        if let Some((_, first)) = self.names.iter().find(|(other, _)| *other == name) {
+            return Err(Error::at(place, format!("the {} '{name}' is declared already, on line {}", self.kind, first.line)));
+        }
+        if self.names.len() == self.most {
+            return Err(Error::at(place, format!("'{name}' is one {} too many: at most {}", self.kind, self.most)));
+        }
+        self.names.push((name, place));
+        Ok(())
+    }
+
+    fn names(self) -> Vec<String> {
+        self.names.into_iter().map(|(name, _)| name).collect()
+    }
+}

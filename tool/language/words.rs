@@ -1,0 +1,114 @@
+//! The words of a sheet: names, numbers, variables and signs, each with the place where it stands.
+
+use super::Error;
+
+/// A line and a column, both from 1. A column counts characters.
+#[derive(Clone, Copy, Debug, PartialEq, Eq)]
+pub struct Place {
+    pub line: usize,
+    pub column: usize,
+}
+
+#[derive(Clone, Copy, Debug, PartialEq, Eq)]
+pub enum Kind {
+    Name,
+    Number(u32),
+    Variable,
+    Sign,
+    /// the end of the sheet, once, as the last word
+    End,
+}
+
+#[derive(Clone, Copy, Debug)]
+pub struct Word<'a> {
+    pub kind: Kind,
+    pub text: &'a str,
+    pub place: Place,
+}
+
+/// Those that begin alike, the longer one first.
+const SIGNS: [&str; 9] = ["->", "..", ".", ",", "/", "(", ")", "&", "|"];
+
+impl Word<'_> {
+    /// The place just after it. A word stands on one line.
+    pub fn end(&self) -> Place {
+        Place { column: self.place.column + self.text.chars().count(), ..self.place }
+    }
+}
+
+pub fn words(source: &str) -> Result<Vec<Word<'_>>, Error> {
+    let unmarked = source.strip_prefix('\u{FEFF}').unwrap_or(source); // some editors mark a file so
+    let mut reader = Reader { rest: unmarked, place: Place { line: 1, column: 1 } };
+    let mut words = Vec::new();
+    loop {
+        reader.pass_blanks();
+        let word = reader.word()?;
+        words.push(word);
+        if word.kind == Kind::End {
+            return Ok(words);
+        }
+    }
+}
+
+/// What is left of a sheet, and the place where that begins.
+struct Reader<'a> {
+    rest: &'a str,
+    place: Place,
+}
+
+impl<'a> Reader<'a> {
+    /// Takes the characters up to the first that does not belong.
+    fn take(&mut self, belongs: impl Fn(char) -> bool) -> &'a str {
+        let len = self.rest.find(|c| !belongs(c)).unwrap_or(self.rest.len());
+        let (taken, rest) = self.rest.split_at(len);
+        for c in taken.chars() {
+            self.place = match c {
+                '\n' => Place { line: self.place.line + 1, column: 1 },
+                _ => Place { column: self.place.column + 1, ..self.place },
+            };
+        }
+        self.rest = rest;
+        taken
+    }
+
+    /// Blanks, line ends and comments.
+    fn pass_blanks(&mut self) {
+        self.take(char::is_whitespace);
+        while self.rest.starts_with(['#', '%']) {
+            self.take(|c| c != '\n');
+            self.take(char::is_whitespace);
+        }
+    }
+
+    fn word(&mut self) -> Result<Word<'a>, Error> {
+        let place = self.place;
+        let Some(first) = self.rest.chars().next() else {
+            return Ok(Word { kind: Kind::End, text: "", place });
+        };
+        if first.is_alphanumeric() {
+            let text = self.take(|c| c.is_alphanumeric() || c == '_');
+            return Ok(Word { kind: kind(text, place)?, text, place });
+        }
+        let Some(sign) = SIGNS.into_iter().find(|sign| self.rest.starts_with(sign)) else {
+            return Err(Error::at(place, format!("no word begins with {first:?}")));
+        };
+        self.rest = &self.rest[sign.len()..];
+        self.place.column += sign.len();
+        Ok(Word { kind: Kind::Sign, text: sign, place })
+    }
+}
+
+/// What a word of letters and digits is.
+fn kind(text: &str, place: Place) -> Result<Kind, Error> {
+    if text.starts_with(char::is_uppercase) {
+        return Ok(Kind::Variable);
+    }
+    if !text.bytes().all(|byte| byte.is_ascii_digit()) {
+        return Ok(Kind::Name);
+    }
+    if text.len() > 1 && text.starts_with('0') {
+        return Err(Error::at(place, format!("the number {text} begins with a needless 0")));
+    }
+    let too_large = |_| Error::at(place, format!("the number {text} is too large: at most {}", u32::MAX));
+    text.parse().map(Kind::Number).map_err(too_large)
+}
