@@ -1,6 +1,6 @@
 //! The rule language: a sheet of rules with names, and its translation to and from a ticket's text. docs/LANGUAGE.md has
 //! the grammar. Nothing here decides a ticket; it only spells one.
-#![allow(dead_code)] // each program uses its own part
+#![allow(dead_code, unused_imports)] // each program uses its own part
 
 // Named in full, so that a program in another directory can take this file in.
 #[path = "language/clauses.rs"]
