@@ -23,8 +23,8 @@ pub fn frames(rules: &[Rule], names: &Names) -> Result<Vec<Vec<u8>>, Error> {
         let marks = n * c.pow(variables);
         sum += marks;
         if sum > MOST_MARKS {
-            let this = format!("this rule, {n} conditions with {variables} variables over {c} constants, counts {n} * {c}^{variables} = {marks}");
-            return Err(Error::at(rule.place, format!("{this}; the sum over all rules so far is {sum}, at most {MOST_MARKS}")));
+            let this = format!("this rule counts {n} * {c}^{variables} = {marks}, conditions * constants^variables");
+            return Err(Error::at(rule.place, format!("{this}; with it the sum over the rules is {sum}, at most {MOST_MARKS}")));
         }
         frames.push(frame);
     }

@@ -77,11 +77,12 @@ impl<'a> Reader<'a> {
         seen
     }
 
-    /// That something else should stand here: at the next word, or, where that is on a later line, right after the last one.
+    /// That something else should stand here: at the next word, or, where a statement goes on on a later line, right after
+    /// the last word.
     fn expected(&self, what: &str) -> Error {
         let next = self.next();
-        let last = self.at.checked_sub(1).map(|at| self.words[at].end());
-        let earlier = last.filter(|end| end.line < next.place.line);
+        let last = self.words[..self.at].last().filter(|word| word.text != ".");
+        let earlier = last.map(Word::end).filter(|end| end.line < next.place.line);
         let found = match next.kind {
             Kind::End => "the sheet ends".to_string(),
             _ if earlier.is_some() => format!("'{}' follows on line {}", next.text, next.place.line),
