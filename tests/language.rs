@@ -35,6 +35,7 @@ fn run(run: &mut Run<Met>, sheets: u64) -> Result<(), Report> {
         sheet_errors::faults().iter().try_for_each(|(marked, words)| told(marked, words))?;
         names()?;
         usual_limit()?;
+        guide()?;
         run.tally.examples = example_sheets::all_hold()?;
     }
     while run.tally.sheets < sheets {
@@ -70,6 +71,14 @@ fn names() -> Result<(), Report> {
 fn usual_limit() -> Result<(), Report> {
     let compiled = compile("\u{FEFF}predicates p/0.").map_err(|error| format!("{error:?}"))?;
     same("the text without a limit", "01010001000F4240\n0200\nFF00\n", &String::from_utf8_lossy(&compiled.text))
+}
+
+/// The first two blocks of docs/LANGUAGE.md are a sheet and its text.
+fn guide() -> Result<(), Report> {
+    let guide = std::fs::read_to_string("docs/LANGUAGE.md").map_err(|error| format!("docs/LANGUAGE.md: {error}"))?;
+    let blocks: Vec<&str> = guide.split("```\n").skip(1).step_by(2).take(2).collect();
+    let compiled = compile(blocks[0]).map_err(|error| format!("the guide's sheet: {error:?}"))?;
+    same("the guide's text", blocks[1], &String::from_utf8_lossy(&compiled.text))
 }
 
 impl Run<Met> {

@@ -50,7 +50,8 @@ const DECLARATIONS: [(&str, &str); 26] = [
     ("limit 7.\nconstants a.\n@", "no predicate is declared"),
 ];
 
-const RULES: [(&str, &str); 18] = [
+const RULES: [(&str, &str); 19] = [
+    ("predicates p/0.\np & @12x24 -> p.", "expected a predicate, but '12x24' follows"),
     ("predicates p/0.\n\n@12 -> p.", "expected a predicate, but '12' follows"),
     ("predicates p/0.\np @p.", "expected '&', '->', '|' or '.', but 'p' follows"),
     ("predicates p/0.\np@\np.", "expected '&', '->', '|' or '.', but 'p' follows on line 3"),

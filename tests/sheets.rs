@@ -37,7 +37,7 @@ fn constants(random: &mut Random, many: usize) -> Vec<String> {
         let first = random.pick(&[0, 1, 437, u32::MAX as usize - many]);
         return (first..first + many).map(|number| number.to_string()).collect();
     }
-    let draw = random.pick(&[name, number]);
+    let draw = random.pick(&[name, number, code]);
     distinct(random, many, draw)
 }
 
@@ -58,10 +58,12 @@ fn number(random: &mut Random) -> String {
     random.pick(&[any % 400, any % 100_000, any]).to_string()
 }
 
-/// Digits alone would be a number.
 fn name(random: &mut Random) -> String {
-    let name = word(random, &['a', 'p', 'z', '1', 'é', '日']);
-    if name.bytes().all(|byte| byte.is_ascii_digit()) { name + "x24" } else { name }
+    word(random, &['a', 'p', 'z', 'é', '日'])
+}
+
+fn code(random: &mut Random) -> String {
+    number(random) + &word(random, &['x', 'X', '_'])
 }
 
 fn variable(random: &mut Random) -> String {

@@ -37,12 +37,8 @@ fn frame(rule: &Rule, names: &Names) -> Result<(Vec<u8>, u32), Error> {
     few("alternative", &rule.alternatives)?;
     let frame = vec![CLAUSE, rule.conditions.len() as u8, rule.alternatives.len() as u8];
     let mut clause = Clause { names, variables: Vec::new(), frame };
-    for atom in &rule.conditions {
-        clause.add(atom, Clause::any_variable)?;
-    }
-    for atom in &rule.alternatives {
-        clause.add(atom, Clause::known_variable)?;
-    }
+    rule.conditions.iter().try_for_each(|atom| clause.add(atom, Clause::any_variable))?;
+    rule.alternatives.iter().try_for_each(|atom| clause.add(atom, Clause::known_variable))?;
     Ok((clause.frame, clause.variables.len() as u32))
 }
 

@@ -70,25 +70,10 @@ impl Names {
     /// The names that a sheet declares, in its order.
     pub(super) fn declared(sheet: &Sheet) -> Result<Names, Error> {
         let mut constants = Declared::new("constant", MOST_CONSTANTS);
-        for item in &sheet.constants {
-            add_constants(&mut constants, item)?;
-        }
+        sheet.constants.iter().try_for_each(|item| add_constants(&mut constants, item))?;
         let constants = constants.names();
-        let mut predicates = Declared::new("predicate", MOST_PREDICATES);
-        let mut atoms = 0;
-        for predicate in &sheet.predicates {
-            predicates.add(predicate.name.text.to_string(), predicate.name.place)?;
-            atoms += atoms_of(predicate, constants.len())?;
-            if atoms > MOST_ATOMS {
-                let message = format!("with this predicate there are {atoms} ground atoms, constants^arguments for each predicate; at most {MOST_ATOMS}");
-                return Err(Error::at(predicate.name.place, message));
-            }
-        }
-        if sheet.predicates.is_empty() {
-            return Err(Error::at(sheet.end, "no predicate is declared"));
-        }
-        let arities = sheet.predicates.iter().map(|predicate| predicate.arity as u8);
-        Ok(Names { constants, predicates: predicates.names().into_iter().zip(arities).collect() })
+        let predicates = predicates(sheet, constants.len())?;
+        Ok(Names { constants, predicates })
     }
 }
 
@@ -104,12 +89,26 @@ fn add_constants(constants: &mut Declared, item: &Constants) -> Result<(), Error
     (first..=last).try_for_each(|number| constants.add(number.to_string(), place))
 }
 
-/// How many ground atoms a predicate has.
-fn atoms_of(predicate: &Predicate, constants: usize) -> Result<usize, Error> {
-    if predicate.arity > MOST_ARGUMENTS {
-        return Err(Error::at(predicate.arity_place, format!("a predicate has at most {MOST_ARGUMENTS} arguments")));
+/// The predicates with their arities, and not too many ground atoms of them.
+fn predicates(sheet: &Sheet, constants: usize) -> Result<Vec<(String, u8)>, Error> {
+    let mut declared = Declared::new("predicate", MOST_PREDICATES);
+    let mut atoms = 0;
+    for Predicate { name, arity, arity_place } in &sheet.predicates {
+        declared.add(name.text.to_string(), name.place)?;
+        if *arity > MOST_ARGUMENTS {
+            return Err(Error::at(*arity_place, format!("a predicate has at most {MOST_ARGUMENTS} arguments")));
+        }
+        atoms += constants.pow(*arity);
+        if atoms > MOST_ATOMS {
+            let message = format!("with this predicate there are {atoms} ground atoms, constants^arguments for each predicate; at most {MOST_ATOMS}");
+            return Err(Error::at(name.place, message));
+        }
     }
-    Ok(constants.pow(predicate.arity))
+    if sheet.predicates.is_empty() {
+        return Err(Error::at(sheet.end, "no predicate is declared"));
+    }
+    let arities = sheet.predicates.iter().map(|predicate| predicate.arity as u8);
+    Ok(declared.names().into_iter().zip(arities).collect())
 }
 
 /// Names of one kind, as far as they are declared, with their places.

@@ -152,12 +152,9 @@ impl<'a> Reader<'a> {
     }
 
     fn constant(&mut self) -> Result<Word<'a>, Error> {
-        let word = self.next();
-        match word.kind {
-            Kind::Name => self.own_name("a constant"),
-            Kind::Number(_) => Ok(self.pass()),
-            Kind::Variable => Err(Error::at(word.place, format!("'{}' has a variable's capital letter; a constant begins with a small one", word.text))),
-            Kind::Sign | Kind::End => Err(self.expected("a constant")),
+        match self.next().kind {
+            Kind::Number(_) | Kind::Code => Ok(self.pass()),
+            _ => self.own_name("a constant"),
         }
     }
 
@@ -228,7 +225,7 @@ impl<'a> Reader<'a> {
 
     fn argument(&mut self) -> Result<Word<'a>, Error> {
         match self.next().kind {
-            Kind::Name | Kind::Number(_) | Kind::Variable => Ok(self.pass()),
+            Kind::Name | Kind::Number(_) | Kind::Code | Kind::Variable => Ok(self.pass()),
             Kind::Sign | Kind::End => Err(self.expected("a constant or a variable")),
         }
     }

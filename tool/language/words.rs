@@ -1,4 +1,4 @@
-//! The words of a sheet: names, numbers, variables and signs, each with the place where it stands.
+//! The words of a sheet: names, numbers, codes, variables and signs, each with the place where it stands.
 
 use super::Error;
 
@@ -13,6 +13,8 @@ pub struct Place {
 pub enum Kind {
     Name,
     Number(u32),
+    /// begins as a number and goes on with letters
+    Code,
     Variable,
     Sign,
     /// the end of the sheet, once, as the last word
@@ -103,8 +105,11 @@ fn kind(text: &str, place: Place) -> Result<Kind, Error> {
     if text.starts_with(char::is_uppercase) {
         return Ok(Kind::Variable);
     }
-    if !text.bytes().all(|byte| byte.is_ascii_digit()) {
+    if !text.starts_with(char::is_numeric) {
         return Ok(Kind::Name);
+    }
+    if !text.bytes().all(|byte| byte.is_ascii_digit()) {
+        return Ok(Kind::Code);
     }
     if text.len() > 1 && text.starts_with('0') {
         return Err(Error::at(place, format!("the number {text} begins with a needless 0")));
