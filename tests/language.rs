@@ -35,6 +35,7 @@ fn run(run: &mut Run<Met>, sheets: u64) -> Result<(), Report> {
         sheet_errors::faults().iter().try_for_each(|(marked, words)| told(marked, words))?;
         names()?;
         usual_limit()?;
+        layout()?;
         guide()?;
         run.tally.examples = example_sheets::all_hold()?;
     }
@@ -71,6 +72,24 @@ fn names() -> Result<(), Report> {
 fn usual_limit() -> Result<(), Report> {
     let compiled = compile("\u{FEFF}predicates p/0.").map_err(|error| format!("{error:?}"))?;
     same("the text without a limit", "01010001000F4240\n0200\nFF00\n", &String::from_utf8_lossy(&compiled.text))
+}
+
+/// What is shown of a sheet, by its names, by plain ones, and by another ticket's.
+fn layout() -> Result<(), Report> {
+    let long: Vec<String> = (0..12).map(|i| format!("position_{i}")).collect();
+    let source = format!("p. p & q(Y, X) -> q(X, Y) | p. -> false. constants 1..3, 7, 8, {}, 4294967295. predicates p/0, q/2.", long.join(","));
+    let compiled = compile(&source).map_err(|error| format!("{error:?}"))?;
+    let rules = ["p", "p & q(X, Y) -> q(Y, X) | p", "false"];
+    let (first, last) = (long[..6].join(", "), long[6..].join(", "));
+    let named = format!("limit 1000000.\nconstants 1..3, 7, 8, {first},\n    {last}, 4294967295.\npredicates p/0, q/2.\n\n{}.\n", rules.join(".\n"));
+    same("shown by its names", Ok(named), show(&compiled.text, Some(&compiled.names)))?;
+    let plain = rules.join(".\n").replace('p', "p0").replace('q', "p1");
+    let plain = format!("limit 1000000.\nconstants 0..17.\npredicates p0/0, p1/2.\n\n{plain}.\n");
+    same("shown by plain names", Ok(plain), show(&compiled.text, None))?;
+    for other in [Names::plain(17, &[0, 2]), Names::plain(18, &[0, 1]), Names::plain(18, &[0])] {
+        same("shown by other names", Err("these names belong to another ticket".to_string()), show(&compiled.text, Some(&other)))?;
+    }
+    Ok(())
 }
 
 /// The first two blocks of docs/LANGUAGE.md are a sheet and its text.
@@ -157,16 +176,14 @@ impl Run<Met> {
     }
 }
 
-/// The library reads the text, and shown with its names or with plain ones it compiles to the same; other names are refused.
+/// The library reads the text, and shown by its names or by plain ones it compiles to the same.
 fn is_spelt_back(compiled: &Compiled) -> Result<(), Report> {
     let mut table = [0; TABLE];
     same_answer(packed(0, 0), library::read(&compiled.text, &mut table), || "reading".to_string())?;
     let named = show(&compiled.text, Some(&compiled.names))?;
     same(&format!("shown as\n{named}\ncompiled"), Ok(compiled), compile(&named).as_ref())?;
     let plain = show(&compiled.text, None)?;
-    same("shown without names, compiled", Ok(&compiled.text), compile(&plain).as_ref().map(|again| &again.text))?;
-    let other = Names::plain(33, &[0]);
-    same("shown with other names", true, show(&compiled.text, Some(&other)).is_err())
+    same("shown without names, compiled", Ok(&compiled.text), compile(&plain).as_ref().map(|again| &again.text))
 }
 
 /// The place is one of the source, or just after a line of it; something is said.

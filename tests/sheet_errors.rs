@@ -16,7 +16,7 @@ const WORDS: [(&str, &str); 8] = [
     ("@_x -> p.", "no word begins with '_'"),
     ("# first\n\t@\0", "no word begins with '\\0'"),
     ("% größer\r\npredicates größer/0.\r\ngrößer @€.", "no word begins with '€'"),
-    ("limit @007.", "the number 007 begins with a needless 0"),
+    ("limit @07.", "the number 07 begins with a needless 0"),
     ("limit @4294967296.", "the number 4294967296 is too large: at most 4294967295"),
     ("constants 1..@99999999999999999999.", "the number 99999999999999999999 is too large: at most 4294967295"),
 ];

@@ -1,12 +1,12 @@
 //! A ticket's frames and its text: a line of hexadecimal digits for each frame.
 
 /// The kinds of frames.
-pub const HEADING: u8 = 0x01;
+const HEADING: u8 = 0x01;
 pub const ARITY: u8 = 0x02;
 pub const CLAUSE: u8 = 0x03;
 pub const END: u8 = 0xFF;
 
-pub const VERSION: u8 = 0x01;
+const VERSION: u8 = 0x01;
 
 const DIGITS: &[u8; 16] = b"0123456789ABCDEF";
 

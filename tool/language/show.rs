@@ -1,7 +1,6 @@
 //! A ticket's text as a sheet of rules, which compiles to that very text.
 
-use super::frames::{self, ARITY, CLAUSE, END, HEADING, VERSION};
-use super::{compile, Names};
+use super::{compile, frames, Names};
 
 /// Columns of a list of declared names.
 const WIDTH: usize = 100;
@@ -24,7 +23,7 @@ pub fn show(text: &[u8], names: Option<&Names>) -> Result<String, String> {
     }
 }
 
-/// What a ticket's frames say. Whether they may say it is left open.
+/// What frames say if they are a ticket's. Whether they are is left to compiling.
 struct Ticket<'a> {
     constants: u8,
     limit: u32,
@@ -44,12 +43,12 @@ struct Atom<'a> {
 
 impl Ticket<'_> {
     fn of(frames: &[Vec<u8>]) -> Option<Ticket<'_>> {
-        let [heading, rest @ .., end] = frames else { return None };
-        let [HEADING, VERSION, constants, predicates, a, b, c, d] = heading[..] else { return None };
+        let [heading, rest @ .., _] = frames else { return None };
+        let [_, _, constants, predicates, a, b, c, d] = heading[..] else { return None };
         let (arities, clauses) = rest.split_at_checked(predicates as usize)?;
-        let arities: Vec<u8> = arities.iter().map(|frame| arity(frame)).collect::<Option<_>>()?;
+        let arities: Vec<u8> = arities.iter().map(|frame| frame.get(1).copied()).collect::<Option<_>>()?;
         let clauses = clauses.iter().map(|frame| clause(frame, &arities)).collect::<Option<_>>()?;
-        (end.first() == Some(&END)).then_some(Ticket { constants, limit: u32::from_be_bytes([a, b, c, d]), arities, clauses })
+        Some(Ticket { constants, limit: u32::from_be_bytes([a, b, c, d]), arities, clauses })
     }
 
     fn sheet(&self, names: &Names) -> String {
@@ -63,19 +62,11 @@ impl Ticket<'_> {
     }
 }
 
-fn arity(frame: &[u8]) -> Option<u8> {
-    match frame {
-        [ARITY, arity] => Some(*arity),
-        _ => None,
-    }
-}
-
 fn clause<'a>(frame: &'a [u8], arities: &[u8]) -> Option<Clause<'a>> {
-    let [CLAUSE, n, m, rest @ ..] = frame else { return None };
+    let [_, n, m, rest @ ..] = frame else { return None };
     let mut rest = rest;
-    let mut atoms = |many: u8| -> Option<Vec<Atom<'a>>> { (0..many).map(|_| atom(&mut rest, arities)).collect() };
-    let (conditions, alternatives) = (atoms(*n)?, atoms(*m)?);
-    rest.is_empty().then_some(Clause { conditions, alternatives })
+    let mut atoms = |many: &u8| -> Option<Vec<Atom<'a>>> { (0..*many).map(|_| atom(&mut rest, arities)).collect() };
+    Some(Clause { conditions: atoms(n)?, alternatives: atoms(m)? })
 }
 
 /// Takes an atom from the front of the bytes.
