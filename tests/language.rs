@@ -223,13 +223,15 @@ impl Tally for Met {
     }
 
     fn print(&self) {
-        println!("sheets of accepted tickets: {}; of tickets refused by {REFUSALS:?}:{}", self.accepted, row(&REFUSALS.map(|number| self.refused[number as usize])));
+        let refused = REFUSALS.map(|number| self.refused[number as usize]);
+        println!("sheets of accepted tickets: {}; of tickets refused by {REFUSALS:?}:{}", self.accepted, row(&refused));
         println!("with a foreign character: {}; damaged or any words, refused and compiled:{}", self.foreign, row(&self.others));
         println!("damaged texts, refused and shown:{}", row(&self.texts));
     }
 
     fn missing(&self) -> Vec<String> {
-        let mut missing: Vec<String> = REFUSALS.iter().filter(|number| self.refused[**number as usize] == 0).map(|number| format!("refusal {number}")).collect();
+        let unmet = REFUSALS.iter().filter(|number| self.refused[**number as usize] == 0);
+        let mut missing: Vec<String> = unmet.map(|number| format!("refusal {number}")).collect();
         let enough = |times: u64| times > self.sheets / 40;
         let common = [self.accepted, self.foreign, self.others[0], self.others[1], self.texts[0], self.texts[1]];
         missing.extend(common.iter().position(|times| !enough(*times)).map(|kind| format!("kind {kind} of sheets and texts")));

@@ -94,7 +94,10 @@ fn limits() -> Vec<Fault> {
         (format!("constants {}.\nconstants @last.", names(32)), "'last' is one constant too many: at most 32"),
         ("constants a, @0..4294967295.".to_string(), "'31' is one constant too many: at most 32"),
         (format!("predicates {}, @last/0.", predicates(32)), "'last' is one predicate too many: at most 32"),
-        ("constants 1..32. predicates p/2,\n @q/0.".to_string(), "with this predicate there are 1025 ground atoms, constants^arguments for each predicate; at most 1024"),
+        (
+            "constants 1..32. predicates p/2,\n @q/0.".to_string(),
+            "with this predicate there are 1025 ground atoms, constants^arguments for each predicate; at most 1024",
+        ),
         ("predicates r/0.\nr & r & r & r & @r -> r.".to_string(), "this is one condition too many: a rule has at most 4"),
         ("predicates r/0.\nr | r | r | r | @r.".to_string(), "this is one alternative too many: a rule has at most 4"),
         (format!("predicates r/0.\n{}\n   @r -> r.", "r. ".repeat(64)), "this is one rule too many: at most 64"),

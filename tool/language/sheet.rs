@@ -77,8 +77,8 @@ impl<'a> Reader<'a> {
         seen
     }
 
-    /// That something else should stand here: at the next word, or, where a statement goes on on a later line, right after
-    /// the last word.
+    /// That something else should stand here: at the next word, or, where that is on a later line of a statement, right
+    /// after the last word.
     fn expected(&self, what: &str) -> Error {
         let next = self.next();
         let last = self.words[..self.at].last().filter(|word| word.text != ".");
@@ -167,11 +167,11 @@ impl<'a> Reader<'a> {
 
     /// A name that a sheet may give.
     fn own_name(&mut self, what: &str) -> Result<Word<'a>, Error> {
-        let word = self.next();
-        match word.kind {
-            Kind::Name if RESERVED.contains(&word.text) => Err(Error::at(word.place, format!("'{}' is a word of the language, not {what}", word.text))),
+        let Word { kind, text, place } = self.next();
+        match kind {
+            Kind::Name if RESERVED.contains(&text) => Err(Error::at(place, format!("'{text}' is a word of the language, not {what}"))),
             Kind::Name => Ok(self.pass()),
-            Kind::Variable => Err(Error::at(word.place, format!("'{}' has a variable's capital letter; {what} begins with a small one", word.text))),
+            Kind::Variable => Err(Error::at(place, format!("'{text}' has a variable's capital letter; {what} begins with a small one"))),
             _ => Err(self.expected(what)),
         }
     }
