@@ -1,6 +1,7 @@
-//! How much stack each engine needs: the longest paths there are, walked in a thread of 1 MB, and on a stack of this
-//! program's own, painted beforehand, so that the bytes used can be counted. Usage: stack [BYTES OF STACK].
+//! How much stack each operation needs, and the engines on the longest paths there are: in a thread of 1 MB, and on a stack of this
+//! program's own, painted beforehand, so that the bytes used can be counted; they must be within a bound. Usage: stack [BYTES OF STACK].
 //! Where the stack is too small, a signal ends the program.
+mod host;
 mod library;
 mod logic;
 mod painted;
@@ -10,20 +11,56 @@ mod report;
 mod tickets;
 mod walk;
 
-use reference::{Ticket, ANSWER, RULES, WORK};
+use host::{Host, ENGINES};
+use library::{fit, packed, violated};
+use reference::Ticket;
 use report::{same, same_answer, Report};
+use std::hint::black_box;
 use walk::{walk, Relevancy};
 
 const STACK: usize = 1 << 20;
 
+/// The most that an engine may use, and the most for an operation that walks no path.
+const MOST_TO_WALK: usize = 1 << 18;
+const MOST: usize = 1 << 14;
+
 fn main() {
     let stack = std::env::args().nth(1).map_or(STACK, |word| word.parse().expect("the argument is a number"));
-    for (ticket, path) in [(tickets::deep(31, 2, u32::MAX), 961), (tickets::deep(32, 1, 1024), 1024)] {
-        if let Err(report) = walked(&ticket, path, stack) {
-            println!("{report}\nstack: FAILED");
-            std::process::exit(1);
-        }
+    if let Err(report) = measure(stack) {
+        println!("{report}\nstack: FAILED");
+        std::process::exit(1);
     }
+}
+
+fn measure(stack: usize) -> Result<(), Report> {
+    counts_right(stack)?;
+    let longest = tickets::deep(32, 1, 1024);
+    without_a_walk(&longest, stack)?;
+    walked(&tickets::deep(31, 2, u32::MAX), 961, stack)?;
+    walked(&longest, 1024, stack)
+}
+
+/// That a function which fills 100,000 bytes of stack is counted so, and little more.
+fn counts_right(stack: usize) -> Result<(), Report> {
+    const FILLED: usize = 100_000;
+    let (_, used) = painted::run(stack, || black_box([1_u8; FILLED])[FILLED / 2] as u64);
+    match used {
+        FILLED..=110_000 => Ok(()),
+        _ => Err(format!("where {FILLED} bytes are filled, {used} are counted")),
+    }
+}
+
+/// The operations that walk no path.
+fn without_a_walk(ticket: &Ticket, stack: usize) -> Result<(), Report> {
+    let text = reference::print(ticket);
+    let rules: usize = ticket.clauses.iter().map(|clause| clause.conditions.len() + 1).sum();
+    let mut host = Host { answer: vec![0; reference::ANSWER], ..Host::new() };
+    let reading = used("reading", packed(0, 0), stack, MOST, || host.read(&text))?;
+    let writing = used("writing", packed(0, text.len() as u32), stack, MOST, || host.write())?;
+    let rewriting = used("rewriting", packed(0, rules as u32), stack, MOST, || host.rewrite())?;
+    let judging = used("judging", violated(0, [0; 4]), stack, MOST, || host.judge())?;
+    println!("stack: reading uses {reading} bytes, writing {writing}, rewriting {rewriting}, judging {judging}");
+    Ok(())
 }
 
 /// A ticket whose entries make one path of this length, by each engine.
@@ -31,41 +68,24 @@ fn walked(ticket: &Ticket, path: u32, stack: usize) -> Result<(), Report> {
     let mut longest = 0;
     let outcome = walk(&Relevancy::new(ticket), u32::from_be_bytes(ticket.limit), &mut |entered, _| longest = longest.max(entered.len()));
     same("entries and longest path", (path, path as usize), (outcome.count, longest))?;
-    let expected = library::fit(outcome.verdict as u8, outcome.count);
-    let engines: [(&str, fn(&mut Call) -> u64); 2] = [("relevancy", Call::by_relevancy), ("magic", Call::by_magic)];
-    for (name, engine) in engines {
-        let used = used(ticket, engine, expected, stack).map_err(|report| format!("by {name}, {report}"))?;
+    let expected = fit(outcome.verdict as u8, outcome.count);
+    let mut host = Host { table: reference::encode(ticket), ..Host::new() };
+    for (name, engine) in ENGINES {
+        let mut again = host.clone();
+        let thread = std::thread::Builder::new().stack_size(stack).spawn(move || engine(&mut again)).expect("a thread");
+        same_answer(expected, thread.join().expect("the thread ends"), || format!("by {name} in a thread of {stack} bytes"))?;
+        let used = used(name, expected, stack, MOST_TO_WALK, || engine(&mut host))?;
         println!("stack: a path of {path} entries is walked by {name} in a thread of {stack} bytes, and uses {used} of them");
     }
     Ok(())
 }
 
-/// The bytes that an engine's call needs, whose answer must be this one.
-fn used(ticket: &Ticket, engine: fn(&mut Call) -> u64, expected: u64, stack: usize) -> Result<usize, Report> {
-    let mut call = Call { table: reference::encode(ticket), rules: vec![0; RULES], answer: vec![0; ANSWER], work: vec![0; WORK] };
-    let mut again = call.clone();
-    let thread = std::thread::Builder::new().stack_size(stack).spawn(move || engine(&mut again)).expect("a thread");
-    same_answer(expected, thread.join().expect("the thread ends"), || format!("in a thread of {stack} bytes"))?;
-    let (answer, used) = painted::run(stack, || engine(&mut call));
-    same_answer(expected, answer, || format!("on a painted stack of {stack} bytes"))?;
+/// The bytes that a call uses, whose answer must be this one.
+fn used(name: &str, expected: u64, stack: usize, most: usize, call: impl FnMut() -> u64) -> Result<usize, Report> {
+    let (answer, used) = painted::run(stack, call);
+    same_answer(expected, answer, || format!("by {name} on a painted stack of {stack} bytes"))?;
+    if used > most {
+        return Err(format!("{name} uses {used} bytes of stack, more than {most}"));
+    }
     Ok(used)
-}
-
-/// What an engine is lent, so that a call needs nothing but stack.
-#[derive(Clone)]
-struct Call {
-    table: Vec<u8>,
-    rules: Vec<u8>,
-    answer: Vec<u8>,
-    work: Vec<u8>,
-}
-
-impl Call {
-    fn by_relevancy(&mut self) -> u64 {
-        library::fit_relevancy(&self.table, &mut self.answer, &mut self.work)
-    }
-
-    fn by_magic(&mut self) -> u64 {
-        library::fit_magic(&self.table, &mut self.rules, &mut self.answer, &mut self.work)
-    }
 }

@@ -1,0 +1,109 @@
+//! Arbitrary contents of a host's buffers: what a ticket gives, that with something changed, and any bytes at all.
+#![allow(dead_code)] // each program uses its own part
+
+use crate::mangle::mangle;
+use crate::random::Random;
+use crate::reference::{self, Ticket, ANSWER, TABLE};
+use crate::tickets;
+use crate::walk::{walk, Relevancy, Verdict};
+
+/// Longer than any text that is accepted.
+const LONGEST_TEXT: usize = 6000;
+
+/// A ticket of any size, most of them small, mostly with a limit that is soon reached.
+pub fn ticket(random: &mut Random) -> Ticket {
+    let ticket = match random.below(64) {
+        0..=1 => tickets::ticket(random),
+        2 => tickets::full(random),
+        3..=7 => tickets::crowded(random),
+        _ => tickets::to_walk(random),
+    };
+    let limit: u32 = random.pick(&[0, 1, 2, 3, 5, 8, u32::MAX, u32::MAX]);
+    Ticket { limit: limit.to_be_bytes(), ..ticket }
+}
+
+/// The ticket's limit; where its walk is longer than this many entries, or than fewer where the ticket is large, one that cuts it.
+pub fn quick_limit(ticket: &Ticket, most: u64) -> u32 {
+    let limit = u32::from_be_bytes(ticket.limit);
+    let marks: u64 = ticket.clauses.iter().map(|clause| ticket.marks(clause)).sum();
+    let cut = (1 + 200 * most / (1 + marks)).min(most) as u32;
+    if limit > cut && walk(&Relevancy::new(ticket), cut, &mut |_, _| {}).verdict == Verdict::Spent { cut } else { limit }
+}
+
+/// A ticket's text, whole or changed, also of a ticket near a limit; or any bytes.
+pub fn text(random: &mut Random) -> Vec<u8> {
+    let mut ticket = ticket(random);
+    match random.below(16) {
+        0..=6 => reference::print(&ticket),
+        7..=9 => mangled(random, reference::print(&ticket)),
+        10..=11 => {
+            tickets::spoil(random, &mut ticket);
+            reference::print(&ticket)
+        }
+        12 => reference::print(&near_a_limit(random)),
+        13 => joined(random, &reference::print(&ticket)),
+        14 => (0..random.below(LONGEST_TEXT)).map(|_| random.pick(b"0000123FF8\n")).collect(),
+        _ => {
+            let len = random.below(LONGEST_TEXT);
+            bytes(random, len)
+        }
+    }
+}
+
+fn near_a_limit(random: &mut Random) -> Ticket {
+    if random.once_in(2) { tickets::atoms_near_limit(random) } else { tickets::marks_near_limit(random) }
+}
+
+pub fn mangled(random: &mut Random, mut text: Vec<u8>) -> Vec<u8> {
+    for _ in 0..random.pick(&[1, 1, 1, 2, 3, 8]) {
+        mangle(random, &mut text);
+    }
+    text
+}
+
+/// The beginning of a text, and the end of another ticket's.
+fn joined(random: &mut Random, text: &[u8]) -> Vec<u8> {
+    let other = reference::print(&ticket(random));
+    [&text[..random.below(text.len())], &other[random.below(other.len())..]].concat()
+}
+
+/// A table like this one but for something changed, that of another ticket, perhaps of one that no text gives; or any bytes.
+pub fn table(random: &mut Random, table: &[u8]) -> Vec<u8> {
+    let mut other = ticket(random);
+    match random.below(16) {
+        0..=6 => tickets::damaged(random, table),
+        7..=9 => reference::encode(&other),
+        10..=11 => {
+            tickets::spoil(random, &mut other);
+            reference::encode(&other)
+        }
+        12..=13 => {
+            let at = random.below(TABLE);
+            [&table[..at], &reference::encode(&other)[at..]].concat()
+        }
+        _ => bytes(random, TABLE),
+    }
+}
+
+/// An answer like this one but for a byte, a set of atoms; or any bytes.
+pub fn answer(random: &mut Random, answer: &[u8]) -> Vec<u8> {
+    let mut answer = answer.to_vec();
+    let below = random.pick(&[24, ANSWER]);
+    let at = random.below(below);
+    match random.below(8) {
+        0..=2 => answer[at] ^= 1,
+        3 => answer[at] = random.byte(),
+        4..=6 => answer.fill_with(|| random.below(2) as u8),
+        _ => random.fill(&mut answer),
+    }
+    answer
+}
+
+/// All the same, or all at random.
+pub fn bytes(random: &mut Random, len: usize) -> Vec<u8> {
+    let mut bytes = vec![random.pick(&[0x00, 0x01, 0x0A, 0xFF]); len];
+    if random.below(4) > 0 {
+        random.fill(&mut bytes);
+    }
+    bytes
+}

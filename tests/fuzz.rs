@@ -1,0 +1,243 @@
+//! Bad days of a host. On each, calls of every operation go over the same buffers, with arbitrary bytes in them and with lengths at and
+//! around the required ones: the answer and every byte, in the buffers and on either side of them, must be as the implementation that is
+//! written from document 01 has it. Usage: fuzz [SECONDS [SEED]]. A day is drawn by its seed, the next day by the next one; where no seed
+//! is given, the clock gives the first. A failure names its day's seed, with which `fuzz 5 SEED` begins.
+mod arbitrary;
+mod library;
+mod logic;
+mod magic;
+mod mangle;
+mod memory;
+mod operations;
+mod oracle;
+mod random;
+mod reference;
+mod report;
+#[allow(dead_code)] // rules are compared by their bytes, and not read back
+mod rules;
+mod tickets;
+mod walk;
+
+use memory::Memory;
+use operations::Buffer::{self, *};
+use operations::Operation::{self, *};
+use operations::{Lent, BUFFERS, OPERATIONS};
+use random::Random;
+use report::Report;
+use std::collections::BTreeMap;
+use std::time::{Duration, Instant, SystemTime, UNIX_EPOCH};
+
+const SECONDS: u64 = 20;
+const THREADS: u64 = 2;
+const CALLS_A_DAY: usize = 24;
+
+/// Walks are cut after this many entries.
+const LONG: u64 = 20;
+
+/// How many bytes more than required a buffer can have.
+const MORE: usize = 57;
+
+fn main() {
+    let mut arguments = std::env::args().skip(1).map(|word| word.parse().expect("the arguments are numbers"));
+    let seconds = arguments.next().unwrap_or(SECONDS);
+    let seed = arguments.next().unwrap_or_else(by_clock);
+    println!("fuzz: {seconds} s, from seed {seed} on");
+    let end = Instant::now() + Duration::from_secs(seconds);
+    let threads: Vec<_> = (0..THREADS).map(|number| std::thread::spawn(move || days(seed + number, end))).collect();
+    let mut met = Met::default();
+    for thread in threads {
+        match thread.join().expect("a thread panicked") {
+            Ok(other) => met.add(other),
+            Err(report) => fail(&report),
+        }
+    }
+    met.print();
+    if !met.missing().is_empty() {
+        fail(&format!("never met: {}", met.missing().join(", ")));
+    }
+    println!("fuzz: {} calls on {} days, all agree", met.answers.values().sum::<u64>(), met.days);
+}
+
+fn fail(report: &str) -> ! {
+    println!("{report}\nfuzz: FAILED");
+    std::process::exit(1);
+}
+
+/// A seed of nine digits at most.
+fn by_clock() -> u64 {
+    SystemTime::now().duration_since(UNIX_EPOCH).expect("the time").as_micros() as u64 % 1_000_000_000
+}
+
+/// A thread's days, one after the other until the time is over.
+fn days(first: u64, end: Instant) -> Result<Met, Report> {
+    let mut met = Met::default();
+    for seed in (first..).step_by(THREADS as usize) {
+        Day::new(seed).spend(&mut met).map_err(|report| format!("{report}the day's seed: {seed}"))?;
+        met.days += 1;
+        if Instant::now() >= end {
+            break;
+        }
+    }
+    Ok(met)
+}
+
+/// What a host's buffers hold, from call to call: each as much as is required, the text as much as it has, and MORE bytes.
+struct Day {
+    random: Random,
+    held: [Vec<u8>; 6],
+}
+
+impl Day {
+    fn new(seed: u64) -> Day {
+        let mut random = Random::new(seed);
+        let held = BUFFERS.map(|buffer| arbitrary::bytes(&mut random, buffer.required() + MORE));
+        Day { random, held }
+    }
+
+    /// Each call goes by what the calls before have left, but a reading by another text, and now and then something else is in a buffer.
+    fn spend(&mut self, met: &mut Met) -> Result<(), Report> {
+        for i in 0..CALLS_A_DAY {
+            let operation = if i == 0 { Read } else { self.random.pick(&OPERATIONS) };
+            if operation == Read {
+                self.put(Text);
+            } else if self.random.once_in(3) {
+                let buffer = self.random.pick(operation.buffers());
+                self.put(buffer);
+            }
+            self.call(operation, met)?;
+        }
+        Ok(())
+    }
+
+    fn put(&mut self, buffer: Buffer) {
+        let (random, held) = (&mut self.random, &mut self.held[buffer as usize]);
+        held.truncate(held.len() - MORE);
+        *held = match buffer {
+            Text if random.once_in(4) => arbitrary::mangled(random, held.clone()),
+            Text => arbitrary::text(random),
+            Table => arbitrary::table(random, held),
+            Answer => arbitrary::answer(random, held),
+            _ => arbitrary::bytes(random, held.len()),
+        };
+        held.extend(arbitrary::bytes(random, MORE));
+    }
+
+    /// One call by the library, and what it must answer and leave.
+    fn call(&mut self, operation: Operation, met: &mut Met) -> Result<(), Report> {
+        if matches!(operation, FitRelevancy | FitMagic) {
+            self.cut_long_walk();
+        }
+        let lent = self.lend(operation, met);
+        let (answer, left) = oracle::expected(operation, &lent);
+        lent.agrees(operation, answer, &left)?;
+        for buffer in operation.buffers() {
+            let left = left[*buffer].lent();
+            self.held[*buffer as usize][..left.len()].copy_from_slice(left);
+        }
+        met.answer(operation, answer);
+        Ok(())
+    }
+
+    /// Gives the ticket in the table, if there is one, a limit that stops a long walk.
+    fn cut_long_walk(&mut self) {
+        let table = &mut self.held[Table as usize];
+        if let Some(ticket) = reference::ticket_in(&table[..Table.required()]) {
+            table[4..8].copy_from_slice(&arbitrary::quick_limit(&ticket, LONG).to_be_bytes());
+        }
+    }
+
+    /// The operation's buffers; mostly they are long enough, and the text is whole.
+    fn lend(&mut self, operation: Operation, met: &mut Met) -> Lent {
+        let any_length = self.random.once_in(3);
+        Lent(BUFFERS.map(|buffer| {
+            if !operation.buffers().contains(&buffer) {
+                return Memory::random(&mut self.random, 0);
+            }
+            let which = match buffer {
+                _ if any_length => self.random.below(LENGTHS.len()),
+                Text => AS_REQUIRED,
+                _ => self.random.pick(&[AS_REQUIRED, AS_REQUIRED, AS_REQUIRED + 1, AS_REQUIRED + 2]),
+            };
+            met.length(operation, buffer, which);
+            let held = &self.held[buffer as usize];
+            let len = length(held.len() - MORE, which);
+            match buffer {
+                Text => Memory::holding(&mut self.random, &held[..len]),
+                _ => Memory::random(&mut self.random, len).beginning_with(&held[..len]),
+            }
+        }))
+    }
+}
+
+/// The lengths of a buffer.
+const LENGTHS: [&str; 6] = ["no byte", "one byte", "one byte less", "as required", "one byte more", "more"];
+const AS_REQUIRED: usize = 3;
+
+fn length(required: usize, which: usize) -> usize {
+    [0, 1, required.saturating_sub(1), required, required + 1, required + MORE][which]
+}
+
+/// What a run has met: how often each operation gave which answer, and was lent a buffer of which length.
+#[derive(Default)]
+struct Met {
+    days: u64,
+    answers: BTreeMap<(Operation, String), u64>,
+    lengths: BTreeMap<(Operation, Buffer, usize), u64>,
+}
+
+impl Met {
+    fn answer(&mut self, operation: Operation, answer: u64) {
+        let (refusal, said) = (answer & 0xFF, answer >> 8 & 0xFF);
+        let name = if refusal == 0 { said_by(operation)[said as usize].to_string() } else { refusal.to_string() };
+        *self.answers.entry((operation, name)).or_default() += 1;
+    }
+
+    fn length(&mut self, operation: Operation, buffer: Buffer, which: usize) {
+        *self.lengths.entry((operation, buffer, which)).or_default() += 1;
+    }
+
+    fn add(&mut self, other: Met) {
+        self.days += other.days;
+        other.answers.into_iter().for_each(|(key, times)| *self.answers.entry(key).or_default() += times);
+        other.lengths.into_iter().for_each(|(key, times)| *self.lengths.entry(key).or_default() += times);
+    }
+
+    fn print(&self) {
+        for operation in OPERATIONS {
+            let of = self.answers.iter().filter(|((by, _), _)| *by == operation);
+            println!("{:13}{}", format!("{operation:?}"), of.map(|((_, name), times)| format!(" {name}: {times}")).collect::<Vec<_>>().join(","));
+        }
+    }
+
+    fn missing(&self) -> Vec<String> {
+        let mut missing = Vec::new();
+        for operation in OPERATIONS {
+            let names = said_by(operation).iter().filter(|name| !name.is_empty()).map(|name| name.to_string());
+            let answers = names.chain(refusals_of(operation).iter().map(u8::to_string));
+            let never = answers.filter(|name| !self.answers.contains_key(&(operation, name.clone())));
+            missing.extend(never.map(|name| format!("{operation:?}: {name}")));
+            for buffer in operation.buffers() {
+                let never = (0..LENGTHS.len()).filter(|which| !self.lengths.contains_key(&(operation, *buffer, *which)));
+                missing.extend(never.map(|which| format!("{operation:?} with {buffer:?}: {}", LENGTHS[which])));
+            }
+        }
+        missing
+    }
+}
+
+/// The answers that are no refusals, by their bits 8 to 15.
+fn said_by(operation: Operation) -> &'static [&'static str] {
+    match operation {
+        FitRelevancy | FitMagic => &["none", "fits", "spent"],
+        Judge => &["", "fitting", "violated"],
+        _ => &["done"],
+    }
+}
+
+fn refusals_of(operation: Operation) -> &'static [u8] {
+    match operation {
+        Read => &[1, 2, 3, 4, 5, 6, 7, 8, 9, 10, 11],
+        Judge => &[11, 31, 32],
+        _ => &[11, 31],
+    }
+}

@@ -1,0 +1,48 @@
+//! A host's buffers, each as large as is required and no larger, lent to one operation after another.
+#![allow(dead_code)] // each program uses its own part
+
+use crate::library;
+use crate::reference::{ANSWER, RULES, TABLE, TEXT_OUT, WORK};
+
+#[derive(Clone)]
+pub struct Host {
+    pub table: Vec<u8>,
+    pub out: Vec<u8>,
+    pub rules: Vec<u8>,
+    pub answer: Vec<u8>,
+    pub work: Vec<u8>,
+}
+
+/// The engines by name.
+pub const ENGINES: [(&str, fn(&mut Host) -> u64); 2] = [("relevancy", Host::fit_relevancy), ("magic", Host::fit_magic)];
+
+impl Host {
+    pub fn new() -> Host {
+        let buffer = |len: usize| vec![0xEE; len];
+        Host { table: buffer(TABLE), out: buffer(TEXT_OUT), rules: buffer(RULES), answer: buffer(ANSWER), work: buffer(WORK) }
+    }
+
+    pub fn read(&mut self, text: &[u8]) -> u64 {
+        library::read(text, &mut self.table)
+    }
+
+    pub fn write(&mut self) -> u64 {
+        library::write(&self.table, &mut self.out)
+    }
+
+    pub fn rewrite(&mut self) -> u64 {
+        library::rewrite(&self.table, &mut self.rules)
+    }
+
+    pub fn fit_relevancy(&mut self) -> u64 {
+        library::fit_relevancy(&self.table, &mut self.answer, &mut self.work)
+    }
+
+    pub fn fit_magic(&mut self) -> u64 {
+        library::fit_magic(&self.table, &mut self.rules, &mut self.answer, &mut self.work)
+    }
+
+    pub fn judge(&mut self) -> u64 {
+        library::judge(&self.table, &self.answer)
+    }
+}

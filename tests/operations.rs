@@ -1,0 +1,107 @@
+//! The library's six operations: which buffers each is lent, and a call of which every lent byte is compared.
+
+use crate::library;
+use crate::memory::{same_bytes, Memory};
+use crate::reference::{ANSWER, RULES, TABLE, TEXT_OUT, WORK};
+use crate::report::{dump, same_answer, Report};
+use std::ops::{Index, IndexMut};
+use Buffer::*;
+
+#[derive(Clone, Copy, Debug, PartialEq, Eq, PartialOrd, Ord)]
+pub enum Operation {
+    Read,
+    Write,
+    Rewrite,
+    FitRelevancy,
+    FitMagic,
+    Judge,
+}
+
+pub const OPERATIONS: [Operation; 6] =
+    [Operation::Read, Operation::Write, Operation::Rewrite, Operation::FitRelevancy, Operation::FitMagic, Operation::Judge];
+
+#[derive(Clone, Copy, Debug, PartialEq, Eq, PartialOrd, Ord)]
+pub enum Buffer {
+    Text,
+    Table,
+    TextOut,
+    Rules,
+    Answer,
+    Work,
+}
+
+pub const BUFFERS: [Buffer; 6] = [Text, Table, TextOut, Rules, Answer, Work];
+
+impl Buffer {
+    /// The bytes that it must have at least. A text may have any length.
+    pub fn required(self) -> usize {
+        [0, TABLE, TEXT_OUT, RULES, ANSWER, WORK][self as usize]
+    }
+}
+
+impl Operation {
+    pub fn buffers(self) -> &'static [Buffer] {
+        match self {
+            Operation::Read => &[Text, Table],
+            Operation::Write => &[Table, TextOut],
+            Operation::Rewrite => &[Table, Rules],
+            Operation::FitRelevancy => &[Table, Answer, Work],
+            Operation::FitMagic => &[Table, Rules, Answer, Work],
+            Operation::Judge => &[Table, Answer],
+        }
+    }
+}
+
+/// What a call is lent. The buffers that its operation is not lent do not matter.
+#[derive(Clone)]
+pub struct Lent(pub [Memory; 6]);
+
+impl Index<Buffer> for Lent {
+    type Output = Memory;
+
+    fn index(&self, buffer: Buffer) -> &Memory {
+        &self.0[buffer as usize]
+    }
+}
+
+impl IndexMut<Buffer> for Lent {
+    fn index_mut(&mut self, buffer: Buffer) -> &mut Memory {
+        &mut self.0[buffer as usize]
+    }
+}
+
+impl Lent {
+    pub fn is_too_short(&self, operation: Operation) -> bool {
+        operation.buffers().iter().any(|buffer| self[*buffer].lent().len() < buffer.required())
+    }
+
+    /// The library's answer, and what it leaves in the buffers.
+    fn call(&mut self, operation: Operation) -> u64 {
+        let [text, table, out, rules, answer, work] = &mut self.0;
+        match operation {
+            Operation::Read => library::read(text.lent(), table.lent_mut()),
+            Operation::Write => library::write(table.lent(), out.lent_mut()),
+            Operation::Rewrite => library::rewrite(table.lent(), rules.lent_mut()),
+            Operation::FitRelevancy => library::fit_relevancy(table.lent(), answer.lent_mut(), work.lent_mut()),
+            Operation::FitMagic => library::fit_magic(table.lent(), rules.lent_mut(), answer.lent_mut(), work.lent_mut()),
+            Operation::Judge => library::judge(table.lent(), answer.lent()),
+        }
+    }
+
+    /// A call by the library, which must give this answer and leave these bytes, in the buffers and around them.
+    pub fn agrees(&self, operation: Operation, answer: u64, left: &Lent) -> Result<(), Report> {
+        let mut lent = self.clone();
+        let about = || self.about(operation);
+        same_answer(answer, lent.call(operation), about)?;
+        for buffer in operation.buffers() {
+            same_bytes(&format!("{buffer:?}"), &left[*buffer], &lent[*buffer], about)?;
+        }
+        Ok(())
+    }
+
+    fn about(&self, operation: Operation) -> String {
+        let lens: Vec<String> = operation.buffers().iter().map(|buffer| format!("{buffer:?} of {}", self[*buffer].lent().len())).collect();
+        let text = self[Text].lent().escape_ascii();
+        format!("{operation:?} with {}\ntext \"{text}\", table\n{}", lens.join(", "), dump(self[Table].lent()))
+    }
+}

@@ -1,0 +1,80 @@
+//! What each operation must answer and leave in every lent byte, by the implementation that is written from document 01.
+
+use crate::library::{fit, packed, violated, FITTING};
+use crate::logic::{self, Judging};
+use crate::magic::{rewritten, Magic};
+use crate::operations::{Buffer, Lent, Operation};
+use crate::reference::{self, Ticket, NO_TABLE, SHORT_BUFFER, TABLE, WORK};
+use crate::rules;
+use crate::walk::{walk, Engine, Relevancy};
+
+/// The answer, and what is left in the buffers.
+pub fn expected(operation: Operation, lent: &Lent) -> (u64, Lent) {
+    let mut left = lent.clone();
+    if lent.is_too_short(operation) {
+        return (packed(SHORT_BUFFER, 0), left);
+    }
+    if operation == Operation::Read {
+        return (read(&mut left), left);
+    }
+    let answer = match reference::ticket_in(&lent[Buffer::Table].lent()[..TABLE]) {
+        Some(ticket) => of_ticket(operation, &ticket, &mut left),
+        None => packed(NO_TABLE, 0),
+    };
+    (answer, left)
+}
+
+fn read(lent: &mut Lent) -> u64 {
+    match reference::read(lent[Buffer::Text].lent()) {
+        Ok(ticket) => {
+            begin(lent, Buffer::Table, &reference::encode(&ticket));
+            packed(0, 0)
+        }
+        Err(refusal) => packed(refusal.number, refusal.line),
+    }
+}
+
+/// Of an operation on the table of this ticket.
+fn of_ticket(operation: Operation, ticket: &Ticket, lent: &mut Lent) -> u64 {
+    match operation {
+        Operation::Write => {
+            let text = reference::print(ticket);
+            begin(lent, Buffer::TextOut, &text);
+            packed(0, text.len() as u32)
+        }
+        Operation::Rewrite => packed(0, rewrite(ticket, lent)),
+        Operation::FitMagic => {
+            rewrite(ticket, lent);
+            fit_by(&Magic::new(&rewritten(ticket), ticket), ticket, lent)
+        }
+        Operation::FitRelevancy => fit_by(&Relevancy::new(ticket), ticket, lent),
+        _ => judge(ticket, lent),
+    }
+}
+
+/// Leaves the ticket's rules: how many there are.
+fn rewrite(ticket: &Ticket, lent: &mut Lent) -> u32 {
+    let rules = rewritten(ticket);
+    begin(lent, Buffer::Rules, &rules::laid_out(ticket, &rules));
+    rules::count(&rules) as u32
+}
+
+fn fit_by(engine: &dyn Engine, ticket: &Ticket, lent: &mut Lent) -> u64 {
+    let outcome = walk(engine, u32::from_be_bytes(ticket.limit), &mut |_, _| {});
+    let marks: Vec<u8> = outcome.fitting.iter().flatten().map(|is_in| *is_in as u8).collect();
+    begin(lent, Buffer::Answer, &marks);
+    begin(lent, Buffer::Work, &[0; WORK]);
+    fit(outcome.verdict as u8, outcome.count)
+}
+
+fn judge(ticket: &Ticket, lent: &Lent) -> u64 {
+    match logic::judge(TABLE, Some(&logic::ground(ticket)), lent[Buffer::Answer].lent()) {
+        Judging::Refused(number) => packed(number, 0),
+        Judging::Fitting => FITTING,
+        Judging::Violated(clause, values) => violated(clause, values),
+    }
+}
+
+fn begin(lent: &mut Lent, buffer: Buffer, bytes: &[u8]) {
+    lent[buffer].lent_mut()[..bytes.len()].copy_from_slice(bytes);
+}

@@ -1,0 +1,345 @@
+/* The library as a C host meets it on bad days, compiled with the address and undefined behaviour sanitizers: buffers of exact sizes, at
+ * and around the required ones, with arbitrary bytes, through every operation. Usage: sanitized [SECONDS [SEED]]. For Linux.
+ *
+ * What this sees. The sanitizers watch this file and the functions of the header, and not the library, which is compiled without them. Of
+ * the library they see its calls of memcpy and memset, and it calls nothing else. What it loads and stores by itself they do not see, so
+ * each buffer is put, by turns, into a heap block amid margins that are poisoned for the sanitizer, at the end of pages behind which
+ * nobody may load or store, or at the start of pages before which nobody may. Pages of a buffer that is const can only be read. All bytes
+ * of the block or the pages that are not the buffer's must be as before.
+ *
+ * What this does not see: a load by the library itself outside of a buffer but inside its block or pages, a store there of the very byte
+ * that stands there, and a wrong answer that agrees with the other operations. tests/fuzz.rs holds answers against another program. */
+#define _DEFAULT_SOURCE
+#include "lutsamik.h"
+#include "tickets.h"
+
+#include <sanitizer/asan_interface.h>
+#include <stdbool.h>
+#include <stdio.h>
+#include <stdlib.h>
+#include <string.h>
+#include <sys/mman.h>
+#include <time.h>
+#include <unistd.h>
+
+enum { DEFAULT_SECONDS = 5, CALLS_A_DAY = 24, MARGIN = 64, MORE = 57 };
+
+/* Each day is drawn by its seed, and the next one by the next. */
+static uint64_t seed;
+
+/* ---- Failing ---- */
+
+static void tell_seed(void) {
+    printf("sanitized: FAILED on the day of seed %llu\n", (unsigned long long)seed);
+    fflush(stdout);
+}
+
+static void require(bool holds, const char *what) {
+    if (holds)
+        return;
+    printf("sanitized: not so: %s\n", what);
+    tell_seed();
+    exit(1);
+}
+
+/* ---- Buffers ---- */
+
+enum buffer { TEXT, TABLE, OUT, RULES, ANSWER, WORK, BUFFERS };
+
+static const size_t required[BUFFERS] = {
+    [TABLE] = LUTSAMIK_TABLE_BYTES,   [OUT] = LUTSAMIK_TEXT_BYTES,   [RULES] = LUTSAMIK_RULES_BYTES,
+    [ANSWER] = LUTSAMIK_ANSWER_BYTES, [WORK] = LUTSAMIK_WORK_BYTES,
+};
+
+/* What the host puts into a buffer, and goes on with after a call: a text, a table, an answer. */
+static struct {
+    uint8_t bytes[LONGEST_TEXT];
+    size_t len;
+} held[BUFFERS];
+
+/* Pages between two that nobody may touch. */
+static struct {
+    uint8_t *first;
+    size_t size;
+} pages[BUFFERS];
+
+/* A buffer, the block or the pages that it is in, and a copy of these as they were lent. */
+static struct {
+    uint8_t *bytes, *memory, *copy;
+    size_t len, size;
+    bool in_pages;
+} lent[BUFFERS];
+
+static uint8_t *allocate(size_t size) {
+    uint8_t *block = malloc(size);
+    require(block != NULL, "there is memory");
+    return block;
+}
+
+static void protect(enum buffer which, int protection) {
+    require(mprotect(pages[which].first, pages[which].size, protection) == 0, "pages are protected");
+}
+
+static void map_pages(enum buffer which) {
+    size_t page = (size_t)sysconf(_SC_PAGESIZE);
+    size_t most = (which == TEXT ? LONGEST_TEXT : required[which]) + MORE;
+    pages[which].size = (most + page - 1) / page * page;
+    uint8_t *all = mmap(NULL, page + pages[which].size + page, PROT_NONE, MAP_PRIVATE | MAP_ANONYMOUS, -1, 0);
+    require(all != MAP_FAILED, "there are pages");
+    pages[which].first = all + page;
+    protect(which, PROT_READ | PROT_WRITE);
+}
+
+/* Decides where a buffer of this length is. */
+static void place(enum buffer which, size_t len) {
+    size_t where = below(3);
+    lent[which].len = len;
+    lent[which].in_pages = where > 0;
+    lent[which].size = where > 0 ? pages[which].size : MARGIN + len + MARGIN;
+    lent[which].memory = where > 0 ? pages[which].first : allocate(lent[which].size);
+    size_t before = where == 0 ? MARGIN : where == 1 ? 0 : lent[which].size - len;
+    lent[which].bytes = lent[which].memory + before;
+}
+
+/* Lends a buffer that begins with what is held for it, and goes on with any bytes. */
+static void lend(enum buffer which, size_t len, bool is_const) {
+    place(which, len);
+    any_bytes(lent[which].memory, lent[which].size);
+    memcpy(lent[which].bytes, held[which].bytes, held[which].len < len ? held[which].len : len);
+    lent[which].copy = allocate(lent[which].size);
+    memcpy(lent[which].copy, lent[which].memory, lent[which].size);
+    if (!lent[which].in_pages) {
+        ASAN_POISON_MEMORY_REGION(lent[which].memory, MARGIN);
+        ASAN_POISON_MEMORY_REGION(lent[which].bytes + len, MARGIN);
+    } else if (is_const) {
+        protect(which, PROT_READ);
+    }
+}
+
+/* After the call the host may look at all bytes again. */
+static void take_back(enum buffer which) {
+    if (lent[which].in_pages)
+        protect(which, PROT_READ | PROT_WRITE);
+    else
+        ASAN_UNPOISON_MEMORY_REGION(lent[which].memory, lent[which].size);
+}
+
+static void release(enum buffer which) {
+    free(lent[which].copy);
+    if (!lent[which].in_pages)
+        free(lent[which].memory);
+}
+
+/* Whether all is as it was lent, but for the first bytes of the buffer. */
+static bool untouched_past(enum buffer which, size_t first) {
+    size_t from = (size_t)(lent[which].bytes - lent[which].memory), to = from + first;
+    return memcmp(lent[which].memory, lent[which].copy, from) == 0 &&
+           memcmp(lent[which].memory + to, lent[which].copy + to, lent[which].size - to) == 0;
+}
+
+/* None, one byte, one less than required, as many, one more, or more; mostly enough. The text's own length counts as required. */
+static size_t any_length(enum buffer which, bool near) {
+    size_t enough = which == TEXT ? held[TEXT].len : required[which];
+    size_t lengths[] = {0, 1, enough == 0 ? 0 : enough - 1, enough, enough + 1, enough + MORE};
+    if (near)
+        return lengths[below(6)];
+    return lengths[which == TEXT ? 3 : 3 + below(3)];
+}
+
+static void keep(enum buffer which) { memcpy(held[which].bytes, lent[which].bytes, held[which].len = required[which]); }
+
+/* ---- Operations ---- */
+
+enum operation { READ, WRITE, REWRITE, FIT_RELEVANCY, FIT_MAGIC, JUDGE, OPERATIONS };
+
+static const char *const names[OPERATIONS] = {"read", "write", "rewrite", "fit_relevancy", "fit_magic", "judge"};
+
+/* Which buffers each is lent: to be read, or to be written to. */
+enum use { NOT_LENT, CONST, WRITTEN };
+static const enum use uses[OPERATIONS][BUFFERS] = {
+    [READ] = {[TEXT] = CONST, [TABLE] = WRITTEN},
+    [WRITE] = {[TABLE] = CONST, [OUT] = WRITTEN},
+    [REWRITE] = {[TABLE] = CONST, [RULES] = WRITTEN},
+    [FIT_RELEVANCY] = {[TABLE] = CONST, [ANSWER] = WRITTEN, [WORK] = WRITTEN},
+    [FIT_MAGIC] = {[TABLE] = CONST, [RULES] = WRITTEN, [ANSWER] = WRITTEN, [WORK] = WRITTEN},
+    [JUDGE] = {[TABLE] = CONST, [ANSWER] = CONST},
+};
+
+/* How often each gave which refusal, or none; and an engine which verdict. */
+static unsigned long met[OPERATIONS][LUTSAMIK_BAD_ANSWER + 1], verdicts[LUTSAMIK_SPENT + 1];
+
+/* What an engine has answered for the table that is held, or none has yet. */
+static uint64_t fitted;
+static bool is_fitted;
+
+#define LENT(which) lent[which].bytes, lent[which].len
+
+static uint64_t invoke(enum operation operation) {
+    switch (operation) {
+    case READ:
+        return lutsamik_read(LENT(TEXT), LENT(TABLE));
+    case WRITE:
+        return lutsamik_write(LENT(TABLE), LENT(OUT));
+    case REWRITE:
+        return lutsamik_rewrite(LENT(TABLE), LENT(RULES));
+    case FIT_RELEVANCY:
+        return lutsamik_fit_relevancy(LENT(TABLE), LENT(ANSWER), LENT(WORK));
+    case FIT_MAGIC:
+        return lutsamik_fit_magic(LENT(TABLE), LENT(RULES), LENT(ANSWER), LENT(WORK));
+    default:
+        return lutsamik_judge(LENT(TABLE), LENT(ANSWER));
+    }
+}
+
+static void has_read(void) {
+    keep(TABLE);
+    is_fitted = false;
+}
+
+/* What was written reads to the very table. */
+static void has_written(uint64_t answer) {
+    uint8_t table[LUTSAMIK_TABLE_BYTES];
+    size_t len = lutsamik_written(answer);
+    require(len <= LUTSAMIK_TEXT_BYTES && untouched_past(OUT, len), "writing leaves what follows the text");
+    require(lutsamik_read(lent[OUT].bytes, len, table, sizeof table) == LUTSAMIK_OK, "what was written is read");
+    require(memcmp(table, lent[TABLE].bytes, sizeof table) == 0, "what was written reads to the table");
+}
+
+/* Both engines answer alike, and fits comes with a fitting. */
+static void has_fitted(uint64_t answer) {
+    require(!is_fitted || answer == fitted, "both engines answer alike");
+    require(lutsamik_verdict(answer) <= LUTSAMIK_SPENT, "there is such a verdict");
+    verdicts[lutsamik_verdict(answer)]++;
+    fitted = answer;
+    is_fitted = true;
+    for (size_t i = 0; i < LUTSAMIK_WORK_BYTES; i++)
+        require(lent[WORK].bytes[i] == 0, "work is zero");
+    if (lutsamik_verdict(answer) != LUTSAMIK_FITS) {
+        require(untouched_past(ANSWER, 0), "without fits the answer is untouched");
+        return;
+    }
+    require(lutsamik_judged(lutsamik_judge(LENT(TABLE), LENT(ANSWER))) == LUTSAMIK_FITTING, "fits comes with a fitting");
+    keep(ANSWER);
+}
+
+static void has_judged(uint64_t answer) {
+    unsigned judged = lutsamik_judged(answer);
+    require(judged == LUTSAMIK_FITTING || judged == LUTSAMIK_VIOLATED, "judging says fitting or violated");
+    require(lutsamik_clause(answer) < 64, "there is such a clause");
+    for (unsigned variable = 0; variable < 4; variable++)
+        require(lutsamik_value(answer, variable) < 32, "there is such a constant");
+}
+
+static void has_done(enum operation operation, uint64_t answer) {
+    if (operation == READ)
+        has_read();
+    else if (operation == WRITE)
+        has_written(answer);
+    else if (operation == REWRITE)
+        require(lutsamik_rules(answer) <= 320, "there are no more rules than 320");
+    else if (operation == JUDGE)
+        has_judged(answer);
+    else
+        has_fitted(answer);
+}
+
+/* 11 exactly where a buffer is too short, and nothing is touched but what may be written; nothing after a refusal. */
+static void check(enum operation operation, uint64_t answer) {
+    unsigned refusal = lutsamik_refusal(answer);
+    bool is_short = false;
+    for (enum buffer which = 0; which < BUFFERS; which++) {
+        if (uses[operation][which] == NOT_LENT)
+            continue;
+        is_short |= lent[which].len < required[which];
+        bool is_written = refusal == LUTSAMIK_OK && uses[operation][which] == WRITTEN;
+        require(untouched_past(which, is_written ? required[which] : 0), "no byte is touched that may not be");
+    }
+    require((refusal == LUTSAMIK_SHORT_BUFFER) == is_short, "a short buffer is refused by 11, and nothing else is");
+    require(refusal <= LUTSAMIK_BAD_ANSWER, "there is such a refusal");
+    require((lutsamik_line(answer) > 0 && operation == READ) || refusal == LUTSAMIK_OK || refusal > 10, "a fault has a line");
+    met[operation][refusal]++;
+    if (refusal == LUTSAMIK_OK)
+        has_done(operation, answer);
+}
+
+static void call(enum operation operation) {
+    bool near = once_in(3);
+    for (enum buffer which = 0; which < BUFFERS; which++)
+        if (uses[operation][which] != NOT_LENT)
+            lend(which, any_length(which, near), uses[operation][which] == CONST);
+    uint64_t answer = invoke(operation);
+    for (enum buffer which = 0; which < BUFFERS; which++)
+        if (uses[operation][which] != NOT_LENT)
+            take_back(which);
+    check(operation, answer);
+    for (enum buffer which = 0; which < BUFFERS; which++)
+        if (uses[operation][which] != NOT_LENT)
+            release(which);
+}
+
+/* ---- Days ---- */
+
+/* A few bytes changed, but for the high bytes of the limit, which is at bytes 4 to 7: walks stay short. */
+static void damage_table(void) {
+    uint8_t *table = held[TABLE].bytes;
+    size_t used = once_in(4) ? LUTSAMIK_TABLE_BYTES : 16;
+    for (size_t times = 1 + below(3); times > 0; times--)
+        table[below(used)] = (uint8_t)below(once_in(2) ? 256 : 34);
+    memset(table + 4, 0, 3);
+    is_fitted = false;
+}
+
+static void begin_day(void) {
+    begin_random(seed);
+    any_bytes(held[TABLE].bytes, held[TABLE].len = LUTSAMIK_TABLE_BYTES);
+    for (size_t i = 0; i < LUTSAMIK_ANSWER_BYTES; i++)
+        held[ANSWER].bytes[i] = (uint8_t)below(2);
+    held[ANSWER].len = LUTSAMIK_ANSWER_BYTES;
+    is_fitted = false;
+}
+
+/* A text is read, then any operation is called, and so on, with changes in between. */
+static void day(void) {
+    begin_day();
+    for (int i = 0; i < CALLS_A_DAY; i++) {
+        enum operation operation = i % 6 == 0 ? READ : (enum operation)below(OPERATIONS);
+        if (operation == READ)
+            held[TEXT].len = any_text(held[TEXT].bytes);
+        else if (once_in(12))
+            damage_table();
+        if (once_in(6))
+            held[ANSWER].bytes[below(24)] = (uint8_t)below(3);
+        call(operation);
+    }
+}
+
+/* How often each refusal came, or none; and that each operation was done, and met its refusals. */
+static void print_met(void) {
+    for (enum operation operation = 0; operation < OPERATIONS; operation++) {
+        printf("%-14s", names[operation]);
+        for (unsigned refusal = 0; refusal <= LUTSAMIK_BAD_ANSWER; refusal++)
+            if (met[operation][refusal] > 0)
+                printf(" %u: %lu", refusal, met[operation][refusal]);
+        printf("\n");
+        require(met[operation][LUTSAMIK_OK] > 0 && met[operation][LUTSAMIK_SHORT_BUFFER] > 0, "each operation is done, and refused by 11");
+        require(met[operation][operation == READ ? LUTSAMIK_BAD_LINE : LUTSAMIK_NO_TABLE] > 0, "each operation refuses what it is lent");
+    }
+    printf("%-14s none: %lu, fits: %lu, spent: %lu\n", "verdicts", verdicts[LUTSAMIK_NONE], verdicts[LUTSAMIK_FITS], verdicts[LUTSAMIK_SPENT]);
+    require(verdicts[LUTSAMIK_NONE] > 0 && verdicts[LUTSAMIK_FITS] > 0 && verdicts[LUTSAMIK_SPENT] > 0, "each verdict comes");
+    require(met[JUDGE][LUTSAMIK_BAD_ANSWER] > 0, "judging refuses an answer");
+}
+
+int main(int many, char **arguments) {
+    time_t seconds = many > 1 ? (time_t)strtoul(arguments[1], NULL, 10) : DEFAULT_SECONDS;
+    time_t end = time(NULL) + seconds;
+    uint64_t days = 0;
+    seed = many > 2 ? strtoull(arguments[2], NULL, 10) : (uint64_t)time(NULL);
+    __asan_set_death_callback(tell_seed);
+    for (enum buffer which = 0; which < BUFFERS; which++)
+        map_pages(which);
+    for (; days == 0 || time(NULL) < end; days++, seed++)
+        day();
+    print_met();
+    printf("sanitized: %llu days, nothing is touched that may not be\n", (unsigned long long)days);
+    return 0;
+}

@@ -1,0 +1,130 @@
+//! Ten thousand tickets, and texts that are refused between them, through one process: each goes through every operation, over buffers that
+//! are lent again and again. The answers must be those of the implementation that is written from document 01, and after the first tenth
+//! the process must not grow by one page. Usage: soak [NUMBER OF TICKETS [SEED]]. The same tickets in every run with the same seed.
+mod arbitrary;
+mod host;
+mod library;
+mod logic;
+mod magic;
+mod mangle;
+mod random;
+mod reference;
+mod report;
+mod resident;
+mod tickets;
+mod walk;
+
+use host::{Host, ENGINES};
+use library::{fit, packed, FITTING};
+use random::Random;
+use reference::Ticket;
+use report::{same, same_answer, Report};
+use walk::{walk, Relevancy, Verdict};
+
+const TICKETS: u64 = 10_000;
+const SEED: u64 = 601;
+
+/// Walks are cut after this many entries.
+const LONG: u64 = 300;
+
+fn main() {
+    let mut arguments = std::env::args().skip(1).map(|word| word.parse().expect("the arguments are numbers"));
+    let tickets = arguments.next().unwrap_or(TICKETS);
+    let random = &mut Random::new(arguments.next().unwrap_or(SEED));
+    if let Err(report) = soak(&jobs(random, tickets)) {
+        println!("{report}\nsoak: FAILED");
+        std::process::exit(1);
+    }
+}
+
+/// Serves all, which takes no memory itself.
+fn soak(jobs: &[Job]) -> Result<(), Report> {
+    let mut soak = Soak { host: Host::new(), calls: 0, refused: 0, verdicts: [0; 3] };
+    let (first, rest) = jobs.split_at(jobs.len() / 10);
+    resident::settle();
+    let start = resident::kilobytes();
+    first.iter().try_for_each(|job| soak.serve(job))?;
+    let before = resident::kilobytes();
+    rest.iter().try_for_each(|job| soak.serve(job))?;
+    let after = resident::kilobytes();
+    let [none, fits, spent] = soak.verdicts;
+    println!("soak: {} tickets (none {none}, fits {fits}, spent {spent}) and {} texts refused, {} calls", none + fits + spent, soak.refused, soak.calls);
+    println!("soak: the process has {start} kB before the first call, {before} kB after a tenth of them, {after} kB after the last");
+    same("tickets of each verdict, and growth", (true, 0), (!soak.verdicts.contains(&0), after.saturating_sub(before)))
+}
+
+/// A text, what reading it answers, and if it is accepted, what the other operations do.
+struct Job {
+    text: Vec<u8>,
+    read: u64,
+    accepted: Option<Answers>,
+}
+
+struct Answers {
+    rewrite: u64,
+    fit: u64,
+    verdict: Verdict,
+}
+
+/// The first has the longest path there is, and so needs the most stack.
+fn jobs(random: &mut Random, tickets: u64) -> Vec<Job> {
+    let mut jobs = vec![Job::of_ticket(&tickets::deep(32, 1, 1024))];
+    let mut accepted = 1;
+    while accepted < tickets {
+        let job = Job::of_text(arbitrary::text(random));
+        accepted += job.accepted.is_some() as u64;
+        jobs.push(job);
+    }
+    jobs
+}
+
+impl Job {
+    fn of_text(text: Vec<u8>) -> Job {
+        match reference::read(&text) {
+            Ok(ticket) => Job::of_ticket(&Ticket { limit: arbitrary::quick_limit(&ticket, LONG).to_be_bytes(), ..ticket }),
+            Err(refusal) => Job { text, read: packed(refusal.number, refusal.line), accepted: None },
+        }
+    }
+
+    fn of_ticket(ticket: &Ticket) -> Job {
+        let outcome = walk(&Relevancy::new(ticket), u32::from_be_bytes(ticket.limit), &mut |_, _| {});
+        let rules: usize = magic::rewritten(ticket).iter().map(Vec::len).sum();
+        let answers = Answers { rewrite: packed(0, rules as u32), fit: fit(outcome.verdict as u8, outcome.count), verdict: outcome.verdict };
+        Job { text: reference::print(ticket), read: packed(0, 0), accepted: Some(answers) }
+    }
+}
+
+/// A host, and what it has met.
+struct Soak {
+    host: Host,
+    calls: u64,
+    refused: u64,
+    verdicts: [u64; 3],
+}
+
+impl Soak {
+    fn serve(&mut self, job: &Job) -> Result<(), Report> {
+        self.call(job, job.read, |host| host.read(&job.text))?;
+        let Some(answers) = &job.accepted else {
+            self.refused += 1;
+            return Ok(());
+        };
+        self.verdicts[answers.verdict as usize] += 1;
+        self.call(job, packed(0, job.text.len() as u32), Host::write)?;
+        same("the text written", &job.text[..], &self.host.out[..job.text.len()])?;
+        self.call(job, answers.rewrite, Host::rewrite)?;
+        for (_, engine) in ENGINES {
+            self.host.answer.fill(0xEE);
+            self.call(job, answers.fit, engine)?;
+            if answers.verdict == Verdict::Fits {
+                self.call(job, FITTING, Host::judge)?;
+            }
+        }
+        Ok(())
+    }
+
+    fn call(&mut self, job: &Job, expected: u64, operation: impl Fn(&mut Host) -> u64) -> Result<(), Report> {
+        self.calls += 1;
+        same_answer(expected, operation(&mut self.host), || job.text.escape_ascii().to_string())
+    }
+}
