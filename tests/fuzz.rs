@@ -52,8 +52,9 @@ fn main() {
         }
     }
     met.print();
-    if !met.missing().is_empty() {
-        fail(&format!("never met: {}", met.missing().join(", ")));
+    let missing = met.missing();
+    if !missing.is_empty() {
+        fail(&format!("never met: {}", missing.join(", ")));
     }
     println!("fuzz: {} calls on {} days, all agree", met.answers.values().sum::<u64>(), met.days);
 }
@@ -109,6 +110,7 @@ impl Day {
         Ok(())
     }
 
+    /// Something else in a buffer, and any bytes past what is required, or past the text.
     fn put(&mut self, buffer: Buffer) {
         let (random, held) = (&mut self.random, &mut self.held[buffer as usize]);
         held.truncate(held.len() - MORE);
@@ -148,19 +150,15 @@ impl Day {
 
     /// The operation's buffers; mostly they are long enough, and the text is whole.
     fn lend(&mut self, operation: Operation, met: &mut Met) -> Lent {
-        let any_length = self.random.once_in(3);
+        let near = self.random.once_in(3);
         Lent(BUFFERS.map(|buffer| {
-            if !operation.buffers().contains(&buffer) {
-                return Memory::random(&mut self.random, 0);
-            }
-            let which = match buffer {
-                _ if any_length => self.random.below(LENGTHS.len()),
-                Text => AS_REQUIRED,
-                _ => self.random.pick(&[AS_REQUIRED, AS_REQUIRED, AS_REQUIRED + 1, AS_REQUIRED + 2]),
-            };
-            met.length(operation, buffer, which);
             let held = &self.held[buffer as usize];
-            let len = length(held.len() - MORE, which);
+            let mut len = 0;
+            if operation.buffers().contains(&buffer) {
+                let which = any_length(&mut self.random, buffer, near);
+                len = length(held.len() - MORE, which);
+                met.length(operation, buffer, which);
+            }
             match buffer {
                 Text => Memory::holding(&mut self.random, &held[..len]),
                 _ => Memory::random(&mut self.random, len).beginning_with(&held[..len]),
@@ -169,12 +167,21 @@ impl Day {
     }
 }
 
-/// The lengths of a buffer.
+/// The lengths near a required one.
 const LENGTHS: [&str; 6] = ["no byte", "one byte", "one byte less", "as required", "one byte more", "more"];
 const AS_REQUIRED: usize = 3;
 
 fn length(required: usize, which: usize) -> usize {
     [0, 1, required.saturating_sub(1), required, required + 1, required + MORE][which]
+}
+
+/// Which of them: any, or one that is enough.
+fn any_length(random: &mut Random, buffer: Buffer, near: bool) -> usize {
+    match buffer {
+        _ if near => random.below(LENGTHS.len()),
+        Text => AS_REQUIRED,
+        _ => random.within(AS_REQUIRED, LENGTHS.len() - 1),
+    }
 }
 
 /// What a run has met: how often each operation gave which answer, and was lent a buffer of which length.
@@ -187,8 +194,8 @@ struct Met {
 
 impl Met {
     fn answer(&mut self, operation: Operation, answer: u64) {
-        let (refusal, said) = (answer & 0xFF, answer >> 8 & 0xFF);
-        let name = if refusal == 0 { said_by(operation)[said as usize].to_string() } else { refusal.to_string() };
+        let (refusal, said) = (answer as u8, (answer >> 8) as u8);
+        let name = if refusal == 0 { said_by(operation)[said as usize].to_string() } else { named(refusal) };
         *self.answers.entry((operation, name)).or_default() += 1;
     }
 
@@ -204,8 +211,9 @@ impl Met {
 
     fn print(&self) {
         for operation in OPERATIONS {
-            let of = self.answers.iter().filter(|((by, _), _)| *by == operation);
-            println!("{:13}{}", format!("{operation:?}"), of.map(|((_, name), times)| format!(" {name}: {times}")).collect::<Vec<_>>().join(","));
+            let answers = self.answers.iter().filter(|((by, _), _)| *by == operation);
+            let told: Vec<String> = answers.map(|((_, name), times)| format!(" {name}: {times}")).collect();
+            println!("{:13}{}", format!("{operation:?}"), told.join(","));
         }
     }
 
@@ -213,7 +221,7 @@ impl Met {
         let mut missing = Vec::new();
         for operation in OPERATIONS {
             let names = said_by(operation).iter().filter(|name| !name.is_empty()).map(|name| name.to_string());
-            let answers = names.chain(refusals_of(operation).iter().map(u8::to_string));
+            let answers = names.chain(refusals_of(operation).iter().map(|refusal| named(*refusal)));
             let never = answers.filter(|name| !self.answers.contains_key(&(operation, name.clone())));
             missing.extend(never.map(|name| format!("{operation:?}: {name}")));
             for buffer in operation.buffers() {
@@ -232,6 +240,11 @@ fn said_by(operation: Operation) -> &'static [&'static str] {
         Judge => &["", "fitting", "violated"],
         _ => &["done"],
     }
+}
+
+/// So that names are in the order of numbers.
+fn named(refusal: u8) -> String {
+    format!("{refusal:2}")
 }
 
 fn refusals_of(operation: Operation) -> &'static [u8] {

@@ -101,7 +101,10 @@ impl Lent {
 
     fn about(&self, operation: Operation) -> String {
         let lens: Vec<String> = operation.buffers().iter().map(|buffer| format!("{buffer:?} of {}", self[*buffer].lent().len())).collect();
-        let text = self[Text].lent().escape_ascii();
-        format!("{operation:?} with {}\ntext \"{text}\", table\n{}", lens.join(", "), dump(self[Table].lent()))
+        let source = match operation {
+            Operation::Read => format!("{}\n", self[Text].lent().escape_ascii()),
+            _ => dump(self[Table].lent()),
+        };
+        format!("{operation:?} with {} bytes\n{source}", lens.join(", "))
     }
 }

@@ -31,7 +31,6 @@ static uint64_t seed;
 
 static void tell_seed(void) {
     printf("sanitized: FAILED on the day of seed %llu\n", (unsigned long long)seed);
-    fflush(stdout);
 }
 
 static void require(bool holds, const char *what) {
@@ -330,16 +329,18 @@ static void print_met(void) {
 }
 
 int main(int many, char **arguments) {
-    time_t seconds = many > 1 ? (time_t)strtoul(arguments[1], NULL, 10) : DEFAULT_SECONDS;
-    time_t end = time(NULL) + seconds;
-    uint64_t days = 0;
+    unsigned long seconds = many > 1 ? strtoul(arguments[1], NULL, 10) : DEFAULT_SECONDS;
+    time_t end = time(NULL) + (time_t)seconds;
+    unsigned long days = 0;
     seed = many > 2 ? strtoull(arguments[2], NULL, 10) : (uint64_t)time(NULL);
+    setvbuf(stdout, NULL, _IOLBF, BUFSIZ);
+    printf("sanitized: %lu s, from seed %llu on\n", seconds, (unsigned long long)seed);
     __asan_set_death_callback(tell_seed);
     for (enum buffer which = 0; which < BUFFERS; which++)
         map_pages(which);
     for (; days == 0 || time(NULL) < end; days++, seed++)
         day();
     print_met();
-    printf("sanitized: %llu days, nothing is touched that may not be\n", (unsigned long long)days);
+    printf("sanitized: %lu calls on %lu days, and nothing is touched that may not be\n", days * CALLS_A_DAY, days);
     return 0;
 }

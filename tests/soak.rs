@@ -1,7 +1,8 @@
 //! Ten thousand tickets, and texts that are refused between them, through one process: each goes through every operation, over buffers that
 //! are lent again and again. The answers must be those of the implementation that is written from document 01, and after the first tenth
-//! the process must not grow by one page. Usage: soak [NUMBER OF TICKETS [SEED]]. The same tickets in every run with the same seed.
+//! the process must not grow, by no page and by no byte of heap. Usage: soak [NUMBER OF TICKETS [SEED]]. The same tickets in every run with the same seed.
 mod arbitrary;
+mod footprint;
 mod host;
 mod library;
 mod logic;
@@ -10,10 +11,10 @@ mod mangle;
 mod random;
 mod reference;
 mod report;
-mod resident;
 mod tickets;
 mod walk;
 
+use footprint::Footprint;
 use host::{Host, ENGINES};
 use library::{fit, packed, FITTING};
 use random::Random;
@@ -41,16 +42,16 @@ fn main() {
 fn soak(jobs: &[Job]) -> Result<(), Report> {
     let mut soak = Soak { host: Host::new(), calls: 0, refused: 0, verdicts: [0; 3] };
     let (first, rest) = jobs.split_at(jobs.len() / 10);
-    resident::settle();
-    let start = resident::kilobytes();
+    footprint::settle();
     first.iter().try_for_each(|job| soak.serve(job))?;
-    let before = resident::kilobytes();
+    let before = Footprint::now();
     rest.iter().try_for_each(|job| soak.serve(job))?;
-    let after = resident::kilobytes();
+    let after = Footprint::now();
     let [none, fits, spent] = soak.verdicts;
-    println!("soak: {} tickets (none {none}, fits {fits}, spent {spent}) and {} texts refused, {} calls", none + fits + spent, soak.refused, soak.calls);
-    println!("soak: the process has {start} kB before the first call, {before} kB after a tenth of them, {after} kB after the last");
-    same("tickets of each verdict, and growth", (true, 0), (!soak.verdicts.contains(&0), after.saturating_sub(before)))
+    println!("soak: none {none}, fits {fits}, spent {spent}, and {} texts refused: {} calls", soak.refused, soak.calls);
+    println!("soak: the process has {before} after a tenth of them, and {after} after the last");
+    same("whether a verdict never came", false, soak.verdicts.contains(&0))?;
+    same("whether the process has grown", false, after.is_larger_than(&before))
 }
 
 /// A text, what reading it answers, and if it is accepted, what the other operations do.
