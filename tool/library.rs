@@ -1,0 +1,150 @@
+//! The proved operations, with their answers taken apart. What the tool says of a ticket comes from here.
+#[path = "../tests/library.rs"]
+mod calls;
+
+use crate::ending::Failure;
+use crate::spell::hex;
+
+// What the buffers must hold, as include/lutsamik.h has it.
+const TABLE: usize = 4096;
+const RULES: usize = 16384;
+const ANSWER: usize = 1024;
+const WORK: usize = 65536;
+const TEXT_OUT: usize = 7168;
+
+const BAD_ANSWER: u8 = 32;
+
+/// A ticket that the library accepted, as it keeps it.
+pub struct Table(Vec<u8>);
+
+/// A reading refused by 1 to 10, at a line that counts from 1.
+#[derive(Clone, Copy, Debug, PartialEq, Eq)]
+pub struct Refusal {
+    pub number: u8,
+    pub line: usize,
+}
+
+#[derive(Clone, Copy, Debug, PartialEq, Eq)]
+pub enum Engine {
+    Relevancy,
+    Magic,
+}
+
+/// By the number that document 01 has for it.
+#[derive(Clone, Copy, Debug, PartialEq, Eq)]
+pub enum Verdict {
+    None = 0,
+    Fits = 1,
+    Spent = 2,
+}
+
+/// What an engine answers. With fits the answer has a byte for each atom, 1 for one in the fitting.
+#[derive(Clone, Debug, PartialEq, Eq)]
+pub struct Fit {
+    pub verdict: Verdict,
+    pub count: u32,
+    pub answer: Vec<u8>,
+}
+
+#[derive(Clone, Copy, Debug, PartialEq, Eq)]
+pub enum Judged {
+    Fitting,
+    /// by clause and the values of 80, 81, 82, 83
+    Violated(usize, [u8; 4]),
+    /// a byte of the answer is neither 0 nor 1
+    BadAnswer,
+}
+
+impl Engine {
+    pub fn name(self) -> &'static str {
+        match self {
+            Engine::Relevancy => "relevancy",
+            Engine::Magic => "magic",
+        }
+    }
+}
+
+impl Verdict {
+    pub fn name(self) -> &'static str {
+        match self {
+            Verdict::None => "none",
+            Verdict::Fits => "fits",
+            Verdict::Spent => "spent",
+        }
+    }
+}
+
+impl Fit {
+    /// The answer in few words, for a message.
+    pub fn told(&self) -> String {
+        let fitting = if self.verdict == Verdict::Fits { format!(" with {}", hex(&self.answer)) } else { String::new() };
+        format!("{} after {} entries{fitting}", self.verdict.name(), self.count)
+    }
+}
+
+pub fn read(text: &[u8]) -> Result<Table, Refusal> {
+    let mut table = vec![0; TABLE];
+    let answer = calls::read(text, &mut table);
+    match refusal(answer) {
+        0 => Ok(Table(table)),
+        number => Err(Refusal { number, line: high(answer) as usize }),
+    }
+}
+
+pub fn write(table: &Table) -> Result<Vec<u8>, Failure> {
+    let mut out = vec![0; TEXT_OUT];
+    let answer = accepted("lutsamik_write", calls::write(&table.0, &mut out))?;
+    out.truncate(high(answer) as usize);
+    Ok(out)
+}
+
+/// The number of magic rules.
+pub fn rewrite(table: &Table) -> Result<u32, Failure> {
+    accepted("lutsamik_rewrite", calls::rewrite(&table.0, &mut vec![0; RULES])).map(high)
+}
+
+/// Judges an answer of a byte for each atom.
+pub fn judge(table: &Table, answer: &[u8]) -> Result<Judged, Failure> {
+    let mut lent = answer.to_vec();
+    lent.resize(ANSWER, 0);
+    let judged = calls::judge(&table.0, &lent);
+    if refusal(judged) == BAD_ANSWER {
+        return Ok(Judged::BadAnswer);
+    }
+    let [_, word, _, clause, values @ ..] = accepted("lutsamik_judge", judged)?.to_le_bytes();
+    match word {
+        1 => Ok(Judged::Fitting),
+        2 => Ok(Judged::Violated(clause as usize, values)),
+        _ => Err(Failure::disagreement(format!("lutsamik_judge answers {judged:016X}, which means nothing"))),
+    }
+}
+
+/// Fits a ticket with this number of atoms.
+pub fn fit(engine: Engine, table: &Table, atoms: usize) -> Result<Fit, Failure> {
+    let (mut answer, mut work) = (vec![0; ANSWER], vec![0; WORK]);
+    let (name, given) = match engine {
+        Engine::Relevancy => ("lutsamik_fit_relevancy", calls::fit_relevancy(&table.0, &mut answer, &mut work)),
+        Engine::Magic => ("lutsamik_fit_magic", calls::fit_magic(&table.0, &mut vec![0; RULES], &mut answer, &mut work)),
+    };
+    let number = accepted(name, given)?.to_le_bytes()[1];
+    let verdict = [Verdict::None, Verdict::Fits, Verdict::Spent].into_iter().find(|verdict| *verdict as u8 == number);
+    let senseless = || Failure::disagreement(format!("{name} answers {given:016X}, which means nothing"));
+    answer.truncate(atoms);
+    Ok(Fit { verdict: verdict.ok_or_else(senseless)?, count: high(given), answer })
+}
+
+/// The answer of an operation that refuses no table that was read.
+fn accepted(operation: &str, answer: u64) -> Result<u64, Failure> {
+    match refusal(answer) {
+        0 => Ok(answer),
+        number => Err(Failure::disagreement(format!("{operation} refuses a table that was just read, with {number}"))),
+    }
+}
+
+fn refusal(answer: u64) -> u8 {
+    answer.to_le_bytes()[0]
+}
+
+fn high(answer: u64) -> u32 {
+    (answer >> 32) as u32
+}

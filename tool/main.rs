@@ -1,0 +1,68 @@
+//! Lutsamik at a terminal: commands over the proved library.
+mod answer;
+mod arguments;
+mod check;
+mod clause;
+mod compile;
+mod ending;
+mod engines;
+mod fit;
+mod frame;
+mod help;
+mod judge;
+mod language;
+mod library;
+mod parse;
+mod progress;
+mod read;
+mod source;
+mod spell;
+mod svg;
+mod ticket;
+mod trail;
+mod tree;
+mod truth;
+mod wanted;
+mod words;
+
+use arguments::Command;
+use ending::{Ending, Failure};
+use std::env;
+use std::ffi::OsString;
+use std::io::{self, ErrorKind, Write};
+use std::process::ExitCode;
+
+const COMMANDS: [Command; 6] = [fit::COMMAND, read::COMMAND, judge::COMMAND, trail::COMMAND, compile::COMPILE, compile::SHOW];
+
+fn main() -> ExitCode {
+    let words: Vec<OsString> = env::args_os().skip(1).collect();
+    let status = match run(&words).and_then(put) {
+        Ok(status) => status,
+        Err(Failure { status, message }) => {
+            eprintln!("lutsamik: {message}");
+            status as u8
+        }
+    };
+    ExitCode::from(status)
+}
+
+fn run(words: &[OsString]) -> Result<Ending, Failure> {
+    let Some((name, rest)) = words.split_first() else {
+        return Err(Failure::usage("no command; './lutsamik --help' lists them"));
+    };
+    let name = name.to_string_lossy();
+    if let Some(asked) = help::asked(&name, rest) {
+        return help::help(&COMMANDS, &asked);
+    }
+    let command = help::command(&COMMANDS, &name)?;
+    (command.run)(&command.arguments(rest)?)
+}
+
+/// Writes what a command prints. A reader that wants no more of it, as `head` does, is no failure.
+fn put(ending: Ending) -> Result<u8, Failure> {
+    let mut out = io::stdout().lock();
+    match out.write_all(&ending.printed).and_then(|()| out.flush()) {
+        Err(error) if error.kind() != ErrorKind::BrokenPipe => Err(Failure::usage(format!("cannot write to standard output: {error}"))),
+        _ => Ok(ending.status as u8),
+    }
+}

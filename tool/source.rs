@@ -1,0 +1,110 @@
+//! The ticket that a command is given: in a file or on standard input, as a ticket's text or as a sheet of rules.
+
+use crate::ending::Failure;
+use crate::frame::Fault;
+use crate::language::{self, Names};
+use crate::library::{self, Refusal, Table};
+use crate::parse::parse;
+use crate::ticket::Ticket;
+use std::ffi::{OsStr, OsString};
+use std::fs;
+use std::io::{self, Read};
+use std::path::Path;
+
+/// What a file says, as a ticket's text, and the names of its atoms, where they are known.
+pub struct Source {
+    pub file: String,
+    pub text: Vec<u8>,
+    pub names: Option<Names>,
+}
+
+/// A ticket that the library accepted.
+pub struct Accepted {
+    pub table: Table,
+    pub ticket: Ticket,
+    pub names: Option<Names>,
+}
+
+/// The bytes of a file, or of standard input where it is called `-`.
+pub fn bytes(file: &OsStr) -> Result<Vec<u8>, Failure> {
+    let mut bytes = Vec::new();
+    let read = if file == "-" { io::stdin().lock().read_to_end(&mut bytes).map(|_| bytes) } else { fs::read(file) };
+    read.map_err(|error| Failure::usage(format!("cannot read {}: {error}", called(file))))
+}
+
+/// What a file is called in a message.
+pub fn called(file: &OsStr) -> String {
+    if file == "-" { "standard input".to_string() } else { file.to_string_lossy().into_owned() }
+}
+
+/// Writes a file that the command line names.
+pub fn put(file: &OsStr, bytes: &[u8]) -> Result<(), Failure> {
+    fs::write(file, bytes).map_err(|error| Failure::usage(format!("cannot write {}: {error}", called(file))))
+}
+
+/// The file of the names that belong to a ticket's file.
+pub fn names_file(file: &OsStr) -> OsString {
+    [file, OsStr::new(".names")].into_iter().collect()
+}
+
+/// Whether these bytes are meant as a ticket's text and not as a sheet: only digits and line ends, or a digit first, as no sheet has it.
+pub fn is_ticket(bytes: &[u8]) -> bool {
+    bytes.iter().all(|byte| matches!(byte, b'0'..=b'9' | b'A'..=b'F' | b'\n')) || bytes[0].is_ascii_digit()
+}
+
+impl Source {
+    pub fn open(file: &OsStr) -> Result<Source, Failure> {
+        let bytes = bytes(file)?;
+        if is_ticket(&bytes) {
+            return Ok(Source { file: called(file), names: names_beside(file, &bytes)?, text: bytes });
+        }
+        Source::compile(file, &bytes)
+    }
+
+    /// The ticket of a sheet of rules.
+    pub fn compile(file: &OsStr, sheet: &[u8]) -> Result<Source, Failure> {
+        let file = called(file);
+        let sheet = std::str::from_utf8(sheet).map_err(|_| Failure::refused(format!("{file} is neither a ticket's text nor a sheet in UTF-8")))?;
+        let misspelt = |error: language::Error| Failure::refused(format!("{file}:{}:{}: {}", error.line, error.column, error.message));
+        let compiled = language::compile(sheet).map_err(misspelt)?;
+        Ok(Source { file, text: compiled.text, names: Some(compiled.names) })
+    }
+
+    /// The ticket, or a failure that tells the refusal's number and line.
+    pub fn accepted(self) -> Result<Accepted, Failure> {
+        let refused = |Refusal { number, line }| {
+            Failure::refused(format!("{} is refused, by {number} at line {line}: './lutsamik read' says why", self.file))
+        };
+        let missed = |(line, fault): (usize, Fault)| {
+            Failure::disagreement(format!("the library accepts {}, where line {line} has fault {}: {}", self.file, fault.number, fault.words))
+        };
+        let table = library::read(&self.text).map_err(refused)?;
+        let ticket = parse(&self.text).map_err(missed)?;
+        Ok(Accepted { table, ticket, names: self.names })
+    }
+}
+
+impl Accepted {
+    /// The same ticket with another limit.
+    pub fn with_limit(&self, limit: u32) -> Result<Accepted, Failure> {
+        let ticket = self.ticket.with_limit(limit);
+        let refused = |_| Failure::disagreement("with another limit the ticket is refused");
+        Ok(Accepted { table: library::read(&ticket.text()).map_err(refused)?, ticket, names: self.names.clone() })
+    }
+}
+
+/// The names in the file beside a ticket's. It is a sheet of rules, which must be the same ticket, but for the limit.
+fn names_beside(file: &OsStr, text: &[u8]) -> Result<Option<Names>, Failure> {
+    let beside = names_file(file);
+    if file == "-" || !Path::new(&beside).exists() {
+        return Ok(None);
+    }
+    let sheet = Source::compile(&beside, &bytes(&beside)?)?;
+    let unlimited = |text: &[u8]| parse(text).map(|ticket| ticket.with_limit(0)).ok();
+    match (unlimited(text), unlimited(&sheet.text)) {
+        (Some(ticket), named) if named.as_ref() != Some(&ticket) => {
+            Err(Failure::usage(format!("{} has another ticket's names: remove it, or compile again", sheet.file)))
+        }
+        _ => Ok(sheet.names),
+    }
+}

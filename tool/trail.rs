@@ -1,0 +1,104 @@
+//! `trail`: the walk as a tree, in words and as a drawing.
+
+use crate::arguments::{Arguments, Command};
+use crate::ending::{Ending, Failure};
+use crate::engines;
+use crate::fit::{status, verdict_words};
+use crate::library::{Engine, Fit};
+use crate::source::{self, Accepted, Source};
+use crate::svg;
+use crate::tree::{trail, Place, Trail};
+use crate::wanted::Found;
+
+pub const COMMAND: Command = Command {
+    name: "trail",
+    usage: "trail [--entries N] [--svg OUT] FILE",
+    about: "the walk as a tree, in words or as a drawing",
+    help: "\
+Prints the walk as a tree: each entry, in the walk's order, with the atom entered
+and how the place is found: closed, open, or split by a clause with values.
+  --entries N  the first N entries at most (1000 where it is not given)
+  --svg OUT    also draws the tree, into the file OUT
+The library tells verdict, count and fitting, but not the path. So the tool makes
+the tree itself, and has the library confirm each place: what is true there by
+judging, what is wanted by fitting tickets derived from this one, and by both how
+the place is found. Such a ticket is refused where it has more clauses, conditions,
+predicates or atoms than a ticket can have; the place is then marked [unchecked].
+In any case the tree's verdict, count and fitting must be those of both engines.
+Example: ./lutsamik trail --svg /tmp/trail.svg crates/cases/data/example_1.text",
+    files: 1,
+    options: &["--entries", "--svg"],
+    flags: &[],
+    run,
+};
+
+const ENTRIES: u32 = 1000;
+
+fn run(arguments: &Arguments) -> Result<Ending, Failure> {
+    let entries = arguments.number("--entries")?.unwrap_or(ENTRIES);
+    let whole = Source::open(arguments.file(0))?.accepted()?;
+    let accepted = whole.with_limit(whole.ticket.limit.min(entries))?;
+    let trail = trail(&accepted)?;
+    let fit = engines::agreed(&[Engine::Relevancy, Engine::Magic], &accepted)?;
+    same(&trail, &fit)?;
+    if let Some(out) = arguments.option("--svg") {
+        source::put(out, svg::drawing(&accepted, &trail, &fit).as_bytes())?;
+    }
+    let stopper = if entries < whole.ticket.limit { "--entries" } else { "the limit" };
+    Ok(Ending::new(status(fit.verdict), words(&accepted, &trail, &verdict_words(&fit, accepted.ticket.limit, stopper))))
+}
+
+/// behind a place that the library does not confirm
+const MARK: &str = " [unchecked]";
+const LEGEND: &str = "\
+[unchecked]: what is true here, and so that the place is not closed, is the library's
+  word; what is wanted, and so the split, is the tool's: a ticket that would tell is refused
+";
+
+/// That the tree ends as the engines do.
+fn same(trail: &Trail, fit: &Fit) -> Result<(), Failure> {
+    let answer = match trail.places.last().map(|place| &place.found) {
+        Some(Found::Open(fitting)) => fitting.clone(),
+        _ => fit.answer.clone(),
+    };
+    let tree = Fit { verdict: trail.verdict, count: (trail.places.len() - 1) as u32, answer };
+    if tree == *fit {
+        return Ok(());
+    }
+    Err(Failure::disagreement(format!("the tree says {}, and the engines say {}", tree.told(), fit.told())))
+}
+
+fn words(accepted: &Accepted, trail: &Trail, verdict: &str) -> String {
+    let mut printed: String = trail.places.iter().enumerate().map(|(i, place)| line(accepted, i, place)).collect();
+    printed += verdict;
+    let confirmed = trail.places.iter().filter(|place| place.confirmed).count();
+    printed += &format!("checked: {confirmed} of {} places\n", trail.places.len());
+    if confirmed < trail.places.len() {
+        printed += LEGEND;
+    }
+    printed
+}
+
+fn line(accepted: &Accepted, number: usize, place: &Place) -> String {
+    let indent = "  ".repeat(place.depth);
+    format!("{indent}{}: {}{}\n", label(accepted, number, place), told(accepted, &place.found), if place.confirmed { "" } else { MARK })
+}
+
+/// What the place is called: its number among the entries and the atom entered.
+pub fn label(accepted: &Accepted, number: usize, place: &Place) -> String {
+    match &place.entry {
+        Some((_, atom)) => format!("{number}. {}", accepted.atom(atom)),
+        None => "root".to_string(),
+    }
+}
+
+/// How a place is found, in words.
+pub fn told(accepted: &Accepted, found: &Found) -> String {
+    match found {
+        Found::Closed => "closed".to_string(),
+        Found::Open(_) => "open".to_string(),
+        Found::Split(clause, values) => {
+            format!("split by {}: {}", accepted.instance_name(*clause, values), accepted.instance(*clause, values))
+        }
+    }
+}
