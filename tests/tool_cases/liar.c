@@ -1,0 +1,59 @@
+/* A library that lies, to see that the tool finds out. Each operation is the true one, called true_..., but for the lie that the
+ * environment's LIE names. */
+#include <stdint.h>
+#include <stdlib.h>
+#include <string.h>
+
+#include "lutsamik.h"
+
+#define TRUE(name) true_##name
+uint64_t TRUE(read)(const uint8_t *text, size_t text_len, uint8_t *table, size_t table_len);
+uint64_t TRUE(write)(const uint8_t *table, size_t table_len, uint8_t *out, size_t out_len);
+uint64_t TRUE(judge)(const uint8_t *table, size_t table_len, const uint8_t *answer, size_t answer_len);
+uint64_t TRUE(fit_relevancy)(const uint8_t *table, size_t table_len, uint8_t *answer, size_t answer_len, uint8_t *work, size_t work_len);
+uint64_t TRUE(fit_magic)(const uint8_t *table, size_t table_len, uint8_t *rules, size_t rules_len, uint8_t *answer, size_t answer_len,
+                         uint8_t *work, size_t work_len);
+
+static int lie(const char *name) {
+    const char *lie = getenv("LIE");
+    return lie && strcmp(lie, name) == 0;
+}
+
+static const uint64_t ONE_ENTRY = (uint64_t)1 << 32;
+static const uint64_t OTHER_VERDICT = 1 << 8;
+
+/* A refused ticket is accepted: its table stays as it was. */
+uint64_t lutsamik_read(const uint8_t *text, size_t text_len, uint8_t *table, size_t table_len) {
+    uint64_t answer = TRUE(read)(text, text_len, table, table_len);
+    return lie("read") ? LUTSAMIK_OK : answer;
+}
+
+/* Another first byte is written. */
+uint64_t lutsamik_write(const uint8_t *table, size_t table_len, uint8_t *out, size_t out_len) {
+    uint64_t answer = TRUE(write)(table, table_len, out, out_len);
+    if (lie("write")) out[0] = '1';
+    return answer;
+}
+
+/* No instance is violated, or another value of its first variable. */
+uint64_t lutsamik_judge(const uint8_t *table, size_t table_len, const uint8_t *answer, size_t answer_len) {
+    uint64_t judged = TRUE(judge)(table, table_len, answer, answer_len);
+    if (lie("judge")) return (uint64_t)LUTSAMIK_FITTING << 8;
+    return lie("instance") && lutsamik_judged(judged) == LUTSAMIK_VIOLATED ? judged ^ ONE_ENTRY : judged;
+}
+
+/* A count of both engines that is one too high, where there is one; another fitting at the root. */
+uint64_t lutsamik_fit_relevancy(const uint8_t *table, size_t table_len, uint8_t *answer, size_t answer_len, uint8_t *work, size_t work_len) {
+    uint64_t fit = TRUE(fit_relevancy)(table, table_len, answer, answer_len, work, work_len);
+    if (lie("wanted") && lutsamik_count(fit) == 0) answer[2] ^= 1;
+    return lie("count of both") && lutsamik_count(fit) > 0 ? fit + ONE_ENTRY : fit;
+}
+
+/* Another count, verdict or fitting than the relevancy engine's. */
+uint64_t lutsamik_fit_magic(const uint8_t *table, size_t table_len, uint8_t *rules, size_t rules_len, uint8_t *answer, size_t answer_len,
+                            uint8_t *work, size_t work_len) {
+    uint64_t fit = TRUE(fit_magic)(table, table_len, rules, rules_len, answer, answer_len, work, work_len);
+    if (lie("fitting")) answer[0] ^= 1;
+    if (lie("verdict")) return fit ^ OTHER_VERDICT;
+    return lie("count") || (lie("count of both") && lutsamik_count(fit) > 0) ? fit + ONE_ENTRY : fit;
+}
