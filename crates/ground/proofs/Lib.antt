@@ -3,6 +3,7 @@ pub mod AtomLaws
 pub mod Headings
 pub mod MatchLaws
 pub mod Boxes
+pub mod IndexLaws
 pub mod CheckLaws
 pub mod Sites
 pub mod Turns

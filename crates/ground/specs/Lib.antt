@@ -3,6 +3,7 @@ pub mod Names
 pub mod ModelCheck
 pub mod Heading
 pub mod Matching
+pub mod Index
 pub mod Report
 pub mod Walks
 pub mod Cases

@@ -22,7 +22,8 @@ use Rattle.ground.proofs.AtomLaws.{number-takes, value-fits}
 use Rattle.magic.specs.Rules.{RuleGives, onward, alternatives}
 use Rattle.magic.specs.RulesLayout.{givenAtoms}
 use Rattle.magic.specs.Facts.{Ruled, falseIn, magicIn, findIn, ruleAt, ruleCount, theRule}
-use Rattle.magic.specs.Node.{headsBy}
+use Rattle.magic.specs.Choosing.{headsBy}
+use Rattle.magic.specs.Applied.{siteWith, Applied}
 use Rattle.magic.specs.Place.{nodeAt, fourAt, splitRule, splitAt, siteAt, altsAt, pathIn, Parted}
 use Rattle.magic.proofs.RuledLaws.{givenAtom, RuleRead, rule-read}
 
@@ -52,6 +53,14 @@ module _ (bs : List ℕ) (h : Ruled bs) (work : List ℕ) (depth : ℕ) (node : 
 
   pub alts-read : RuleRead bs (splitRule work depth)
   alts-read = rule-read bs h rule rule-listed
+
+  -- the instance that it is split at, by the bytes of its values
+  pub split-applied : Applied bs (splitRule work depth) (fourAt work (nodeAt depth))
+  split-applied = record { known = rule-listed; four = refl; below = values-below }
+
+  pub split-with : siteWith bs (splitRule work depth) (fourAt work (nodeAt depth)) ≡ splitAt bs work depth
+  unfolding splitAt
+  split-with = refl
 
   many : T (disjunctive (altsAt bs work depth))
   unfolding findIn

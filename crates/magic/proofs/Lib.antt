@@ -3,6 +3,7 @@ pub mod LayoutLaws
 pub mod RegroupLaws
 pub mod FactLaws
 pub mod RuledLaws
+pub mod IndexLaws
 pub mod HeldLaws
 pub mod NodeLaws
 pub mod Cases
@@ -13,5 +14,10 @@ pub mod WalkLaws
 pub mod EngineLaws
 pub mod Theorems
 pub mod AskLaws
+pub mod NextLaws
+pub mod WatchLaws
 pub mod ChooseLaws
+pub mod FiredLaws
+pub mod GiveLaws
 pub mod CloseLaws
+pub mod LookLaws

@@ -24,7 +24,7 @@ use Rattle.magic.specs.declared.choose.Choice.the-variants.{At}
 use Rattle.magic.specs.Rules.{rewritingOf, groundRules}
 use Rattle.magic.specs.Claims.{ReadBack}
 use Rattle.magic.specs.Facts.{Ruled, falseIn, magicIn, findIn, theRule}
-use Rattle.magic.specs.Node.{Site, choiceOf, Listed}
+use Rattle.magic.specs.Choosing.{Site, choiceOf, Listed}
 use Rattle.magic.specs.Place.{nodeAt, splitAt, nextAt, branchOf, pathIn, factsIn, PathKept, Noted}
 use Rattle.magic.proofs.LayoutLaws.{rules-back}
 use Rattle.magic.proofs.RegroupLaws.{regrouped}

@@ -1,25 +1,27 @@
 -- Making a place: the next alternative of a split node entered, and the node found.
 use Prim.Native.Nat.{ℕ, suc, _+_, _-_, _≤_, _<_}
+use mathlib.Core.Bool.{false}
 use mathlib.Core.List.{List, [], _∷_, _++_}
 use mathlib.Core.Option.{some}
-use mathlib.Core.Path.{_≡_, refl, sym, ap, subst, _∙_}
+use mathlib.Core.Path.{_≡_, refl, sym, ap, ap₂, subst, _∙_}
 use native.Mathlib.Omega.{arith}
 use denote.Enum.Declared.{tagOf}
 use lib.ListN.{length, take, drop, getD, set, length-set, replicate, length-replicate, getD-replicate}
 use lib.Seq.{getD-set-same, getD-set-other, split-at, drop-cons}
 use Rattle.lists.specs.Key.{natKey}
-use Rattle.lists.specs.Member.{All, In}
-use Rattle.lists.proofs.Member.{all-map, has-here}
+use Rattle.lists.specs.Member.{All, has, In}
+use Rattle.lists.proofs.Member.{all-map, all-append, all-in, has-all, has-here}
 use Rattle.search.specs.Ground.{Found, opened, split}
 use Rattle.search.specs.Relevancy.{modelBits}
 use Rattle.search.specs.Machine.{Branch, entered, enter, back, place, placed, Genuine}
 use Rattle.store.specs.Store.{Store, Added, logged, isSet}
-use Rattle.store.specs.Worked.{Worked}
 use Rattle.store.proofs.Laws.{added-in}
-use Rattle.store.proofs.Lent.{zeros-store, added-carries, added-each, added-worked}
+use Rattle.store.proofs.Lent.{zeros-store, added-carries, added-each}
 use Rattle.ground.specs.Instance.{Instance}
-use Rattle.magic.specs.Facts.{Ruled, falseIn, findIn, theRule, relevantFact, numberedRules}
-use Rattle.magic.specs.Node.{Opening, Started, Seeded, Site, Listed, ClosedNode, OpenNode, SplitNode, Settled}
+use Rattle.magic.specs.Facts.{Ruled, falseIn, findIn, theRule, relevantFact}
+use Rattle.magic.specs.Choosing.{Site, Listed}
+use Rattle.magic.specs.Watch.{placeOf, askedAt, goalsAt, Met, WorkedOff, Rested, continuationsIn}
+use Rattle.magic.specs.Node.{Opening, Started, Seeded, ClosedNode, OpenNode, SplitNode, Settled}
 use Rattle.magic.specs.Place.{nodeAt, splitAt, instanceOf, altsOf, siteAt, nextAt, markAt, altsAt, entryAt, branchOf, pathIn, factsIn, PathKept, Fresh, Parted, Noted, Entered, foundIn, placeIn, nextIn, Finding, Making, Beginning, Blank}
 use Rattle.magic.specs.declared.node.Node.{Node}
 use Rattle.magic.specs.declared.node.Node.the-variants.{Closed as ClosedAt, Open as OpenAt, Split as SplitAt}
@@ -27,7 +29,8 @@ use Rattle.magic.specs.declared.place.Found.{Found as Told}
 use Rattle.magic.specs.declared.place.Found.the-variants.{Closed as ToldClosed, Open as ToldOpen, Split as ToldSplit}
 use Rattle.magic.proofs.node.Node.{the-type as node-type}
 use Rattle.magic.proofs.RuledLaws.{ruled-few, rule-read}
-use Rattle.magic.proofs.PathLaws.{split-same, split-kept, next-kept, path-same, path-more, path-deep, path-small, put-facts, put-size, put-rest, split-back}
+use Rattle.magic.proofs.PathLaws.{split-same, split-kept, next-kept, path-same, path-more, path-deep, path-small, false-few, put-facts, put-size, put-rest, split-back}
+use Rattle.magic.proofs.WatchLaws.{met-grows, continuations-all, continuations-same}
 
 -- ---- what follows from a list, and one atom more
 
@@ -41,8 +44,26 @@ added-seeded bs l r m seeded a small s n put =
       inside = λ c closed asked. added-each 18434 r m a s n put (In natKey c) (asked .1 .0) (seeded .inside c closed (asked .0, asked .1 .1));
     }
 
-pub added-opening : (bs r : List ℕ) (m : ℕ) → Worked (numberedRules bs) (logged r 18434 m) (logged r 18434 m) → (a : ℕ) (s : List ℕ) (n : ℕ) → Added 18434 r m a s n → Opening bs s n m
-added-opening bs r m worked a s n put = record { store = put .store; part = put .grows; worked = added-worked 18434 r m a s n put (numberedRules bs) worked }
+-- a truth more: what rested is worked off, and the truth is still to be
+pub added-opening : (bs r : List ℕ) (m from : ℕ) → Rested bs from (logged r 18434 m) → (a : ℕ) → a < 2050 → (s : List ℕ) (n : ℕ) → Added 18434 r m a s n → Opening bs s n m from
+added-opening bs r m from rested a small s n put = record { store = put .store; part = put .grows; worked = worked }
+  where
+    inside : All (In natKey (logged r 18434 m)) (logged s 18434 m ++ continuationsIn (logged s 18434 n))
+    inside =
+        let before : List ℕ = logged r 18434 m in
+        all-append (In natKey before) (logged s 18434 m) (continuationsIn (logged s 18434 n))
+        (subst (All (In natKey before)) (sym (put .kept m (omega arith))) (all-in natKey before))
+        (subst (All (In natKey before)) (sym (ap continuationsIn (put .list) ∙ continuations-same before a small (has natKey before a)))
+        (continuations-all (In natKey before) before (all-in natKey before)))
+
+    worked : WorkedOff bs (logged s 18434 m ++ continuationsIn (logged s 18434 n)) (Met bs from (logged s 18434 n))
+    worked i listed asked =
+        let before : List ℕ = logged r 18434 m in
+        let done : List ℕ = logged s 18434 m ++ continuationsIn (logged s 18434 n) in
+        let held : All (In natKey before) (askedAt bs i) =
+        all-map (In natKey done) (In natKey before) (λ x t. has-all natKey (In natKey before) done inside x t) (askedAt bs i) asked in
+        all-map (Met bs from before) (Met bs from (logged s 18434 n)) (met-grows bs from from before (logged s 18434 n) (omega arith) (added-carries 18434 r m a s n put)) (goalsAt bs i)
+        (rested i listed held)
 
 -- the same facts follow from the same atoms
 pub seeded-same : (bs l r : List ℕ) (m : ℕ) (s : List ℕ) (n : ℕ) → logged r 18434 m ≡ logged s 18434 n → Seeded bs l r m → Seeded bs l s n
@@ -129,8 +150,8 @@ module _ (bs : List ℕ) (h : Ruled bs) (work : List ℕ) (depth : ℕ) (node : 
                 record {
                   size = put-size counted facts counted-size (put .store .room);
                   genuine = subst (Genuine find) (sym left-path) branch-genuine;
-                  opening = subst (λ (r : List ℕ). Opening bs r n (markAt work depth)) (sym left-facts)
-                      (added-opening bs (factsIn work) (markAt work depth) (node .worked) (getD alts next 0) facts n put);
+                  opening = subst (λ (r : List ℕ). Opening bs r n (markAt work depth) (placeOf bs (splitAt bs work depth))) (sym left-facts)
+                      (added-opening bs (factsIn work) (markAt work depth) (placeOf bs (splitAt bs work depth)) (node .rested) (getD alts next 0) (omega (arith, next-small, false-few bs h)) facts n put);
                   seeded = subst (λ (p : List (Branch Instance)). Seeded bs (entered p) (factsIn left) n) (sym left-path)
                       (subst (λ (r : List ℕ). Seeded bs (getD alts next 0 ∷ entered path) r n) (sym left-facts)
                       (added-seeded bs (entered path) (factsIn work) (markAt work depth) (node .seeded) (getD alts next 0) next-small facts n put));
@@ -155,7 +176,7 @@ module _ (bs : List ℕ) (h : Ruled bs) (r : List ℕ) (n m q a b c d : ℕ) (le
   pub split-vars : (theRule bs (found .site .rule)) .vars ≤ 4
   split-vars = (rule-read bs h (found .site .rule) (found .listed .known)) .vars-few
 
-module _ (bs : List ℕ) (work : List ℕ) (depth n done : ℕ) (fresh : Fresh bs work depth n done) (facts : List ℕ) where
+module _ (bs : List ℕ) (work : List ℕ) (depth n done from : ℕ) (fresh : Fresh bs work depth n done from) (facts : List ℕ) where
   abbrev settled : List ℕ
   settled = facts ++ drop 55302 work
 
@@ -237,6 +258,9 @@ module _ (bs : List ℕ) (work : List ℕ) (depth n done : ℕ) (fresh : Fresh b
     wrote-split : splitAt bs noted-left depth ≡ found .site
     wrote-split = split-back bs settled noted-left depth m q a b c d (found .site) (found .listed) few (found .named) wrote
 
+    wrote-log : logged (factsIn noted-left) 18434 (markAt noted-left depth) ≡ logged facts 18434 m
+    wrote-log = ap₂ (λ (r : List ℕ) (k : ℕ). logged r 18434 k) wrote-facts (wrote .mark)
+
     seeded : Seeded bs (entered (pathIn bs noted-left depth)) (factsIn work) n
     seeded = subst (λ (p : List (Branch Instance)). Seeded bs (entered p) (factsIn work) n) (sym wrote-path) (fresh .seeded)
 
@@ -250,7 +274,9 @@ module _ (bs : List ℕ) (work : List ℕ) (depth n done : ℕ) (fresh : Fresh b
               subst (λ (s : Site). findIn bs (entered (pathIn bs noted-left depth)) ≡ split (instanceOf bs s) (altsOf bs s)) (sym wrote-split)
               (found .found (entered (pathIn bs noted-left depth)) seeded);
           store = rw (wrote .mark, wrote-facts) (found .rests .leaves .store);
-          worked = rw (wrote .mark, wrote-facts) (found .rests .worked);
+          rested =
+              subst (λ (s : Site). Rested bs (placeOf bs s) (logged (factsIn noted-left) 18434 (markAt noted-left depth))) (sym wrote-split)
+              (subst (Rested bs (placeOf bs (found .site))) (sym wrote-log) (found .passed));
           seeded = rw (wrote .mark, wrote-facts) (found .rests .follows (entered (pathIn bs noted-left depth)) seeded);
         }
 
@@ -306,17 +332,23 @@ pub blank-store : (work : List ℕ) → Blank work → Store 18434 (factsIn work
 blank-store work blank = zeros-store 18434 work (omega (arith, blank .size)) (blank .zeros)
 
 -- the root, once "false" relevant is in
-pub root-fresh : (bs work facts : List ℕ) (n : ℕ) → Blank work → Started bs facts n → Fresh bs (facts ++ drop 55302 work) 0 n 0
+pub root-fresh : (bs : List ℕ) → Ruled bs → (work facts : List ℕ) (n : ℕ) → Blank work → Started bs facts n → Fresh bs (facts ++ drop 55302 work) 0 n 0 0
 unfolding logged pathIn
-root-fresh bs work facts n blank started =
+root-fresh bs h work facts n blank started =
     let room : length facts ≡ 55302 = started .store .room in
     let same : factsIn (facts ++ drop 55302 work) ≡ facts = put-facts work facts (blank .size) room in
     record {
       size = put-size work facts (blank .size) room;
       genuine = tt;
       opening =
-          subst (λ (r : List ℕ). Opening bs r n 0) (sym same)
-          (record { store = started .store; part = omega arith; worked = started .worked });
+          subst (λ (r : List ℕ). Opening bs r n 0 0) (sym same)
+          (record {
+            store = started .store;
+            part = omega arith;
+            worked = λ i listed asked.
+                started .worked i listed
+                (subst (λ (done : List ℕ). All (In natKey done) (askedAt bs i)) (ap continuationsIn (started .list) ∙ continuations-same [] (relevantFact (falseIn bs)) (omega (arith, false-few bs h)) false) asked);
+          });
       seeded =
           subst (λ (r : List ℕ). Seeded bs [] r n) (sym same)
           (record {

@@ -12,10 +12,11 @@ use Rattle.search.specs.Machine.{Branch, Outcome, Exhausted, entered, enter, ba
 use Rattle.search.proofs.Machine.{proceed-open, proceed-closed, proceed-split}
 use Rattle.search.proofs.Limit.{resume-exhausted}
 use Rattle.store.specs.Store.{Store, Undone, logged}
-use Rattle.store.specs.Worked.{Worked}
 use Rattle.ground.specs.Instance.{Instance}
-use Rattle.magic.specs.Facts.{Ruled, findIn, ruleAt, numberedRules}
-use Rattle.magic.specs.Node.{Seeded, Site, Listed}
+use Rattle.magic.specs.Facts.{Ruled, findIn, ruleAt}
+use Rattle.magic.specs.Choosing.{Site, Listed}
+use Rattle.magic.specs.Watch.{placeOf, Rested}
+use Rattle.magic.specs.Node.{Seeded}
 use Rattle.magic.specs.Place.{nodeAt, splitRule, splitAt, instanceOf, altsOf, siteAt, nextAt, markAt, altsAt, entryAt, pathIn, factsIn, PathKept, Parted, bitsIn, Reached, Making}
 use Rattle.magic.specs.Walk.{AllShut, Ended, runsFrom, triesFrom, outcomeIn, TellsOutcome}
 use Rattle.magic.specs.declared.place.Found.{Found as Told}
@@ -164,7 +165,9 @@ module _ (bs work : List ℕ) (depth count limit : ℕ) (node : Parted bs work d
                   subst (λ (p : List (Branch Instance)). finds (entered p) ≡ split (siteAt bs after depth) (altsAt bs after depth)) (sym after-path)
                   (subst (λ (s : Site). finds (entered (pathIn bs work depth)) ≡ split (instanceOf bs s) (altsOf bs s)) (sym after-split) (node .found));
               store = subst (Store 18434 (factsIn after)) (sym after-mark) (shut .facts .store);
-              worked = subst (λ (facts : List ℕ). Worked (numberedRules bs) facts facts) after-log (node .worked);
+              rested =
+                  subst (λ (s : Site). Rested bs (placeOf bs s) (logged (factsIn after) 18434 (markAt after depth))) (sym after-split)
+                  (subst (λ (facts : List ℕ). Rested bs (placeOf bs (splitAt bs work depth)) facts) after-log (node .rested));
               seeded =
                   subst (λ (p : List (Branch Instance)). Seeded bs (entered p) (factsIn after) (markAt after depth)) (sym after-path)
                   (seeded-same bs (entered (pathIn bs work depth)) (factsIn work) (markAt work depth) (factsIn after) (markAt after depth) after-log (node .seeded));

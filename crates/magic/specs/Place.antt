@@ -11,10 +11,11 @@ use Rattle.search.specs.Ground.{Found, closed, opened, split}
 use Rattle.search.specs.Relevancy.{branches, modelBits}
 use Rattle.search.specs.Machine.{Branch, Place, entered, enter, back, placed, root, Genuine}
 use Rattle.store.specs.Store.{Store, logged, isSet}
-use Rattle.store.specs.Worked.{Worked}
 use Rattle.ground.specs.Instance.{Instance}
-use Rattle.magic.specs.Facts.{falseIn, findIn, theRule, relevantFact, numberedRules}
-use Rattle.magic.specs.Node.{Opening, Seeded, siteOf, headsOf, Site, Listed}
+use Rattle.magic.specs.Facts.{falseIn, findIn, theRule, relevantFact}
+use Rattle.magic.specs.Choosing.{siteOf, headsOf, Site, Listed}
+use Rattle.magic.specs.Watch.{placeOf, Rested}
+use Rattle.magic.specs.Node.{Opening, Seeded}
 use Rattle.magic.specs.declared.place.Found.{Found as Told}
 use Rattle.magic.specs.declared.place.Found.the-variants.{Closed, Open, Split}
 
@@ -74,21 +75,21 @@ PathKept work depth left = (i : ℕ) → 55302 ≤ i → i < nodeAt depth → ge
 
 -- ---- a node just entered, and a node that has been split
 
--- n facts of which `done` are worked off, and they are those that follow from the path's atoms
-pub record Fresh (bs work : List ℕ) (depth n done : ℕ) : Type 0 where
+-- n facts of which `done` are worked off, with instances watched from `from` on, and they are those that follow from the path's atoms
+pub record Fresh (bs work : List ℕ) (depth n done from : ℕ) : Type 0 where
   pub size : length work ≡ 65536
   pub genuine : Genuine (findIn bs) (pathIn bs work depth)
-  pub opening : Opening bs (factsIn work) n done
+  pub opening : Opening bs (factsIn work) n done from
   pub seeded : Seeded bs (entered (pathIn bs work depth)) (factsIn work) n
 
--- the node at this depth is split, and its facts are closed under the rules
+-- the node at this depth is split, its facts are closed under the rules, and no instance before the split can be split
 pub record Parted (bs work : List ℕ) (depth : ℕ) : Type 0 where
   pub size : length work ≡ 65536
   pub genuine : Genuine (findIn bs) (pathIn bs work depth)
   pub listed : Listed bs (splitAt bs work depth)
   pub found : findIn bs (entered (pathIn bs work depth)) ≡ split (siteAt bs work depth) (altsAt bs work depth)
   pub store : Store 18434 (factsIn work) (markAt work depth)
-  pub worked : Worked (numberedRules bs) (logged (factsIn work) 18434 (markAt work depth)) (logged (factsIn work) 18434 (markAt work depth))
+  pub rested : Rested bs (placeOf bs (splitAt bs work depth)) (logged (factsIn work) 18434 (markAt work depth))
   pub seeded : Seeded bs (entered (pathIn bs work depth)) (factsIn work) (markAt work depth)
 
 -- a split node has been written down
@@ -102,7 +103,7 @@ pub record Noted (work : List ℕ) (depth m q a b c d : ℕ) (left : List ℕ) :
 
 -- the next alternative of the node at this depth has been entered
 pub record Entered (bs work : List ℕ) (depth : ℕ) (left : List ℕ) (n : ℕ) : Type 0 where
-  pub fresh : Fresh bs left (depth + 1) n (markAt work depth)
+  pub fresh : Fresh bs left (depth + 1) n (markAt work depth) (placeOf bs (splitAt bs work depth))
   pub at-split : splitAt bs left depth ≡ splitAt bs work depth
   pub next : nextAt left depth ≡ nextAt work depth + 1
   pub mark : markAt left depth ≡ markAt work depth

@@ -3,6 +3,7 @@ pub mod choose;
 pub mod close;
 pub mod engine;
 pub mod fact;
+pub mod index;
 pub mod node;
 pub mod place;
 pub mod rewrite;

@@ -1,4 +1,5 @@
 // The walk: visiting a node, which calls the trying of alternatives, which calls visiting.
+use crate::index::build;
 use crate::place::Found;
 use crate::place::place;
 use crate::place::root;
@@ -9,6 +10,7 @@ ghost use mathlib.Core.Path.{_≡_};
 ghost use Prim.Native.Nat.{_+_, _*_, _≤_};
 ghost use lib.ListN.{length};
 ghost use Rattle.magic.specs.Facts.{Ruled};
+ghost use Rattle.magic.specs.Index.{Indexed};
 ghost use Rattle.magic.specs.Place.{markAt, Parted, Reached};
 ghost use Rattle.magic.specs.Walk.{Ended, runsFrom, triesFrom, TellsOutcome};
 
@@ -22,6 +24,7 @@ pub enum Walked {
 // Visits the node at `depth`, which is found so; its facts are taken back to the first `done` where all is closed.
 pub fn visit(
     rules: &[u8],
+    index: &[u16; 1536],
     work: &mut [u8],
     depth: usize,
     done: usize,
@@ -30,13 +33,14 @@ pub fn visit(
     limit: u32,
 ) -> Walked
     requires { ⌜ Ruled (now rules) ⌝ }
+    requires { ⌜ Indexed (now rules) (now index) ⌝ }
     requires { ⌜ Reached (now rules) (now work) depth done found ⌝ }
     requires { ⌜ count ≤ limit ⌝ }
     ensures { λ x. ⌜ Ended (now (rules .entry)) (now (work .entry)) depth done (runsFrom (now (rules .entry)) (now (work .entry)) depth count limit) count limit x (now (work .exit)) ⌝ }
 {
     match found {
         Found::Split(m) => {
-            let walked = try_next(rules, work, depth, count, limit);
+            let walked = try_next(rules, index, work, depth, count, limit);
             match walked {
                 Walked::Shut(shut) => {
                     undo(&mut work[0..55302], 18434, m, done);
@@ -60,8 +64,16 @@ pub fn visit(
 }
 
 // Tries the alternatives left at the split node at `depth`.
-fn try_next(rules: &[u8], work: &mut [u8], depth: usize, count: u32, limit: u32) -> Walked
+fn try_next(
+    rules: &[u8],
+    index: &[u16; 1536],
+    work: &mut [u8],
+    depth: usize,
+    count: u32,
+    limit: u32,
+) -> Walked
     requires { ⌜ Ruled (now rules) ⌝ }
+    requires { ⌜ Indexed (now rules) (now index) ⌝ }
     requires { ⌜ Parted (now rules) (now work) depth ⌝ }
     requires { ⌜ count ≤ limit ⌝ }
     ensures { λ x. ⌜ Ended (now (rules .entry)) (now (work .entry)) depth (markAt (now (work .entry)) depth) (triesFrom (now (rules .entry)) (now (work .entry)) depth count limit) count limit x (now (work .exit)) ⌝ }
@@ -76,11 +88,11 @@ fn try_next(rules: &[u8], work: &mut [u8], depth: usize, count: u32, limit: u32)
         return Walked::Exhausted;
     }
     let mark = pair(work[at + 6], work[at + 7]);
-    let found = place(rules, work, depth);
-    let walked = visit(rules, work, depth + 1, mark, found, count + 1, limit);
+    let found = place(rules, index, work, depth);
+    let walked = visit(rules, index, work, depth + 1, mark, found, count + 1, limit);
     match walked {
         Walked::Shut(shut) => {
-            return try_next(rules, work, depth, shut, limit);
+            return try_next(rules, index, work, depth, shut, limit);
         }
         Walked::Opened(opened) => {
             return Walked::Opened(opened);
@@ -97,6 +109,7 @@ pub fn walk(rules: &[u8], work: &mut [u8], limit: u32) -> Walked
     ensures { λ x. ⌜ TellsOutcome (now (rules .entry)) limit x (now (work .exit)) ⌝ }
 {
     lists::zero(work);
-    let found = root(rules, work);
-    visit(rules, work, 0, 0, found, 0, limit)
+    let index = build(rules);
+    let found = root(rules, &index, work);
+    visit(rules, &index, work, 0, 0, found, 0, limit)
 }

@@ -1,23 +1,23 @@
 -- The path in the work buffer: it looks at its own bytes alone, it is short where it is genuine; the facts lent and put back; a node written down.
-use Prim.Native.Nat.{ℕ, zero, suc, _+_, _-_, _*_, _%_, _/_, _≤_, _<_}
-use mathlib.Core.List.{List, [], _∷_, _++_, append-assoc}
-use mathlib.Core.Path.{_≡_, refl, sym, ap, subst, _∙_}
-use native.Mathlib.Nat.{add-zero}
+use Prim.Native.Nat.{ℕ, zero, suc, _+_, _*_, _%_, _/_, _≤_, _<_}
+use mathlib.Core.List.{List, [], _∷_, _++_}
+use mathlib.Core.Path.{_≡_, refl, sym, ap, _∙_}
 use native.Mathlib.Numerals.{add-one}
 use native.Mathlib.Omega.{arith}
-use lib.ListN.{length, take, drop, getD, set, length-append, length-drop, List·getD-append, length-map}
-use lib.Seq.{length-take-le, take-append-le, take-take, getD-drop, getD-take, sets, sets-eq, take-at}
-use Rattle.lists.proofs.Bytes.{getD-skip, bytes2-back}
+use lib.ListN.{length, take, drop, getD, set, length-map}
+use Rattle.lists.proofs.Bytes.{bytes2-back}
 use Rattle.lists.proofs.Tabulate.{tabulate-at}
 use Rattle.search.specs.Relevancy.{findR}
 use Rattle.search.specs.Machine.{Genuine}
 use Rattle.search.proofs.Walk.{path-short}
+use Rattle.store.proofs.Lent as lent
 use Rattle.problem.specs.Layout.{problemIn}
 use Rattle.problem.specs.Table.{Lawful}
 use Rattle.ground.specs.Instance.{Instance, number, clauseOf, groundAtoms, groundOf}
 use Rattle.ground.specs.ModelCheck.{Placed}
 use Rattle.ground.proofs.AtomLaws.{Row, slotNumber, clause-fits, alts-count, alts-row, alts-numbers}
 use Rattle.ground.proofs.Instances.{atoms-few, ground-proper}
+use Rattle.ground.proofs.NodeRecord.{stored-byte, stored-first, stored-before, stored-part, take-four}
 use Rattle.ground.proofs.Turns.{ClauseKnown, clause-known, numbers-take}
 use Rattle.relevancy.specs.declared.choose.Choice.the-variants.{At}
 use Rattle.relevancy.specs.Node.{groundIn, choiceOf, Listed}
@@ -69,19 +69,16 @@ module _ (work facts : List ℕ) (size : length work ≡ 65536) (room : length f
   put = facts ++ drop 6150 work
 
   pub put-facts : factsIn put ≡ facts
-  put-facts = take-at facts (drop 6150 work) 6150 room
+  put-facts = lent.put-part 6150 65536 (omega arith) work size facts room
 
   pub put-size : length put ≡ 65536
-  put-size = rw (length-append facts (drop 6150 work), length-drop 6150 work, size, room)
+  put-size = lent.put-size 6150 65536 (omega arith) work size facts room
 
   pub put-rest : (i : ℕ) → 6150 ≤ i → getD put i 0 ≡ getD work i 0
-  put-rest i l =
-      let place : i ≡ 6150 + (i - 6150) = omega arith in
-      ap (λ (j : ℕ). getD put j 0) place ∙ getD-skip facts (drop 6150 work) 6150 (i - 6150) room ∙ getD-drop 6150 work (i - 6150) 0
-      ∙ ap (λ (j : ℕ). getD work j 0) (sym place)
+  put-rest = lent.put-rest 6150 65536 (omega arith) work size facts room
 
 pub facts-room : (work : List ℕ) → length work ≡ 65536 → length (factsIn work) ≡ 6150
-facts-room work size = length-take-le 6150 work (omega arith)
+facts-room work size = lent.part-room 6150 65536 (omega arith) work size
 
 -- ---- a node written down
 
@@ -89,59 +86,27 @@ module _ (work : List ℕ) (depth m k a b c d : ℕ) (size : length work ≡ 655
   abbrev at : ℕ
   at = nodeAt depth
 
-  abbrev bytes : List ℕ
-  bytes = k ∷ a ∷ b ∷ c ∷ d ∷ 0 ∷ m % 256 ∷ m / 256 % 256 ∷ []
-
-  abbrev whole : List ℕ
-  whole = take at work ++ (bytes ++ drop (at + 8) work)
-
-  front : length (take (nodeAt depth) work) ≡ nodeAt depth
-  front = length-take-le (nodeAt depth) work (omega arith)
-
-  byte : (i : ℕ) → i < 8 → getD whole (nodeAt depth + i) 0 ≡ getD bytes i 0
-  byte i l = getD-skip (take (nodeAt depth) work) (bytes ++ drop (nodeAt depth + 8) work) (nodeAt depth) i front ∙ List·getD-append bytes (drop (nodeAt depth + 8) work) 0 i l
-
-  noted-whole : Noted work depth m k a b c d whole
-  noted-whole =
-      record {
-        clause = ap (λ (j : ℕ). getD whole j 0) (sym (add-zero (nodeAt depth))) ∙ byte 0 (omega arith);
-        four = rw (byte 1 (omega arith), byte 2 (omega arith), byte 3 (omega arith), byte 4 (omega arith));
-        next = byte 5 (omega arith);
-        mark = rw (byte 6 (omega arith), byte 7 (omega arith)) (bytes2-back m (omega arith));
-        facts = take-append-le 6150 (take (nodeAt depth) work) (bytes ++ drop (nodeAt depth + 8) work) (omega (arith, front)) ∙ take-take 6150 (nodeAt depth) work (omega arith);
-        kept = λ i l h.
-            List·getD-append (take (nodeAt depth) work) (bytes ++ drop (nodeAt depth + 8) work) 0 i (omega (arith, front)) ∙ getD-take (nodeAt depth) work i 0 h;
-      }
-
   abbrev stored : List ℕ
   stored = set (set (set (set (set (set (set (set work at k) (at + 1) a) (at + 2) b) (at + 3) c) (at + 4) d) (at + 5) 0) (at + 6) (m % 256)) (at + 7) (m / 256 % 256)
 
-  stored-whole : stored ≡ whole
-  stored-whole =
-      let e1 : at + 1 ≡ suc at = omega arith in
-      let e2 : at + 2 ≡ suc (suc at) = omega arith in
-      let e3 : at + 3 ≡ suc (suc (suc at)) = omega arith in
-      let e4 : at + 4 ≡ suc (suc (suc (suc at))) = omega arith in
-      let e5 : at + 5 ≡ suc (suc (suc (suc (suc at)))) = omega arith in
-      let e6 : at + 6 ≡ suc (suc (suc (suc (suc (suc at))))) = omega arith in
-      let e7 : at + 7 ≡ suc (suc (suc (suc (suc (suc (suc at)))))) = omega arith in
-      let same : stored ≡ sets work at bytes = rw (e1, e2, e3, e4, e5, e6, e7) in
-      same ∙ sets-eq bytes work at (omega arith) ∙ append-assoc (take at work) bytes (drop (at + 8) work)
+  room : nodeAt depth + 8 ≤ length work
+  room = omega arith
+
+  byte : (i : ℕ) → i < 8 → getD stored (nodeAt depth + i) 0 ≡ getD (k ∷ a ∷ b ∷ c ∷ d ∷ 0 ∷ m % 256 ∷ m / 256 % 256 ∷ []) i 0
+  byte = stored-byte work (nodeAt depth) k a b c d 0 (m % 256) (m / 256 % 256) room
 
   pub noted : Noted work depth m k a b c d stored
-  noted = subst (λ (left : List ℕ). Noted work depth m k a b c d left) (sym stored-whole) noted-whole
+  noted =
+      record {
+        clause = stored-first work (nodeAt depth) k a b c d 0 (m % 256) (m / 256 % 256) room;
+        four = rw (byte 1 (omega arith), byte 2 (omega arith), byte 3 (omega arith), byte 4 (omega arith));
+        next = byte 5 (omega arith);
+        mark = rw (byte 6 (omega arith), byte 7 (omega arith)) (bytes2-back m (omega arith));
+        facts = stored-part work (nodeAt depth) k a b c d 0 (m % 256) (m / 256 % 256) room 6150 (omega arith);
+        kept = λ i l h. stored-before work (nodeAt depth) k a b c d 0 (m % 256) (m / 256 % 256) room i h;
+      }
 
 -- ---- a node read back
-
--- v values that stand in four bytes, with 0 after them
-take-four : (values : List ℕ) (a b c d v : ℕ) → length values ≡ v → v ≤ 4 → getD values 0 0 ≡ a → getD values 1 0 ≡ b → getD values 2 0 ≡ c → getD values 3 0 ≡ d
-    → take v (a ∷ b ∷ c ∷ d ∷ []) ≡ values
-take-four [] a b c d v n few ea eb ec ed = rw (← n)
-take-four (x ∷ []) a b c d v n few ea eb ec ed = rw (← n, ea)
-take-four (x ∷ y ∷ []) a b c d v n few ea eb ec ed = rw (← n, ea, eb)
-take-four (x ∷ y ∷ z ∷ []) a b c d v n few ea eb ec ed = rw (← n, ea, eb, ec)
-take-four (x ∷ y ∷ z ∷ w ∷ []) a b c d v n few ea eb ec ed = rw (← n, ea, eb, ec, ed)
-take-four (x ∷ y ∷ z ∷ w ∷ u ∷ us) a b c d v n few ea eb ec ed = absurd (omega arith)
 
 pub site-back : (tb : List ℕ) → Lawful tb → (work left : List ℕ) (depth m k a b c d : ℕ) (i : Instance) → Listed (problemIn tb) i → choiceOf (some i) ≡ At k a b c d
     → Noted work depth m k a b c d left → siteAt tb left depth ≡ i

@@ -1,6 +1,5 @@
 -- Making a place: the next alternative of a split node entered, and the node found.
 use Prim.Native.Nat.{ℕ, suc, _+_, _-_, _≤_, _<_}
-use mathlib.Core.Bool.{Bool, true, false, cond}
 use mathlib.Core.List.{List, [], _∷_, _++_}
 use mathlib.Core.Option.{some}
 use mathlib.Core.Path.{_≡_, refl, sym, ap, subst, _∙_}
@@ -8,9 +7,9 @@ use native.Mathlib.Omega.{arith}
 use denote.Enum.Declared.{tagOf}
 use lib.Dec.{T}
 use lib.ListN.{length, take, drop, getD, set, length-set, replicate, length-replicate, getD-replicate}
-use lib.Seq.{getD-set-same, getD-set-other, getD-take, split-at, drop-cons}
+use lib.Seq.{getD-set-same, getD-set-other, split-at, drop-cons}
 use Rattle.lists.specs.Key.{natKey}
-use Rattle.lists.specs.Member.{All, In, has}
+use Rattle.lists.specs.Member.{All, In}
 use Rattle.lists.proofs.Member.{all-map, all-has}
 use Rattle.search.specs.Closure.{Closed}
 use Rattle.search.specs.Ground.{Found, opened, split}
@@ -20,8 +19,8 @@ use Rattle.search.proofs.Closure.{least-ind}
 use Rattle.search.proofs.Relevancy.{true-entered}
 use Rattle.search.proofs.Walk.{path-small}
 use Rattle.store.specs.Store.{Store, Added, logged, isSet}
-use Rattle.store.specs.Worked.{Worked}
-use Rattle.store.proofs.Laws.{logged-grows, added-in}
+use Rattle.store.proofs.Laws.{added-in}
+use Rattle.store.proofs.Lent.{zeros-store, added-carries, added-each, added-worked}
 use Rattle.problem.specs.Layout.{problemIn}
 use Rattle.problem.specs.Table.{Lawful}
 use Rattle.ground.specs.Instance.{Instance}
@@ -33,7 +32,7 @@ use Rattle.relevancy.specs.declared.node.Node.the-variants.{Closed as Cl
 use Rattle.relevancy.specs.declared.place.Found.{Found as Told}
 use Rattle.relevancy.specs.declared.place.Found.the-variants.{Closed as ToldClosed, Open as ToldOpen, Split as ToldSplit}
 use Rattle.relevancy.proofs.node.Node.{the-type as node-type}
-use Rattle.relevancy.proofs.PathLaws.{site-same, path-same, path-more, path-deep, put-facts, put-size, put-rest, facts-room, site-back}
+use Rattle.relevancy.proofs.PathLaws.{site-same, path-same, path-more, path-deep, put-facts, put-size, put-rest, site-back}
 
 -- ---- what is true under a list, and one atom more
 
@@ -49,37 +48,20 @@ module _ (tb : List ℕ) (l r : List ℕ) (m : ℕ) (stands : Stands tb l r m) w
 
   -- an atom is put into the set
   module _ (a : ℕ) (s : List ℕ) (n : ℕ) (put : Added 2050 r m a s n) where
-    carried : (x : ℕ) → In natKey (logged r 2050 m) x → In natKey (logged s 2050 n) x
-    carried x t = logged-grows s 2050 m n (put .grows) x (subst (λ (facts : List ℕ). In natKey facts x) (sym (put .kept m (omega arith))) t)
-
-    -- what holds of the atom and of each fact before holds of each fact after
-    each-added : (P : ℕ → Type 0) → P a → All P (logged r 2050 m) → All P (logged s 2050 n)
-    each-added P p f = subst (All P) (sym (put .list)) (go (has natKey (logged r 2050 m) a))
-      where
-        go : (b : Bool) → All P (cond b (logged r 2050 m) (a ∷ logged r 2050 m))
-        go true = f
-        go false = (p, f)
-
     pub added-seeded : Seeded tb (a ∷ l) s n
     added-seeded =
         record {
-          seeds = (added-in put, all-map (In natKey (logged r 2050 m)) (In natKey (logged s 2050 n)) carried l stands-held);
-          inside = λ c closed held. each-added (In natKey c) (held .0) (stands-inside c closed (held .1));
+          seeds = (added-in put, all-map (In natKey (logged r 2050 m)) (In natKey (logged s 2050 n)) (added-carries 2050 r m a s n put) l stands-held);
+          inside = λ c closed held. added-each 2050 r m a s n put (In natKey c) (held .0) (stands-inside c closed (held .1));
         }
 
     pub added-opening : Rests tb r m → a ≤ (groundIn tb) .atoms → Opening tb s n m
     added-opening rests small =
         record {
           store = put .store;
-          truths = each-added (λ x. x ≤ (groundIn tb) .atoms) small (rests .truths);
+          truths = added-each 2050 r m a s n put (λ x. x ≤ (groundIn tb) .atoms) small (rests .truths);
           part = put .grows;
-          worked =
-              subst (λ (facts : List ℕ). Worked (hornRules (groundIn tb)) facts (logged s 2050 n)) (sym (put .kept m (omega arith)))
-              (all-map
-              (λ q. All (In natKey (logged r 2050 m)) (q .body) → In natKey (logged r 2050 m) (q .head))
-              (λ q. All (In natKey (logged r 2050 m)) (q .body) → In natKey (logged s 2050 n) (q .head))
-              (λ q f asked. carried (q .head) (f asked))
-              (hornRules (groundIn tb)) (rests .worked));
+          worked = added-worked 2050 r m a s n put (hornRules (groundIn tb)) (rests .worked);
         }
 
 -- ---- the next alternative of a split node is entered
@@ -314,14 +296,7 @@ blank-zeros x n e z =
     }
 
 pub blank-store : (work : List ℕ) → Blank work → Store 2050 (factsIn work) 0
-unfolding logged
-blank-store work blank =
-    record {
-      room = facts-room work (blank .size);
-      small = tt;
-      distinct = tt;
-      flags = λ a l. getD-take 6150 work a 0 (omega arith) ∙ blank .zeros a (omega arith);
-    }
+blank-store work blank = zeros-store 2050 work (omega (arith, blank .size)) (blank .zeros)
 
 -- the root, once the goals of the instances without conditions are in
 pub root-fresh : (tb work facts : List ℕ) (n : ℕ) → Blank work → Started tb (factsIn work) facts n → Fresh tb (facts ++ drop 6150 work) 0 n 0

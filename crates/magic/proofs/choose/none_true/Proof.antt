@@ -9,7 +9,7 @@ use Rattle.lists.specs.Tabulate.{tabulate}
 use Rattle.store.specs.Store.{isSet}
 use Rattle.ground.proofs.AtomLaws.{every-more, every-stops}
 use Rattle.magic.specs.Facts.{ruleAt}
-use Rattle.magic.specs.Node.{headsOf}
+use Rattle.magic.specs.Choosing.{headsOf}
 use Rattle.magic.specs.Applied.{ownValues}
 use Rattle.magic.proofs.RuledLaws.{RuleRead, rule-read, ruled-headed}
 use Rattle.magic.proofs.AskLaws.{givenNumber, given-numbered, given-below, heads-row}

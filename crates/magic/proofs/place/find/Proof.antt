@@ -17,8 +17,8 @@ find-spec =
     (tie.spec
     (λ c. search needs)  -- sub-settle
     (λ c. search needs)  -- part-settle-start
-    (λ c. omega (arith, c .before .before .pre .1 .size))  -- part-settle-end
-    (λ c κs. let s = c .before .before .before in (s .pre .0, s .pre .1 .opening))  -- settle-requires
+    (λ c. omega (arith, c .before .before .pre .1 .1 .size))  -- part-settle-end
+    (λ c κs. let s = c .before .before .before in (s .pre .0, (s .pre .1 .0, s .pre .1 .1 .opening)))  -- settle-requires
     (λ c. search needs)  -- enum-known-node
     (λ c κs.
     let s = c .before .before .before .before .before .before .before .before .before .before in
@@ -26,10 +26,10 @@ find-spec =
     let w = s .args .work .now in
     let d = s .args .depth in
     let h = s .pre .0 in
-    let p = s .pre .1 in
+    let p = s .pre .1 .1 in
     let n = s .args .n in
     let z = c .before .before .before .before .before .before in
-    let facts = z .settle .last .1 .0 in
+    let facts = z .settle .last .1 .1 .0 in
     let g = c .before .before .node .given in
     let found = settled-as rules (factsIn w) n (z .settle .result) (Split (g .0 .0) (g .0 .1 .0) (g .0 .1 .1 .0) (g .0 .1 .1 .1 .0) (g .0 .1 .1 .1 .1 .0) (g .0 .1 .1 .1 .1 .1 .0)) facts (g .1) (z .settle .ensures) in
     (put-size w facts (p .size) (found .rests .leaves .store .room), path-deep rules h w d (p .genuine), store-few (found .rests .leaves .store), split-number rules h (factsIn w) n (g .0 .0) (g .0 .1 .0) (g .0 .1 .1 .0) (g .0 .1 .1 .1 .0) (g .0 .1 .1 .1 .1 .0) (g .0 .1 .1 .1 .1 .1 .0) facts found))  -- note-requires
@@ -39,10 +39,10 @@ find-spec =
     let w = s .args .work .now in
     let d = s .args .depth in
     let h = s .pre .0 in
-    let p = s .pre .1 in
+    let p = s .pre .1 .1 in
     let n = s .args .n in
     let z = c .before .before .before .before .before .before .before .before .before in
-    let facts = z .settle .last .1 .0 in
+    let facts = z .settle .last .1 .1 .0 in
     let g = c .before .before .before .before .before .node .given in
     let found = settled-as rules (factsIn w) n (z .settle .result) (Split (g .0 .0) (g .0 .1 .0) (g .0 .1 .1 .0) (g .0 .1 .1 .1 .0) (g .0 .1 .1 .1 .1 .0) (g .0 .1 .1 .1 .1 .1 .0)) facts (g .1) (z .settle .ensures) in
     let o = c .before .before in
@@ -54,15 +54,15 @@ find-spec =
     let w = s .args .work .now in
     let d = s .args .depth in
     let h = s .pre .0 in
-    let p = s .pre .1 in
+    let p = s .pre .1 .1 in
     let n = s .args .n in
     let z = c .before .before .before .before .before .before .before .before .before in
-    let facts = z .settle .last .1 .0 in
+    let facts = z .settle .last .1 .1 .0 in
     let g = c .before .before .before .before .before .node .given in
     let found = settled-as rules (factsIn w) n (z .settle .result) (Split (g .0 .0) (g .0 .1 .0) (g .0 .1 .1 .0) (g .0 .1 .1 .1 .0) (g .0 .1 .1 .1 .1 .0) (g .0 .1 .1 .1 .1 .1 .0)) facts (g .1) (z .settle .ensures) in
     let o = c .before .before in
     let long : length (o .note .last .0) ≡ 65536 = o .note .kept .0 ∙ put-size w facts (p .size) (found .rests .leaves .store .room) in
-    found-split rules w d n (s .args .done) p facts (g .0 .0) (g .0 .1 .0) (g .0 .1 .1 .0) (g .0 .1 .1 .1 .0) (g .0 .1 .1 .1 .1 .0) (g .0 .1 .1 .1 .1 .1 .0) found (split-vars rules h (factsIn w) n (g .0 .0) (g .0 .1 .0) (g .0 .1 .1 .0) (g .0 .1 .1 .1 .0) (g .0 .1 .1 .1 .1 .0) (g .0 .1 .1 .1 .1 .1 .0) facts found) (o .note .last .0) long (o .note .ensures))  -- returns
+    found-split rules w d n (s .args .done) (s .args .from) p facts (g .0 .0) (g .0 .1 .0) (g .0 .1 .1 .0) (g .0 .1 .1 .1 .0) (g .0 .1 .1 .1 .1 .0) (g .0 .1 .1 .1 .1 .1 .0) found (split-vars rules h (factsIn w) n (g .0 .0) (g .0 .1 .0) (g .0 .1 .1 .0) (g .0 .1 .1 .1 .0) (g .0 .1 .1 .1 .1 .0) (g .0 .1 .1 .1 .1 .1 .0) facts found) (o .note .last .0) long (o .note .ensures))  -- returns
     (λ c. search needs)  -- enum-known-node-2
     (λ c.
     let s = c .before .before .before .before .before .before .before .before .before in
@@ -70,10 +70,10 @@ find-spec =
     let w = s .args .work .now in
     let d = s .args .depth in
     let h = s .pre .0 in
-    let p = s .pre .1 in
+    let p = s .pre .1 .1 in
     let n = s .args .n in
     let z = c .before .before .before .before .before in
-    let facts = z .settle .last .1 .0 in
+    let facts = z .settle .last .1 .1 .0 in
     let g = c .before .node2 .given in
     let found = settled-as rules (factsIn w) n (z .settle .result) (Closed (g .0 .0)) facts (g .1) (z .settle .ensures) in
     put-size w facts (p .size) (found .rests .leaves .store .room) ∙ sym (p .size))  -- same-length-2
@@ -83,13 +83,13 @@ find-spec =
     let w = s .args .work .now in
     let d = s .args .depth in
     let h = s .pre .0 in
-    let p = s .pre .1 in
+    let p = s .pre .1 .1 in
     let n = s .args .n in
     let z = c .before .before .before .before .before in
-    let facts = z .settle .last .1 .0 in
+    let facts = z .settle .last .1 .1 .0 in
     let g = c .before .node2 .given in
     let found = settled-as rules (factsIn w) n (z .settle .result) (Closed (g .0 .0)) facts (g .1) (z .settle .ensures) in
-    found-closed rules w d n (s .args .done) p facts (g .0 .0) found)  -- returns-2
+    found-closed rules w d n (s .args .done) (s .args .from) p facts (g .0 .0) found)  -- returns-2
     (λ c. search needs)  -- enum-told
     (λ c.
     let s = c .before .before .before .before .before .before .before .before in
@@ -97,10 +97,10 @@ find-spec =
     let w = s .args .work .now in
     let d = s .args .depth in
     let h = s .pre .0 in
-    let p = s .pre .1 in
+    let p = s .pre .1 .1 in
     let n = s .args .n in
     let z = c .before .before .before .before in
-    let facts = z .settle .last .1 .0 in
+    let facts = z .settle .last .1 .1 .0 in
     let g = node-open (z .settle .result) (c .before .match .keys3) in
     let found = settled-as rules (factsIn w) n (z .settle .result) (Open (g .0)) facts (g .1) (z .settle .ensures) in
     put-size w facts (p .size) (found .rests .leaves .store .room) ∙ sym (p .size))  -- same-length-3
@@ -110,10 +110,10 @@ find-spec =
     let w = s .args .work .now in
     let d = s .args .depth in
     let h = s .pre .0 in
-    let p = s .pre .1 in
+    let p = s .pre .1 .1 in
     let n = s .args .n in
     let z = c .before .before .before .before in
-    let facts = z .settle .last .1 .0 in
+    let facts = z .settle .last .1 .1 .0 in
     let g = node-open (z .settle .result) (c .before .match .keys3) in
     let found = settled-as rules (factsIn w) n (z .settle .result) (Open (g .0)) facts (g .1) (z .settle .ensures) in
-    found-open rules w d n (s .args .done) p facts (g .0) found))  -- returns-3
+    found-open rules w d n (s .args .done) (s .args .from) p facts (g .0) found))  -- returns-3

@@ -29,31 +29,31 @@ use Rattle.store.proofs.undo.Reads as undo-reads
 use Rattle.magic.proofs.walk.+try_next+visit.{statement}
 use Rattle.magic.proofs.walk.+try_next+visit.Tie.{close}
 
-abbrev μ-try-next : Measures 2 try-next-kinds.ps ℕ
-μ-try-next κs a = (1025 - a .1 .1 .0) * 6 + (4 - nextAt (a .1 .0 .now) (a .1 .1 .0))
+abbrev μ-try-next : Measures 3 try-next-kinds.ps ℕ
+μ-try-next κs a = (1025 - a .1 .1 .1 .0) * 6 + (4 - nextAt (a .1 .1 .0 .now) (a .1 .1 .1 .0))
 
-abbrev μ-visit : Measures 2 visit-kinds.ps ℕ
-μ-visit κs a = (1025 - a .1 .1 .0) * 6 + 5
+abbrev μ-visit : Measures 3 visit-kinds.ps ℕ
+μ-visit κs a = (1025 - a .1 .1 .1 .0) * 6 + 5
 
 -- what each is given at the measure t, and what a call of it asks below t
-abbrev try-next-at : ℕ → In 2 try-next-kinds.ps
-try-next-at t = and 2 try-next-kinds.ps (is 2 try-next-kinds.ps μ-try-next t) try-next.Pre
+abbrev try-next-at : ℕ → In 3 try-next-kinds.ps
+try-next-at t = and 3 try-next-kinds.ps (is 3 try-next-kinds.ps μ-try-next t) try-next.Pre
 
-abbrev try-next-below : ℕ → In 2 try-next-kinds.ps
-try-next-below t = and 2 try-next-kinds.ps (falls 2 try-next-kinds.ps _<_ μ-try-next t) try-next.Pre
+abbrev try-next-below : ℕ → In 3 try-next-kinds.ps
+try-next-below t = and 3 try-next-kinds.ps (falls 3 try-next-kinds.ps _<_ μ-try-next t) try-next.Pre
 
-abbrev visit-at : ℕ → In 2 visit-kinds.ps
-visit-at t = and 2 visit-kinds.ps (is 2 visit-kinds.ps μ-visit t) visit.Pre
+abbrev visit-at : ℕ → In 3 visit-kinds.ps
+visit-at t = and 3 visit-kinds.ps (is 3 visit-kinds.ps μ-visit t) visit.Pre
 
-abbrev visit-below : ℕ → In 2 visit-kinds.ps
-visit-below t = and 2 visit-kinds.ps (falls 2 visit-kinds.ps _<_ μ-visit t) visit.Pre
+abbrev visit-below : ℕ → In 3 visit-kinds.ps
+visit-below t = and 3 visit-kinds.ps (falls 3 visit-kinds.ps _<_ μ-visit t) visit.Pre
 
 -- there is a place for the node that is tried, and its rule is in the buffer
 deep : (t : ℕ) (s : try-next-lts.Start (split-rule-reads.Asked, split-rule-reads.Learnt, pair-reads.Asked, pair-reads.Learnt, place-reads.Asked, place-reads.Learnt, visit-below t, visit.Post, try-next-below t, try-next.Post) (try-next-at t) try-next.Post) → s .args .depth ≤ 1024
-deep t s = path-deep (s .args .rules .now) (s .pre .1 .0) (s .args .work .now) (s .args .depth) (s .pre .1 .1 .0 .genuine)
+deep t s = path-deep (s .args .rules .now) (s .pre .1 .0) (s .args .work .now) (s .args .depth) (s .pre .1 .1 .1 .0 .genuine)
 
 row : (t : ℕ) (s : try-next-lts.Start (split-rule-reads.Asked, split-rule-reads.Learnt, pair-reads.Asked, pair-reads.Learnt, place-reads.Asked, place-reads.Learnt, visit-below t, visit.Post, try-next-below t, try-next.Post) (try-next-at t) try-next.Post) → RuleRead (s .args .rules .now) (splitRule (s .args .work .now) (s .args .depth))
-row t s = alts-read (s .args .rules .now) (s .pre .1 .0) (s .args .work .now) (s .args .depth) (s .pre .1 .1 .0)
+row t s = alts-read (s .args .rules .now) (s .pre .1 .0) (s .args .work .now) (s .args .depth) (s .pre .1 .1 .1 .0)
 
 pub +try-next+visit-spec : {M : Type 1} → statement M
 +try-next+visit-spec =
@@ -62,19 +62,19 @@ pub +try-next+visit-spec : {M : Type 1} → statement M
     try-next-lts.spec (split-rule-reads.Asked, split-rule-reads.Learnt, pair-reads.Asked, pair-reads.Learnt, place-reads.Asked, place-reads.Learnt, visit-below t, visit.Post, try-next-below t, try-next.Post) (try-next-at t) try-next.Post
     (λ c.
     let s = c .before .before in
-    omega (arith, deep t s, s .pre .1 .1 .0 .size))  -- mul-at
+    omega (arith, deep t s, s .pre .1 .1 .1 .0 .size))  -- mul-at
     (λ c.
     let s = c .before .before in
-    omega (arith, deep t s, s .pre .1 .1 .0 .size))  -- add-at
+    omega (arith, deep t s, s .pre .1 .1 .1 .0 .size))  -- add-at
     (λ c.
     let s = c .before .before in
-    omega (arith, deep t s, s .pre .1 .1 .0 .size))  -- add-next
+    omega (arith, deep t s, s .pre .1 .1 .1 .0 .size))  -- add-next
     (λ c.
     let s = c .before .before .before in
-    omega (arith, deep t s, s .pre .1 .1 .0 .size))  -- slice-read-next
+    omega (arith, deep t s, s .pre .1 .1 .1 .0 .size))  -- slice-read-next
     (λ c.
     let s = c .before .before .before .before in
-    omega (arith, deep t s, s .pre .1 .1 .0 .size))  -- slice-read-split-rule
+    omega (arith, deep t s, s .pre .1 .1 .1 .0 .size))  -- slice-read-split-rule
     (λ c κs. tt)  -- split-rule-requires
     (λ c.
     let k = row t (c .before .before .before .before .before) in
@@ -94,10 +94,10 @@ pub +try-next+visit-spec : {M : Type 1} → statement M
     let w = s .args .work .now in
     let d = s .args .depth in
     let h = s .pre .1 .0 in
-    let p = s .pre .1 .1 .0 in
+    let p = s .pre .1 .1 .1 .0 in
     let count = s .args .count in
     let limit = s .args .limit in
-    let within = s .pre .1 .1 .1 in
+    let within = s .pre .1 .1 .1 .1 in
     tried-none rules w d count limit p within (left-none rules h w d p (c .before .before .split-rule .result) (c .before .before .split-rule .ensures) (c .if1 .taken)))  -- returns
     (λ c.
     let s = c .before .before .before .before .before .before .before .before in
@@ -105,23 +105,23 @@ pub +try-next+visit-spec : {M : Type 1} → statement M
     let w = s .args .work .now in
     let d = s .args .depth in
     let h = s .pre .1 .0 in
-    let p = s .pre .1 .1 .0 in
+    let p = s .pre .1 .1 .1 .0 in
     let count = s .args .count in
     let limit = s .args .limit in
-    let within = s .pre .1 .1 .1 in
+    let within = s .pre .1 .1 .1 .1 in
     tried-exhausted rules w d count limit p within (left-some rules h w d p (c .before .before .before .split-rule .result) (c .before .before .before .split-rule .ensures) (c .before .if1 .left)) (c .if2 .taken))  -- returns-2
     (λ c.
     let s = c .before .before .before .before .before .before .before .before in
-    omega (arith, deep t s, s .pre .1 .1 .0 .size))  -- add-pair
+    omega (arith, deep t s, s .pre .1 .1 .1 .0 .size))  -- add-pair
     (λ c.
     let s = c .before .before .before .before .before .before .before .before .before in
-    omega (arith, deep t s, s .pre .1 .1 .0 .size))  -- slice-read-pair
+    omega (arith, deep t s, s .pre .1 .1 .1 .0 .size))  -- slice-read-pair
     (λ c.
     let s = c .before .before .before .before .before .before .before .before .before in
-    omega (arith, deep t s, s .pre .1 .1 .0 .size))  -- add-pair-2
+    omega (arith, deep t s, s .pre .1 .1 .1 .0 .size))  -- add-pair-2
     (λ c.
     let s = c .before .before .before .before .before .before .before .before .before .before in
-    omega (arith, deep t s, s .pre .1 .1 .0 .size))  -- slice-read-pair-2
+    omega (arith, deep t s, s .pre .1 .1 .1 .0 .size))  -- slice-read-pair-2
     (λ c κs. tt)  -- pair-requires
     (λ c κs.
     let s = c .before .before .before .before .before .before .before .before .before .before .before .before in
@@ -129,34 +129,34 @@ pub +try-next+visit-spec : {M : Type 1} → statement M
     let w = s .args .work .now in
     let d = s .args .depth in
     let h = s .pre .1 .0 in
-    let p = s .pre .1 .1 .0 in
+    let p = s .pre .1 .1 .1 .0 in
     let count = s .args .count in
     let limit = s .args .limit in
-    let within = s .pre .1 .1 .1 in
-    (h, (p, left-some rules h w d p (c .before .before .before .before .before .before .before .split-rule .result) (c .before .before .before .before .before .before .before .split-rule .ensures) (c .before .before .before .before .before .if1 .left))))  -- place-requires
+    let within = s .pre .1 .1 .1 .1 in
+    (h, (s .pre .1 .1 .0, (p, left-some rules h w d p (c .before .before .before .before .before .before .before .split-rule .result) (c .before .before .before .before .before .before .before .split-rule .ensures) (c .before .before .before .before .before .if1 .left)))))  -- place-requires
     (λ c.
     let s = c .before .before .before .before .before .before .before .before .before .before .before .before .before .before .before .before in
-    omega (arith, deep t s, s .pre .1 .1 .0 .size))  -- add-visit
+    omega (arith, deep t s, s .pre .1 .1 .1 .0 .size))  -- add-visit
     (λ c.
     let s = c .before .before .before .before .before .before .before .before .before .before .before .before .before .before .before .before in
-    omega (arith, s .pre .1 .1 .1, c .before .before .before .before .before .before .before .before .if2 .left, s .fits .limit))  -- add-visit-2
+    omega (arith, s .pre .1 .1 .1 .1, c .before .before .before .before .before .before .before .before .if2 .left, s .fits .limit))  -- add-visit-2
     (λ c κs.
     let s = c .before .before .before .before .before .before .before .before .before .before .before .before .before .before .before .before in
     let rules = s .args .rules .now in
     let w = s .args .work .now in
     let d = s .args .depth in
     let h = s .pre .1 .0 in
-    let p = s .pre .1 .1 .0 in
+    let p = s .pre .1 .1 .1 .0 in
     let count = s .args .count in
     let limit = s .args .limit in
-    let within = s .pre .1 .1 .1 in
+    let within = s .pre .1 .1 .1 .1 in
     let e = c .before .before .before in
     let went = e .place .ensures in
     let same = c .before .before .before .before .before .pair .ensures in
     let from : (1025 - d) * 6 + (4 - nextAt w d) ≡ t = s .pre .0 in
     let less : (1025 - (d + 1)) * 6 + 5 < t = omega (arith, deep t s) in
     let more : count + 1 ≤ limit = omega (arith, within, c .before .before .before .before .before .before .before .before .if2 .left) in
-    (less, (h, (subst (λ (m : ℕ). Reached rules (e .place .last .1 .0) (d + 1) m (e .place .result)) (sym same) (went .reached), more))))  -- visit-requires
+    (less, (h, (s .pre .1 .1 .0, (subst (λ (m : ℕ). Reached rules (e .place .last .1 .1 .0) (d + 1) m (e .place .result)) (sym same) (went .reached), more)))))  -- visit-requires
     (λ c. search needs)  -- enum-known-walked
     (λ c κs.
     let s = c .before .before .before .before .before .before .before .before .before .before .before .before .before .before .before .before .before .before .before .before .before .before .before in
@@ -164,100 +164,100 @@ pub +try-next+visit-spec : {M : Type 1} → statement M
     let w = s .args .work .now in
     let d = s .args .depth in
     let h = s .pre .1 .0 in
-    let p = s .pre .1 .1 .0 in
+    let p = s .pre .1 .1 .1 .0 in
     let count = s .args .count in
     let limit = s .args .limit in
-    let within = s .pre .1 .1 .1 in
+    let within = s .pre .1 .1 .1 .1 in
     let some-left = left-some rules h w d p (c .before .before .before .before .before .before .before .before .before .before .before .before .before .before .before .before .before .before .split-rule .result) (c .before .before .before .before .before .before .before .before .before .before .before .before .before .before .before .before .before .before .split-rule .ensures) (c .before .before .before .before .before .before .before .before .before .before .before .before .before .before .before .before .if1 .left) in
     let open-yet : count < limit = omega (arith, within, c .before .before .before .before .before .before .before .before .before .before .before .before .before .before .before .if2 .left) in
     let e = c .before .before .before .before .before .before .before .before .before .before in
-    let left = e .place .last .1 .0 in
+    let left = e .place .last .1 .1 .0 in
     let went = e .place .ensures in
     let same = c .before .before .before .before .before .before .before .before .before .before .before .before .pair .ensures in
     let v = c .before .before .before .before .before .before in
-    let after = v .visit .last .1 .0 in
-    let size : length after ≡ 65536 = v .visit .kept .1 .0 ∙ went .reached .size in
+    let after = v .visit .last .1 .1 .0 in
+    let size : length after ≡ 65536 = v .visit .kept .1 .1 .0 ∙ went .reached .size in
     let g = c .before .before .walked .given in
     let x = g .0 .0 in
     let shut = ended-same rules left (d + 1) (c .before .before .before .before .before .before .before .before .before .before .before .before .pair .result) (markAt w d) (runsFrom rules left (d + 1) (count + 1) limit) (count + 1) limit (v .visit .result) (Shut x) after same (g .1) (v .visit .ensures) in
     let from : (1025 - d) * 6 + (4 - nextAt w d) ≡ t = s .pre .0 in
     let step : nextAt after d ≡ nextAt w d + 1 = after-next rules w d count limit p within some-left open-yet (e .place .result) left went x after size shut in
     let less : (1025 - d) * 6 + (4 - nextAt after d) < t = omega (arith, left-four rules h w d p some-left) in
-    (less, (h, (after-parted rules w d count limit p within some-left open-yet (e .place .result) left went x after size shut, shut .within))))  -- try-next-requires
+    (less, (h, (s .pre .1 .1 .0, (after-parted rules w d count limit p within some-left open-yet (e .place .result) left went x after size shut, shut .within)))))  -- try-next-requires
     (λ c.
     let s = c .before .before .before .before .before .before .before .before .before .before .before .before .before .before .before .before .before .before .before .before .before .before .before .before .before .before in
-    c .before .before .try-next .kept .1 .0 ∙ c .before .before .before .before .before .before .before .before .before .visit .kept .1 .0 ∙ c .before .before .before .before .before .before .before .before .before .before .before .before .before .place .ensures .reached .size ∙ sym (s .pre .1 .1 .0 .size))  -- same-length
+    c .before .before .try-next .kept .1 .1 .0 ∙ c .before .before .before .before .before .before .before .before .before .visit .kept .1 .1 .0 ∙ c .before .before .before .before .before .before .before .before .before .before .before .before .before .place .ensures .reached .size ∙ sym (s .pre .1 .1 .1 .0 .size))  -- same-length
     (λ c.
     let s = c .before .before .before .before .before .before .before .before .before .before .before .before .before .before .before .before .before .before .before .before .before .before .before .before .before .before in
     let rules = s .args .rules .now in
     let w = s .args .work .now in
     let d = s .args .depth in
     let h = s .pre .1 .0 in
-    let p = s .pre .1 .1 .0 in
+    let p = s .pre .1 .1 .1 .0 in
     let count = s .args .count in
     let limit = s .args .limit in
-    let within = s .pre .1 .1 .1 in
+    let within = s .pre .1 .1 .1 .1 in
     let some-left = left-some rules h w d p (c .before .before .before .before .before .before .before .before .before .before .before .before .before .before .before .before .before .before .before .before .before .split-rule .result) (c .before .before .before .before .before .before .before .before .before .before .before .before .before .before .before .before .before .before .before .before .before .split-rule .ensures) (c .before .before .before .before .before .before .before .before .before .before .before .before .before .before .before .before .before .before .before .if1 .left) in
     let open-yet : count < limit = omega (arith, within, c .before .before .before .before .before .before .before .before .before .before .before .before .before .before .before .before .before .before .if2 .left) in
     let e = c .before .before .before .before .before .before .before .before .before .before .before .before .before in
-    let left = e .place .last .1 .0 in
+    let left = e .place .last .1 .1 .0 in
     let went = e .place .ensures in
     let same = c .before .before .before .before .before .before .before .before .before .before .before .before .before .before .before .pair .ensures in
     let v = c .before .before .before .before .before .before .before .before .before in
-    let after = v .visit .last .1 .0 in
-    let size : length after ≡ 65536 = v .visit .kept .1 .0 ∙ went .reached .size in
+    let after = v .visit .last .1 .1 .0 in
+    let size : length after ≡ 65536 = v .visit .kept .1 .1 .0 ∙ went .reached .size in
     let g = c .before .before .before .before .before .walked .given in
     let x = g .0 .0 in
     let shut = ended-same rules left (d + 1) (c .before .before .before .before .before .before .before .before .before .before .before .before .before .before .before .pair .result) (markAt w d) (runsFrom rules left (d + 1) (count + 1) limit) (count + 1) limit (v .visit .result) (Shut x) after same (g .1) (v .visit .ensures) in
     let y = c .before .before in
-    after-ended rules w d count limit p within some-left open-yet (e .place .result) left went x after size shut (y .try-next .result) (y .try-next .last .1 .0) (y .try-next .ensures))  -- returns-3
+    after-ended rules w d count limit p within some-left open-yet (e .place .result) left went x after size shut (y .try-next .result) (y .try-next .last .1 .1 .0) (y .try-next .ensures))  -- returns-3
     (λ c. search needs)  -- enum-known-walked-2
     (λ c.
     let s = c .before .before .before .before .before .before .before .before .before .before .before .before .before .before .before .before .before .before .before .before .before .before in
-    c .before .before .before .before .before .visit .kept .1 .0 ∙ c .before .before .before .before .before .before .before .before .before .place .ensures .reached .size ∙ sym (s .pre .1 .1 .0 .size))  -- same-length-2
+    c .before .before .before .before .before .visit .kept .1 .1 .0 ∙ c .before .before .before .before .before .before .before .before .before .place .ensures .reached .size ∙ sym (s .pre .1 .1 .1 .0 .size))  -- same-length-2
     (λ c.
     let s = c .before .before .before .before .before .before .before .before .before .before .before .before .before .before .before .before .before .before .before .before .before .before in
     let rules = s .args .rules .now in
     let w = s .args .work .now in
     let d = s .args .depth in
     let h = s .pre .1 .0 in
-    let p = s .pre .1 .1 .0 in
+    let p = s .pre .1 .1 .1 .0 in
     let count = s .args .count in
     let limit = s .args .limit in
-    let within = s .pre .1 .1 .1 in
+    let within = s .pre .1 .1 .1 .1 in
     let some-left = left-some rules h w d p (c .before .before .before .before .before .before .before .before .before .before .before .before .before .before .before .before .before .split-rule .result) (c .before .before .before .before .before .before .before .before .before .before .before .before .before .before .before .before .before .split-rule .ensures) (c .before .before .before .before .before .before .before .before .before .before .before .before .before .before .before .if1 .left) in
     let open-yet : count < limit = omega (arith, within, c .before .before .before .before .before .before .before .before .before .before .before .before .before .before .if2 .left) in
     let e = c .before .before .before .before .before .before .before .before .before in
-    let left = e .place .last .1 .0 in
+    let left = e .place .last .1 .1 .0 in
     let went = e .place .ensures in
     let same = c .before .before .before .before .before .before .before .before .before .before .before .pair .ensures in
     let v = c .before .before .before .before .before in
-    let after = v .visit .last .1 .0 in
+    let after = v .visit .last .1 .1 .0 in
     let g = c .before .walked2 .given in
     tried-opened rules w d count limit p within some-left open-yet (e .place .result) left went (g .0 .0) after
     (ended-same rules left (d + 1) (c .before .before .before .before .before .before .before .before .before .before .before .pair .result) (markAt w d) (runsFrom rules left (d + 1) (count + 1) limit) (count + 1) limit (v .visit .result) (Opened (g .0 .0)) after same (g .1) (v .visit .ensures)))  -- returns-4
     (λ c. search needs)  -- enum-told
     (λ c.
     let s = c .before .before .before .before .before .before .before .before .before .before .before .before .before .before .before .before .before .before .before .before .before in
-    c .before .before .before .before .visit .kept .1 .0 ∙ c .before .before .before .before .before .before .before .before .place .ensures .reached .size ∙ sym (s .pre .1 .1 .0 .size))  -- same-length-3
+    c .before .before .before .before .visit .kept .1 .1 .0 ∙ c .before .before .before .before .before .before .before .before .place .ensures .reached .size ∙ sym (s .pre .1 .1 .1 .0 .size))  -- same-length-3
     (λ c.
     let s = c .before .before .before .before .before .before .before .before .before .before .before .before .before .before .before .before .before .before .before .before .before in
     let rules = s .args .rules .now in
     let w = s .args .work .now in
     let d = s .args .depth in
     let h = s .pre .1 .0 in
-    let p = s .pre .1 .1 .0 in
+    let p = s .pre .1 .1 .1 .0 in
     let count = s .args .count in
     let limit = s .args .limit in
-    let within = s .pre .1 .1 .1 in
+    let within = s .pre .1 .1 .1 .1 in
     let some-left = left-some rules h w d p (c .before .before .before .before .before .before .before .before .before .before .before .before .before .before .before .before .split-rule .result) (c .before .before .before .before .before .before .before .before .before .before .before .before .before .before .before .before .split-rule .ensures) (c .before .before .before .before .before .before .before .before .before .before .before .before .before .before .if1 .left) in
     let open-yet : count < limit = omega (arith, within, c .before .before .before .before .before .before .before .before .before .before .before .before .before .if2 .left) in
     let e = c .before .before .before .before .before .before .before .before in
-    let left = e .place .last .1 .0 in
+    let left = e .place .last .1 .1 .0 in
     let went = e .place .ensures in
     let same = c .before .before .before .before .before .before .before .before .before .before .pair .ensures in
     let v = c .before .before .before .before in
-    let after = v .visit .last .1 .0 in
+    let after = v .visit .last .1 .1 .0 in
     tried-out rules w d count limit p within some-left open-yet (e .place .result) left went after
     (ended-same rules left (d + 1) (c .before .before .before .before .before .before .before .before .before .before .pair .result) (markAt w d) (runsFrom rules left (d + 1) (count + 1) limit) (count + 1) limit (v .visit .result) LimitMet after same
     (walked-exhausted (v .visit .result) (c .before .match .keys3)) (v .visit .ensures))))  -- returns-5
@@ -272,16 +272,16 @@ pub +try-next+visit-spec : {M : Type 1} → statement M
     let h = s .pre .1 .0 in
     let count = s .args .count in
     let limit = s .args .limit in
-    let within = s .pre .1 .1 .1 in
+    let within = s .pre .1 .1 .1 .1 in
     let g = c .before .before .found .given in
-    let at = reached-as rules w d (s .args .done) (s .args .found) (Split (g .0 .0)) (g .1) (s .pre .1 .1 .0) in
+    let at = reached-as rules w d (s .args .done) (s .args .found) (Split (g .0 .0)) (g .1) (s .pre .1 .1 .1 .0) in
     let from : (1025 - d) * 6 + 5 ≡ t = s .pre .0 in
     let less : (1025 - d) * 6 + (4 - nextAt w d) < t = omega (arith, at .ready .1) in
-    (less, (h, (at .ready .0, within))))  -- try-next-requires
+    (less, (h, (s .pre .1 .1 .0, (at .ready .0, within)))))  -- try-next-requires
     (λ c. search needs)  -- enum-known-walked
     (λ c. search needs)  -- sub-undo
     (λ c. search needs)  -- part-undo-start
-    (λ c. omega (arith, c .before .before .before .before .before .try-next .kept .1 .0, c .before .before .before .before .before .before .before .before .before .before .before .before .pre .1 .1 .0 .size))  -- part-undo-end
+    (λ c. omega (arith, c .before .before .before .before .before .try-next .kept .1 .1 .0, c .before .before .before .before .before .before .before .before .before .before .before .before .pre .1 .1 .1 .0 .size))  -- part-undo-end
     (λ c κs.
     let s = c .before .before .before .before .before .before .before .before .before .before .before .before .before in
     let rules = s .args .rules .now in
@@ -290,12 +290,12 @@ pub +try-next+visit-spec : {M : Type 1} → statement M
     let h = s .pre .1 .0 in
     let count = s .args .count in
     let limit = s .args .limit in
-    let within = s .pre .1 .1 .1 in
+    let within = s .pre .1 .1 .1 .1 in
     let g = c .before .before .before .before .before .before .before .before .before .found .given in
-    let at = reached-as rules w d (s .args .done) (s .args .found) (Split (g .0 .0)) (g .1) (s .pre .1 .1 .0) in
+    let at = reached-as rules w d (s .args .done) (s .args .found) (Split (g .0 .0)) (g .1) (s .pre .1 .1 .1 .0) in
     let y = c .before .before .before .before .before .before in
-    let tried = y .try-next .last .1 .0 in
-    let size : length tried ≡ 65536 = y .try-next .kept .1 .0 ∙ s .pre .1 .1 .0 .size in
+    let tried = y .try-next .last .1 .1 .0 in
+    let size : length tried ≡ 65536 = y .try-next .kept .1 .1 .0 ∙ s .pre .1 .1 .1 .0 .size in
     let k = c .before .before .walked .given in
     let shut = ended-same rules w d (markAt w d) (markAt w d) (triesFrom rules w d count limit) count limit (y .try-next .result) (Shut (k .0 .0)) tried refl (k .1) (y .try-next .ensures) in
     let mark : markAt w d ≡ g .0 .0 = at .ready .2 in
@@ -308,15 +308,15 @@ pub +try-next+visit-spec : {M : Type 1} → statement M
     let h = s .pre .1 .0 in
     let count = s .args .count in
     let limit = s .args .limit in
-    let within = s .pre .1 .1 .1 in
+    let within = s .pre .1 .1 .1 .1 in
     let g = c .before .before .before .before .before .before .before .before .before .before .before .before .found .given in
-    let at = reached-as rules w d (s .args .done) (s .args .found) (Split (g .0 .0)) (g .1) (s .pre .1 .1 .0) in
+    let at = reached-as rules w d (s .args .done) (s .args .found) (Split (g .0 .0)) (g .1) (s .pre .1 .1 .1 .0) in
     let y = c .before .before .before .before .before .before .before .before .before in
-    let tried = y .try-next .last .1 .0 in
-    let size : length tried ≡ 65536 = y .try-next .kept .1 .0 ∙ s .pre .1 .1 .0 .size in
+    let tried = y .try-next .last .1 .1 .0 in
+    let size : length tried ≡ 65536 = y .try-next .kept .1 .1 .0 ∙ s .pre .1 .1 .1 .0 .size in
     let k = c .before .before .before .before .before .walked .given in
     let shut = ended-same rules w d (markAt w d) (markAt w d) (triesFrom rules w d count limit) count limit (y .try-next .result) (Shut (k .0 .0)) tried refl (k .1) (y .try-next .ensures) in
-    put-size tried (c .before .before .undo .last .0) size (c .before .before .undo .ensures .store .room) ∙ sym (s .pre .1 .1 .0 .size))  -- same-length
+    put-size tried (c .before .before .undo .last .0) size (c .before .before .undo .ensures .store .room) ∙ sym (s .pre .1 .1 .1 .0 .size))  -- same-length
     (λ c.
     let s = c .before .before .before .before .before .before .before .before .before .before .before .before .before .before .before .before in
     let rules = s .args .rules .now in
@@ -325,17 +325,17 @@ pub +try-next+visit-spec : {M : Type 1} → statement M
     let h = s .pre .1 .0 in
     let count = s .args .count in
     let limit = s .args .limit in
-    let within = s .pre .1 .1 .1 in
+    let within = s .pre .1 .1 .1 .1 in
     let g = c .before .before .before .before .before .before .before .before .before .before .before .before .found .given in
-    let at = reached-as rules w d (s .args .done) (s .args .found) (Split (g .0 .0)) (g .1) (s .pre .1 .1 .0) in
+    let at = reached-as rules w d (s .args .done) (s .args .found) (Split (g .0 .0)) (g .1) (s .pre .1 .1 .1 .0) in
     let y = c .before .before .before .before .before .before .before .before .before in
-    let tried = y .try-next .last .1 .0 in
-    let size : length tried ≡ 65536 = y .try-next .kept .1 .0 ∙ s .pre .1 .1 .0 .size in
+    let tried = y .try-next .last .1 .1 .0 in
+    let size : length tried ≡ 65536 = y .try-next .kept .1 .1 .0 ∙ s .pre .1 .1 .1 .0 .size in
     let k = c .before .before .before .before .before .walked .given in
     let shut = ended-same rules w d (markAt w d) (markAt w d) (triesFrom rules w d count limit) count limit (y .try-next .result) (Shut (k .0 .0)) tried refl (k .1) (y .try-next .ensures) in
     split-shut rules w d (s .args .done) count limit within (g .0 .0) at (k .0 .0) tried size shut (c .before .before .undo .last .0) (c .before .before .undo .ensures))  -- returns
     (λ c. search needs)  -- enum-known-walked-2
-    (λ c. c .before .before .before .before .before .try-next .kept .1 .0)  -- same-length-2
+    (λ c. c .before .before .before .before .before .try-next .kept .1 .1 .0)  -- same-length-2
     (λ c.
     let s = c .before .before .before .before .before .before .before .before .before .before .before .before in
     let rules = s .args .rules .now in
@@ -344,17 +344,17 @@ pub +try-next+visit-spec : {M : Type 1} → statement M
     let h = s .pre .1 .0 in
     let count = s .args .count in
     let limit = s .args .limit in
-    let within = s .pre .1 .1 .1 in
+    let within = s .pre .1 .1 .1 .1 in
     let g = c .before .before .before .before .before .before .before .before .found .given in
-    let at = reached-as rules w d (s .args .done) (s .args .found) (Split (g .0 .0)) (g .1) (s .pre .1 .1 .0) in
+    let at = reached-as rules w d (s .args .done) (s .args .found) (Split (g .0 .0)) (g .1) (s .pre .1 .1 .1 .0) in
     let y = c .before .before .before .before .before in
-    let tried = y .try-next .last .1 .0 in
-    let size : length tried ≡ 65536 = y .try-next .kept .1 .0 ∙ s .pre .1 .1 .0 .size in
+    let tried = y .try-next .last .1 .1 .0 in
+    let size : length tried ≡ 65536 = y .try-next .kept .1 .1 .0 ∙ s .pre .1 .1 .1 .0 .size in
     let k = c .before .walked2 .given in
     split-opened rules w d (s .args .done) count limit within (g .0 .0) at (k .0 .0) tried
     (ended-same rules w d (markAt w d) (markAt w d) (triesFrom rules w d count limit) count limit (y .try-next .result) (Opened (k .0 .0)) tried refl (k .1) (y .try-next .ensures)))  -- returns-2
     (λ c. search needs)  -- enum-told
-    (λ c. c .before .before .before .before .try-next .kept .1 .0)  -- same-length-3
+    (λ c. c .before .before .before .before .try-next .kept .1 .1 .0)  -- same-length-3
     (λ c.
     let s = c .before .before .before .before .before .before .before .before .before .before .before in
     let rules = s .args .rules .now in
@@ -363,19 +363,19 @@ pub +try-next+visit-spec : {M : Type 1} → statement M
     let h = s .pre .1 .0 in
     let count = s .args .count in
     let limit = s .args .limit in
-    let within = s .pre .1 .1 .1 in
+    let within = s .pre .1 .1 .1 .1 in
     let g = c .before .before .before .before .before .before .before .found .given in
-    let at = reached-as rules w d (s .args .done) (s .args .found) (Split (g .0 .0)) (g .1) (s .pre .1 .1 .0) in
+    let at = reached-as rules w d (s .args .done) (s .args .found) (Split (g .0 .0)) (g .1) (s .pre .1 .1 .1 .0) in
     let y = c .before .before .before .before in
-    let tried = y .try-next .last .1 .0 in
-    let size : length tried ≡ 65536 = y .try-next .kept .1 .0 ∙ s .pre .1 .1 .0 .size in
+    let tried = y .try-next .last .1 .1 .0 in
+    let size : length tried ≡ 65536 = y .try-next .kept .1 .1 .0 ∙ s .pre .1 .1 .1 .0 .size in
     split-exhausted rules w d (s .args .done) count limit within (g .0 .0) at tried
     (ended-same rules w d (markAt w d) (markAt w d) (triesFrom rules w d count limit) count limit (y .try-next .result) LimitMet tried refl
     (walked-exhausted (y .try-next .result) (c .before .match2 .keys3)) (y .try-next .ensures)))  -- returns-3
     (λ c. search needs)  -- enum-known-found-2
     (λ c. search needs)  -- sub-undo-2
     (λ c. search needs)  -- part-undo-start-2
-    (λ c. omega (arith, c .before .before .before .before .before .pre .1 .1 .0 .size))  -- part-undo-end-2
+    (λ c. omega (arith, c .before .before .before .before .before .pre .1 .1 .1 .0 .size))  -- part-undo-end-2
     (λ c κs.
     let s = c .before .before .before .before .before .before in
     let rules = s .args .rules .now in
@@ -384,13 +384,13 @@ pub +try-next+visit-spec : {M : Type 1} → statement M
     let h = s .pre .1 .0 in
     let count = s .args .count in
     let limit = s .args .limit in
-    let within = s .pre .1 .1 .1 in
+    let within = s .pre .1 .1 .1 .1 in
     let g = c .before .before .found2 .given in
-    let at = reached-as rules w d (s .args .done) (s .args .found) (Closed (g .0 .0)) (g .1) (s .pre .1 .1 .0) in
+    let at = reached-as rules w d (s .args .done) (s .args .found) (Closed (g .0 .0)) (g .1) (s .pre .1 .1 .1 .0) in
     (at .ready .0, (at .ready .1, omega arith)))  -- undo-requires-2
     (λ c.
     let s = c .before .before .before .before .before .before .before .before .before in
-    put-size (s .args .work .now) (c .before .before .undo2 .last .0) (s .pre .1 .1 .0 .size) (c .before .before .undo2 .ensures .store .room) ∙ sym (s .pre .1 .1 .0 .size))  -- same-length-4
+    put-size (s .args .work .now) (c .before .before .undo2 .last .0) (s .pre .1 .1 .1 .0 .size) (c .before .before .undo2 .ensures .store .room) ∙ sym (s .pre .1 .1 .1 .0 .size))  -- same-length-4
     (λ c.
     let s = c .before .before .before .before .before .before .before .before .before in
     let rules = s .args .rules .now in
@@ -399,9 +399,9 @@ pub +try-next+visit-spec : {M : Type 1} → statement M
     let h = s .pre .1 .0 in
     let count = s .args .count in
     let limit = s .args .limit in
-    let within = s .pre .1 .1 .1 in
+    let within = s .pre .1 .1 .1 .1 in
     let g = c .before .before .before .before .before .found2 .given in
-    let at = reached-as rules w d (s .args .done) (s .args .found) (Closed (g .0 .0)) (g .1) (s .pre .1 .1 .0) in
+    let at = reached-as rules w d (s .args .done) (s .args .found) (Closed (g .0 .0)) (g .1) (s .pre .1 .1 .1 .0) in
     visit-closed rules w d (s .args .done) count limit within (g .0 .0) at (c .before .before .undo2 .last .0) (c .before .before .undo2 .ensures))  -- returns-4
     (λ c. search needs)  -- enum-told-2
     (λ c.
@@ -412,6 +412,6 @@ pub +try-next+visit-spec : {M : Type 1} → statement M
     let h = s .pre .1 .0 in
     let count = s .args .count in
     let limit = s .args .limit in
-    let within = s .pre .1 .1 .1 in
+    let within = s .pre .1 .1 .1 .1 in
     visit-open rules w d (s .args .done) count limit within
-    (reached-as rules w d (s .args .done) (s .args .found) Open (found-open (s .args .found) (c .before .match .keys3)) (s .pre .1 .1 .0))))  -- returns-5
+    (reached-as rules w d (s .args .done) (s .args .found) Open (found-open (s .args .found) (c .before .match .keys3)) (s .pre .1 .1 .1 .0))))  -- returns-5
