@@ -30,16 +30,16 @@ use Rattle.relevancy.specs.Walk.{outcomeIn}
 use Rattle.relevancy.specs.Claims.{groundLent, limitLent}
 use Rattle.relevancy.specs.Engine.{fitResult, fitAnswer}
 use Rattle.relevancy.proofs.EngineLaws.{long-enough}
-use Rattle.magic.specs.Rules.{rewritingOf, groundRules}
-use Rattle.magic.specs.RulesLayout.{rulesLayout}
-use Rattle.magic.specs.Facts.{falseIn, magicIn, findIn}
-use Rattle.magic.specs.Rewrite.{rulesOver}
+use Rattle.rewriting.specs.Rules.{rewritingOf, groundRules}
+use Rattle.rewriting.specs.RulesLayout.{rulesLayout}
+use Rattle.rewriting.specs.Facts.{falseIn, magicIn, findIn}
+use Rattle.rewriting.specs.Rewrite.{rulesOver}
 use Rattle.magic.specs.Walk.{outcomeIn as magicOutcomeIn}
 use Rattle.magic.specs.Engine.{tooShort, magicOutcome, magicResult, magicRules, magicAnswer}
-use Rattle.magic.specs.Claims.{Regrouped}
+use Rattle.rewriting.specs.Claims.{Regrouped}
 use Rattle.magic.proofs.EngineLaws.{long-enough as all-long}
-use Rattle.magic.proofs.RegroupLaws.{find-by}
-use Rattle.magic.proofs.Theorems.{theorems as rewritings}
+use Rattle.rewriting.proofs.RegroupLaws.{find-by}
+use Rattle.rewriting.proofs.Theorems.{theorems as rewritings}
 use Rattle.agreement.specs.Claims.{BothTaken, SameFacts, OneWalk, Theorems}
 
 -- ---- a rules buffer that begins with the rules of a problem, whatever follows them

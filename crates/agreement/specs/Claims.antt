@@ -16,7 +16,7 @@ use Rattle.ground.specs.Names.{instanceKey}
 use Rattle.ground.specs.Verdict.{verdictOf, answerOf}
 use Rattle.relevancy.specs.Claims.{groundLent, limitLent}
 use Rattle.relevancy.specs.Engine.{fitResult, fitAnswer}
-use Rattle.magic.specs.Facts.{falseIn, magicIn, findIn}
+use Rattle.rewriting.specs.Facts.{falseIn, magicIn, findIn}
 use Rattle.magic.specs.Engine.{magicResult, magicRules, magicAnswer}
 
 -- both operations take the call: the buffers lent to each are long enough, and some accepted text reads to the table

@@ -2,8 +2,8 @@
 use Prim.Native.Nat.{ℕ, _+_, _*_}
 use Rattle.ground.specs.declared.check.Judging.{Judging}
 use Rattle.ground.specs.declared.check.Judging.the-variants.{Unjudged, Model as IsModel, Violated}
-use Rattle.magic.specs.declared.rewrite.Rewriting.{Rewriting}
-use Rattle.magic.specs.declared.rewrite.Rewriting.the-variants as rewriting
+use Rattle.rewriting.specs.declared.rewrite.Rewriting.{Rewriting}
+use Rattle.rewriting.specs.declared.rewrite.Rewriting.the-variants as rewriting
 use Rattle.problem.specs.declared.read.Reading.{Reading}
 use Rattle.problem.specs.declared.read.Reading.the-variants.{Refused, Accepted}
 use Rattle.problem.specs.declared.write.Writing.{Writing}

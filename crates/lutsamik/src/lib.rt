@@ -1,15 +1,15 @@
 // The operations, for a host in C: numbers and byte slices go in, and one number comes back.
 use ground::check::Judging;
 use ground::verdict::Verdict;
-use magic::rewrite::Rewriting;
 use problem::read::Reading;
 use problem::write::Writing;
+use rewriting::rewrite::Rewriting;
 ghost use mathlib.Core.Path.{_≡_};
 ghost use Rattle.problem.specs.Table.{readResult, readLeaves, writeResult, writeLeaves};
 ghost use Rattle.ground.specs.ModelCheck.{judgeResult};
 ghost use Rattle.relevancy.specs.Engine.{fitResult, fitAnswer, fitWork};
 ghost use Rattle.magic.specs.Engine.{magicResult, magicRules, magicAnswer, magicWork};
-ghost use Rattle.magic.specs.Rewrite.{rewriteResult, rewriteLeaves};
+ghost use Rattle.rewriting.specs.Rewrite.{rewriteResult, rewriteLeaves};
 ghost use Rattle.lutsamik.specs.Pack.{packReading, packWriting, packJudging, packVerdict, packRewriting};
 
 fn pack_reading(r: Reading) -> u64
@@ -101,7 +101,7 @@ pub extern "C" fn lutsamik_fit_relevancy(table: &[u8], answer: &mut [u8], work: 
 pub extern "C" fn lutsamik_rewrite(table: &[u8], rules: &mut [u8]) -> u64
     ensures { λ n. ⌜ (n ≡ packRewriting (rewriteResult (now (table .entry)) (now (rules .entry)))) × (now (rules .exit) ≡ rewriteLeaves (now (table .entry)) (now (rules .entry))) ⌝ }
 {
-    pack_rewriting(magic::rewrite::rewrite(table, rules))
+    pack_rewriting(rewriting::rewrite::rewrite(table, rules))
 }
 
 // Fits a table by the magic engine, with 16,384 bytes for the rules, 1,024 answer bytes and 65,536 to work in.

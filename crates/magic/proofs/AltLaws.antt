@@ -19,13 +19,13 @@ use Rattle.ground.specs.Instance.{valueOf, number}
 use Rattle.ground.specs.Names.{instanceKey}
 use Rattle.ground.specs.Heading.{NumberedIn}
 use Rattle.ground.proofs.AtomLaws.{number-takes, value-fits}
-use Rattle.magic.specs.Rules.{RuleGives, onward, alternatives}
-use Rattle.magic.specs.RulesLayout.{givenAtoms}
-use Rattle.magic.specs.Facts.{Ruled, falseIn, magicIn, findIn, ruleAt, ruleCount, theRule}
-use Rattle.magic.specs.Choosing.{headsBy}
-use Rattle.magic.specs.Applied.{siteWith, Applied}
+use Rattle.rewriting.specs.Rules.{RuleGives, onward, alternatives}
+use Rattle.rewriting.specs.RulesLayout.{givenAtoms}
+use Rattle.rewriting.specs.Facts.{Ruled, falseIn, magicIn, findIn, ruleAt, ruleCount, theRule}
+use Rattle.magic_node.specs.Choosing.{headsBy}
+use Rattle.magic_node.specs.Applied.{siteWith, Applied}
 use Rattle.magic.specs.Place.{nodeAt, fourAt, splitRule, splitAt, siteAt, altsAt, pathIn, Parted}
-use Rattle.magic.proofs.RuledLaws.{givenAtom, RuleRead, rule-read}
+use Rattle.magic_node.proofs.RuledLaws.{givenAtom, RuleRead, rule-read}
 
 -- two alternatives or more are those that the rule gives
 heads-given : (bs values : List ℕ) (g : RuleGives) → T (disjunctive (headsBy bs values g)) → headsBy bs values g ≡ map (number (getD bs 0 0) (aritiesIn bs) values) (givenAtoms g)

@@ -10,9 +10,9 @@ use Rattle.problem.specs.Table.{Lawful, isValid}
 use Rattle.ground.specs.declared.verdict.Verdict.{Verdict}
 use Rattle.ground.specs.declared.verdict.Verdict.the-variants.{Refused}
 use Rattle.ground.specs.Verdict.{verdictOf, answerOf}
-use Rattle.magic.specs.RulesLayout.{rulesLayout}
-use Rattle.magic.specs.Facts.{Ruled}
-use Rattle.magic.specs.Rewrite.{rulesOver}
+use Rattle.rewriting.specs.RulesLayout.{rulesLayout}
+use Rattle.rewriting.specs.Facts.{Ruled}
+use Rattle.rewriting.specs.Rewrite.{rulesOver}
 use Rattle.magic.specs.Engine.{tooShort, magicOutcome, magicResult, magicRules, magicAnswer, magicWork}
 
 -- the rules of a valid table are the rules of its problem

@@ -20,14 +20,14 @@ use Rattle.ground.specs.Instance.{Instance, groundOf}
 use Rattle.ground.specs.Names.{instanceKey}
 use Rattle.ground.proofs.NodeRecord.{stored-byte, stored-first, stored-before, stored-part, take-four}
 use Rattle.ground.proofs.Instances.{atoms-are, atoms-few, ground-proper}
-use Rattle.magic.specs.declared.choose.Choice.the-variants.{At}
-use Rattle.magic.specs.Rules.{rewritingOf, groundRules}
-use Rattle.magic.specs.Claims.{ReadBack}
-use Rattle.magic.specs.Facts.{Ruled, falseIn, magicIn, findIn, theRule}
-use Rattle.magic.specs.Choosing.{Site, choiceOf, Listed}
+use Rattle.magic_node.specs.declared.choose.Choice.the-variants.{At}
+use Rattle.rewriting.specs.Rules.{rewritingOf, groundRules}
+use Rattle.rewriting.specs.Claims.{ReadBack}
+use Rattle.rewriting.specs.Facts.{Ruled, falseIn, magicIn, findIn, theRule}
+use Rattle.magic_node.specs.Choosing.{Site, choiceOf, Listed}
 use Rattle.magic.specs.Place.{nodeAt, splitAt, nextAt, branchOf, pathIn, factsIn, PathKept, Noted}
-use Rattle.magic.proofs.LayoutLaws.{rules-back}
-use Rattle.magic.proofs.RegroupLaws.{regrouped}
+use Rattle.rewriting.proofs.LayoutLaws.{rules-back}
+use Rattle.rewriting.proofs.RegroupLaws.{regrouped}
 
 -- ---- the path looks at its own bytes alone
 

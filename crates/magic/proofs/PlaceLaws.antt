@@ -18,19 +18,19 @@ use Rattle.store.specs.Store.{Store, Added, logged, isSet}
 use Rattle.store.proofs.Laws.{added-in}
 use Rattle.store.proofs.Lent.{zeros-store, added-carries, added-each}
 use Rattle.ground.specs.Instance.{Instance}
-use Rattle.magic.specs.Facts.{Ruled, falseIn, findIn, theRule, relevantFact}
-use Rattle.magic.specs.Choosing.{Site, Listed}
-use Rattle.magic.specs.Watch.{placeOf, askedAt, goalsAt, Met, WorkedOff, Rested, continuationsIn}
-use Rattle.magic.specs.Node.{Opening, Started, Seeded, ClosedNode, OpenNode, SplitNode, Settled}
+use Rattle.rewriting.specs.Facts.{Ruled, falseIn, findIn, theRule, relevantFact}
+use Rattle.magic_node.specs.Choosing.{Site, Listed}
+use Rattle.magic_node.specs.Watch.{placeOf, askedAt, goalsAt, Met, WorkedOff, Rested, continuationsIn}
+use Rattle.magic_node.specs.Node.{Opening, Started, Seeded, ClosedNode, OpenNode, SplitNode, Settled}
 use Rattle.magic.specs.Place.{nodeAt, splitAt, instanceOf, altsOf, siteAt, nextAt, markAt, altsAt, entryAt, branchOf, pathIn, factsIn, PathKept, Fresh, Parted, Noted, Entered, foundIn, placeIn, nextIn, Finding, Making, Beginning, Blank}
-use Rattle.magic.specs.declared.node.Node.{Node}
-use Rattle.magic.specs.declared.node.Node.the-variants.{Closed as ClosedAt, Open as OpenAt, Split as SplitAt}
+use Rattle.magic_node.specs.declared.node.Node.{Node}
+use Rattle.magic_node.specs.declared.node.Node.the-variants.{Closed as ClosedAt, Open as OpenAt, Split as SplitAt}
 use Rattle.magic.specs.declared.place.Found.{Found as Told}
 use Rattle.magic.specs.declared.place.Found.the-variants.{Closed as ToldClosed, Open as ToldOpen, Split as ToldSplit}
-use Rattle.magic.proofs.node.Node.{the-type as node-type}
-use Rattle.magic.proofs.RuledLaws.{ruled-few, rule-read}
+use Rattle.magic_node.proofs.node.Node.{the-type as node-type}
+use Rattle.magic_node.proofs.RuledLaws.{ruled-few, rule-read}
 use Rattle.magic.proofs.PathLaws.{split-same, split-kept, next-kept, path-same, path-more, path-deep, path-small, false-few, put-facts, put-size, put-rest, split-back}
-use Rattle.magic.proofs.WatchLaws.{met-grows, continuations-all, continuations-same}
+use Rattle.magic_node.proofs.WatchLaws.{met-grows, continuations-all, continuations-same}
 
 -- ---- what follows from a list, and one atom more
 

@@ -13,10 +13,10 @@ use Rattle.search.proofs.Machine.{proceed-open, proceed-closed, proceed-split}
 use Rattle.search.proofs.Limit.{resume-exhausted}
 use Rattle.store.specs.Store.{Store, Undone, logged}
 use Rattle.ground.specs.Instance.{Instance}
-use Rattle.magic.specs.Facts.{Ruled, findIn, ruleAt}
-use Rattle.magic.specs.Choosing.{Site, Listed}
-use Rattle.magic.specs.Watch.{placeOf, Rested}
-use Rattle.magic.specs.Node.{Seeded}
+use Rattle.rewriting.specs.Facts.{Ruled, findIn, ruleAt}
+use Rattle.magic_node.specs.Choosing.{Site, Listed}
+use Rattle.magic_node.specs.Watch.{placeOf, Rested}
+use Rattle.magic_node.specs.Node.{Seeded}
 use Rattle.magic.specs.Place.{nodeAt, splitRule, splitAt, instanceOf, altsOf, siteAt, nextAt, markAt, altsAt, entryAt, pathIn, factsIn, PathKept, Parted, bitsIn, Reached, Making}
 use Rattle.magic.specs.Walk.{AllShut, Ended, runsFrom, triesFrom, outcomeIn, TellsOutcome}
 use Rattle.magic.specs.declared.place.Found.{Found as Told}

@@ -11,7 +11,7 @@ use Rattle.problem.specs.Table.{isValid}
 use Rattle.ground.specs.declared.verdict.Verdict.{Verdict}
 use Rattle.ground.specs.declared.verdict.Verdict.the-variants.{Refused}
 use Rattle.ground.specs.Verdict.{verdictOf, answerOf}
-use Rattle.magic.specs.Rewrite.{rulesOver}
+use Rattle.rewriting.specs.Rewrite.{rulesOver}
 use Rattle.magic.specs.Walk.{outcomeIn}
 
 abbrev pub tooShort : List ℕ → List ℕ → List ℕ → List ℕ → Bool

@@ -1,15 +1,3 @@
-pub mod Rules
-pub mod RulesLayout
-pub mod Rewrite
-pub mod Facts
-pub mod Choosing
-pub mod Watch
-pub mod Node
-pub mod Applied
-pub mod Fire
-pub mod Index
 pub mod Place
 pub mod Walk
 pub mod Engine
-pub mod Cases
-pub mod Claims

@@ -12,10 +12,10 @@ use Rattle.search.specs.Relevancy.{branches, modelBits}
 use Rattle.search.specs.Machine.{Branch, Place, entered, enter, back, placed, root, Genuine}
 use Rattle.store.specs.Store.{Store, logged, isSet}
 use Rattle.ground.specs.Instance.{Instance}
-use Rattle.magic.specs.Facts.{falseIn, findIn, theRule, relevantFact}
-use Rattle.magic.specs.Choosing.{siteOf, headsOf, Site, Listed}
-use Rattle.magic.specs.Watch.{placeOf, Rested}
-use Rattle.magic.specs.Node.{Opening, Seeded}
+use Rattle.rewriting.specs.Facts.{falseIn, findIn, theRule, relevantFact}
+use Rattle.magic_node.specs.Choosing.{siteOf, headsOf, Site, Listed}
+use Rattle.magic_node.specs.Watch.{placeOf, Rested}
+use Rattle.magic_node.specs.Node.{Opening, Seeded}
 use Rattle.magic.specs.declared.place.Found.{Found as Told}
 use Rattle.magic.specs.declared.place.Found.the-variants.{Closed, Open, Split}
 

@@ -4,7 +4,7 @@ use mathlib.Core.List.{List}
 use mathlib.Core.Path.{_≡_}
 use Rattle.search.specs.Machine.{Outcome, Satisfied, Refuted, Exhausted, back, place, proceed, outcome, resume}
 use Rattle.store.specs.Store.{Undone}
-use Rattle.magic.specs.Facts.{findIn}
+use Rattle.rewriting.specs.Facts.{findIn}
 use Rattle.magic.specs.Place.{pathIn, factsIn, PathKept, bitsIn, nextIn}
 use Rattle.magic.specs.declared.walk.Walked.{Walked}
 use Rattle.magic.specs.declared.walk.Walked.the-variants.{Shut, Opened, Exhausted as LimitMet}

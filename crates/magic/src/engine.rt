@@ -1,5 +1,4 @@
 // The magic engine's operation.
-use crate::rewrite::write_rules;
 use crate::walk::Walked;
 use crate::walk::walk;
 use ground::atom::pair;
@@ -7,13 +6,14 @@ use ground::verdict::Verdict;
 use ground::verdict::give;
 use ground::verdict::limit_in;
 use problem::write::valid;
+use rewriting::rewrite::write_rules;
 ghost use mathlib.Core.Path.{_≡_};
 ghost use Prim.Native.Nat.{_≤_};
 ghost use lib.ListN.{length, replicate};
 ghost use Rattle.problem.specs.Table.{Lawful};
 ghost use Rattle.ground.specs.Verdict.{verdictOf, answerOf};
-ghost use Rattle.magic.specs.Facts.{Ruled};
-ghost use Rattle.magic.specs.Rewrite.{rulesOver};
+ghost use Rattle.rewriting.specs.Facts.{Ruled};
+ghost use Rattle.rewriting.specs.Rewrite.{rulesOver};
 ghost use Rattle.magic.specs.Walk.{outcomeIn};
 ghost use Rattle.magic.specs.Engine.{magicOutcome, magicResult, magicRules, magicAnswer, magicWork};
 

@@ -1,10 +1,4 @@
-// The magic engine: the rewriting of a table into magic rules, and the walk by those rules alone.
-pub mod choose;
-pub mod close;
+// The magic engine: the walk by the rules of a buffer alone, and the operation over lent buffers.
 pub mod engine;
-pub mod fact;
-pub mod index;
-pub mod node;
 pub mod place;
-pub mod rewrite;
 pub mod walk;

@@ -1,17 +1,17 @@
 // A place of the walk: making the next one, from the path and the next alternative at each node.
-use crate::close::start;
-use crate::fact::place_at;
-use crate::node::Node;
-use crate::node::settle;
 use ground::atom::number_in;
 use ground::atom::pair;
+use magic_node::close::start;
+use magic_node::fact::place_at;
+use magic_node::node::Node;
+use magic_node::node::settle;
 use store::add;
 ghost use mathlib.Core.Path.{_≡_};
 ghost use Prim.Native.Nat.{_+_, _*_, _/_, _≤_, _<_};
 ghost use lib.ListN.{length};
-ghost use Rattle.magic.specs.Facts.{Ruled};
-ghost use Rattle.magic.specs.Index.{Indexed};
-ghost use Rattle.magic.specs.Watch.{placeOf};
+ghost use Rattle.rewriting.specs.Facts.{Ruled};
+ghost use Rattle.magic_node.specs.Index.{Indexed};
+ghost use Rattle.magic_node.specs.Watch.{placeOf};
 ghost use Rattle.magic.specs.Place.{splitAt, nextAt, altsAt, Fresh, Parted, Noted, Entered, Finding, Making, Beginning, Blank};
 
 // How a place is found: closed or split, with the number of its facts, or open. The split is written down in the path.

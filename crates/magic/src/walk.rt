@@ -1,16 +1,16 @@
 // The walk: visiting a node, which calls the trying of alternatives, which calls visiting.
-use crate::index::build;
 use crate::place::Found;
 use crate::place::place;
 use crate::place::root;
 use crate::place::split_rule;
 use ground::atom::pair;
+use magic_node::index::build;
 use store::undo;
 ghost use mathlib.Core.Path.{_≡_};
 ghost use Prim.Native.Nat.{_+_, _*_, _≤_};
 ghost use lib.ListN.{length};
-ghost use Rattle.magic.specs.Facts.{Ruled};
-ghost use Rattle.magic.specs.Index.{Indexed};
+ghost use Rattle.rewriting.specs.Facts.{Ruled};
+ghost use Rattle.magic_node.specs.Index.{Indexed};
 ghost use Rattle.magic.specs.Place.{markAt, Parted, Reached};
 ghost use Rattle.magic.specs.Walk.{Ended, runsFrom, triesFrom, TellsOutcome};
 

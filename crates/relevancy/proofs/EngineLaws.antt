@@ -19,7 +19,7 @@ use Rattle.problem.specs.Layout.{problemIn}
 use Rattle.problem.specs.Table.{isValid}
 use Rattle.ground.specs.declared.verdict.Verdict.{Verdict}
 use Rattle.ground.specs.declared.verdict.Verdict.the-variants.{Refused, Satisfied as IsSatisfied, Refuted as IsRefuted, Exhausted as IsExhausted}
-use Rattle.relevancy.specs.Node.{groundIn}
+use Rattle.relevancy_node.specs.Node.{groundIn}
 use Rattle.relevancy.specs.Place.{factsIn, bitsIn, Blank}
 use Rattle.relevancy.specs.Walk.{outcomeIn}
 use Rattle.ground.specs.Verdict.{verdictOf, answerOf}

@@ -1,9 +1,3 @@
-pub mod CloseLaws
-pub mod MarkLaws
-pub mod IndexLaws
-pub mod LookLaws
-pub mod ChooseLaws
-pub mod NodeLaws
 pub mod PathLaws
 pub mod PlaceLaws
 pub mod WalkLaws

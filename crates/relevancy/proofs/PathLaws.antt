@@ -19,8 +19,8 @@ use Rattle.ground.proofs.AtomLaws.{Row, slotNumber, clause-fits, alts-count, al
 use Rattle.ground.proofs.Instances.{atoms-few, ground-proper}
 use Rattle.ground.proofs.NodeRecord.{stored-byte, stored-first, stored-before, stored-part, take-four}
 use Rattle.ground.proofs.Turns.{ClauseKnown, clause-known, numbers-take}
-use Rattle.relevancy.specs.declared.choose.Choice.the-variants.{At}
-use Rattle.relevancy.specs.Node.{groundIn, choiceOf, Listed}
+use Rattle.relevancy_node.specs.declared.choose.Choice.the-variants.{At}
+use Rattle.relevancy_node.specs.Node.{groundIn, choiceOf, Listed}
 use Rattle.relevancy.specs.Place.{nodeAt, fourAt, siteAt, nextAt, altsAt, branchOf, pathIn, factsIn, PathKept, Noted}
 use mathlib.Core.Option.{some}
 

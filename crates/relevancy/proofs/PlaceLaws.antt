@@ -25,13 +25,13 @@ use Rattle.problem.specs.Layout.{problemIn}
 use Rattle.problem.specs.Table.{Lawful}
 use Rattle.ground.specs.Instance.{Instance}
 use Rattle.ground.proofs.Instances.{ground-proper}
-use Rattle.relevancy.specs.Node.{groundIn, Opening, Started, Rests, Seeded, Stands, Listed, ClosedNode, OpenNode, SplitNode, Settled}
+use Rattle.relevancy_node.specs.Node.{groundIn, Opening, Started, Rests, Seeded, Stands, Listed, ClosedNode, OpenNode, SplitNode, Settled}
 use Rattle.relevancy.specs.Place.{nodeAt, siteAt, nextAt, markAt, altsAt, entryAt, branchOf, pathIn, factsIn, PathKept, Fresh, Parted, Noted, Entered, foundIn, placeIn, nextIn, Finding, Making, Beginning, Blank}
-use Rattle.relevancy.specs.declared.node.Node.{Node}
-use Rattle.relevancy.specs.declared.node.Node.the-variants.{Closed as ClosedAt, Open as OpenAt, Split as SplitAt}
+use Rattle.relevancy_node.specs.declared.node.Node.{Node}
+use Rattle.relevancy_node.specs.declared.node.Node.the-variants.{Closed as ClosedAt, Open as OpenAt, Split as SplitAt}
 use Rattle.relevancy.specs.declared.place.Found.{Found as Told}
 use Rattle.relevancy.specs.declared.place.Found.the-variants.{Closed as ToldClosed, Open as ToldOpen, Split as ToldSplit}
-use Rattle.relevancy.proofs.node.Node.{the-type as node-type}
+use Rattle.relevancy_node.proofs.node.Node.{the-type as node-type}
 use Rattle.relevancy.proofs.PathLaws.{site-same, path-same, path-more, path-deep, put-facts, put-size, put-rest, site-back}
 
 -- ---- what is true under a list, and one atom more

@@ -30,7 +30,7 @@ use Rattle.ground.specs.ModelCheck.{isSet, judgeResult}
 use Rattle.ground.proofs.Instances.{atoms-are, atoms-few, ground-proper}
 use Rattle.ground.proofs.CheckLaws.{model-checked}
 use Rattle.ground.specs.declared.verdict.Verdict.the-variants.{Refused, Satisfied as IsSatisfied, Refuted as IsRefuted, Exhausted as IsExhausted}
-use Rattle.relevancy.specs.Node.{groundIn}
+use Rattle.relevancy_node.specs.Node.{groundIn}
 use Rattle.relevancy.specs.Walk.{outcomeIn}
 use Rattle.ground.specs.Verdict.{verdictOf, answerOf}
 use Rattle.relevancy.specs.Engine.{fitResult, fitAnswer}

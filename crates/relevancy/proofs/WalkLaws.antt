@@ -20,7 +20,7 @@ use Rattle.problem.specs.Problem.{limitOf}
 use Rattle.problem.specs.Layout.{problemIn}
 use Rattle.problem.specs.Table.{Lawful}
 use Rattle.ground.specs.Instance.{Instance}
-use Rattle.relevancy.specs.Node.{groundIn, Rests, Stands, Listed}
+use Rattle.relevancy_node.specs.Node.{groundIn, Rests, Stands, Listed}
 use Rattle.relevancy.specs.Place.{nodeAt, siteAt, nextAt, markAt, altsAt, entryAt, pathIn, factsIn, PathKept, Parted, bitsIn, Reached, Making}
 use Rattle.relevancy.specs.Walk.{AllShut, Ended, runsFrom, triesFrom, outcomeIn, TellsOutcome}
 use Rattle.relevancy.specs.declared.place.Found.{Found as Told}

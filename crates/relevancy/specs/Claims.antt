@@ -17,7 +17,7 @@ use Rattle.ground.specs.Instance.{Instance}
 use Rattle.ground.specs.ModelCheck.{isSet, judgeResult}
 use Rattle.ground.specs.declared.verdict.Verdict.{Verdict}
 use Rattle.ground.specs.declared.verdict.Verdict.the-variants.{Refused, Satisfied as IsSatisfied, Refuted as IsRefuted, Exhausted as IsExhausted}
-use Rattle.relevancy.specs.Node.{groundIn}
+use Rattle.relevancy_node.specs.Node.{groundIn}
 use Rattle.relevancy.specs.Engine.{fitResult, fitAnswer}
 
 -- the buffers are long enough, and some accepted text reads to the table

@@ -13,7 +13,7 @@ use Rattle.search.specs.Machine.{Branch, Place, entered, enter, back, placed, r
 use Rattle.store.specs.Store.{Store, logged, isSet}
 use Rattle.problem.specs.Layout.{problemIn}
 use Rattle.ground.specs.Instance.{Instance, clauseOf}
-use Rattle.relevancy.specs.Node.{groundIn, Opening, Rests, Seeded, Stands, Listed}
+use Rattle.relevancy_node.specs.Node.{groundIn, Opening, Rests, Seeded, Stands, Listed}
 use Rattle.relevancy.specs.declared.place.Found.{Found as Told}
 use Rattle.relevancy.specs.declared.place.Found.the-variants.{Closed, Open, Split}
 

@@ -7,7 +7,7 @@ use Rattle.search.specs.Machine.{Outcome, Satisfied, Refuted, Exhausted, back, 
 use Rattle.store.specs.Store.{Undone}
 use Rattle.problem.specs.Problem.{limitOf}
 use Rattle.problem.specs.Layout.{problemIn}
-use Rattle.relevancy.specs.Node.{groundIn}
+use Rattle.relevancy_node.specs.Node.{groundIn}
 use Rattle.relevancy.specs.Place.{pathIn, factsIn, PathKept, bitsIn, nextIn}
 use Rattle.relevancy.specs.declared.walk.Walked.{Walked}
 use Rattle.relevancy.specs.declared.walk.Walked.the-variants.{Shut, Opened, Exhausted as LimitMet}

@@ -1,9 +1,4 @@
-// The relevancy engine: it marks the relevant facts afresh at each node.
-pub mod choose;
-pub mod close;
+// The relevancy engine: the walk of a table, and the operation over lent buffers. It marks the relevant facts afresh at each node.
 pub mod engine;
-pub mod index;
-pub mod mark;
-pub mod node;
 pub mod place;
 pub mod walk;

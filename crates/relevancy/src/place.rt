@@ -1,16 +1,16 @@
 // A place of the walk: making the next one, from the path and the next alternative at each node.
-use crate::close::start;
-use crate::node::Node;
-use crate::node::settle;
 use ground::atom::number_at;
 use ground::atom::pair;
+use relevancy_node::close::start;
+use relevancy_node::node::Node;
+use relevancy_node::node::settle;
 use store::add;
 ghost use mathlib.Core.Bool.{true, false};
 ghost use mathlib.Core.Path.{_≡_};
 ghost use Prim.Native.Nat.{_≤_, _<_};
 ghost use lib.ListN.{length};
 ghost use Rattle.problem.specs.Table.{Lawful};
-ghost use Rattle.relevancy.specs.Index.{Indexed};
+ghost use Rattle.relevancy_node.specs.Index.{Indexed};
 ghost use Rattle.relevancy.specs.Place.{nextAt, altsAt, Fresh, Parted, Noted, Entered, Finding, Making, Beginning, Blank};
 
 // How a place is found: closed or split, with the number of its facts, or open. The split is written down in the path.

@@ -1,17 +1,17 @@
 // The walk: visiting a node, which calls the trying of alternatives, which calls visiting.
-use crate::index::build;
 use crate::place::Found;
 use crate::place::place;
 use crate::place::root;
 use ground::atom::pair;
 use ground::verdict::limit_in;
+use relevancy_node::index::build;
 use store::undo;
 ghost use mathlib.Core.Bool.{true, false};
 ghost use mathlib.Core.Path.{_≡_};
 ghost use Prim.Native.Nat.{_+_, _*_, _≤_};
 ghost use lib.ListN.{length};
 ghost use Rattle.problem.specs.Table.{Lawful};
-ghost use Rattle.relevancy.specs.Index.{Indexed};
+ghost use Rattle.relevancy_node.specs.Index.{Indexed};
 ghost use Rattle.relevancy.specs.Place.{markAt, Parted, Reached};
 ghost use Rattle.relevancy.specs.Walk.{Ended, runsFrom, triesFrom, TellsOutcome};
 

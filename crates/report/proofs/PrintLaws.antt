@@ -32,10 +32,10 @@ use Rattle.relevancy.specs.Walk.{outcomeIn}
 use Rattle.ground.specs.Verdict.{verdictOf, answerOf}
 use Rattle.relevancy.specs.Engine.{fitResult, fitAnswer}
 use Rattle.relevancy.proofs.EngineLaws.{long-enough}
-use Rattle.magic.specs.RulesLayout.{rulesLayout}
+use Rattle.rewriting.specs.RulesLayout.{rulesLayout}
 use Rattle.magic.specs.Walk.{outcomeIn as rulesOutcomeIn}
 use Rattle.magic.specs.Engine.{magicOutcome, magicResult, magicAnswer}
-use Rattle.magic.proofs.RegroupLaws.{find-by}
+use Rattle.rewriting.proofs.RegroupLaws.{find-by}
 use Rattle.magic.proofs.EngineLaws.{long-enough as all-long}
 use Rattle.report.specs.Told.{told}
 use Rattle.report.proofs.ToldLaws.{told-outcome}

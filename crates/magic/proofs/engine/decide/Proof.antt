@@ -10,10 +10,10 @@ use Rattle.search.specs.Machine.{Satisfied}
 use Rattle.store.specs.Store.{isSet}
 use Rattle.ground.proofs.VerdictLaws.{told-satisfied, told-refuted, told-exhausted}
 use Rattle.magic.specs.declared.walk.Walked.{Walked}
-use Rattle.magic.specs.Facts.{falseIn}
+use Rattle.rewriting.specs.Facts.{falseIn}
 use Rattle.magic.specs.Place.{factsIn}
 use Rattle.magic.specs.Walk.{TellsOutcome, outcomeIn}
-use Rattle.magic.proofs.RuledLaws.{ruled-headed, ruled-false}
+use Rattle.magic_node.proofs.RuledLaws.{ruled-headed, ruled-false}
 use Rattle.magic.proofs.engine.decide.Statement.{statement}
 use Rattle.magic.proofs.engine.decide.Tie as tie
 

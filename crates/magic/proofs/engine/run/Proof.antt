@@ -11,8 +11,8 @@ use Rattle.problem.specs.Layout.{problemIn}
 use Rattle.ground.specs.Verdict.{verdictOf, answerOf}
 use Rattle.ground.proofs.AtomLaws.{table-size}
 use Rattle.ground.proofs.VerdictLaws.{limit-of}
-use Rattle.magic.specs.Facts.{Ruled}
-use Rattle.magic.specs.Rewrite.{rulesOver}
+use Rattle.rewriting.specs.Facts.{Ruled}
+use Rattle.rewriting.specs.Rewrite.{rulesOver}
 use Rattle.magic.specs.Walk.{outcomeIn}
 use Rattle.magic.specs.Engine.{magicOutcome}
 use Rattle.magic.proofs.EngineLaws.{ruled}

@@ -11,7 +11,7 @@ use Rattle.problem.specs.Layout.{atomIn, aritiesIn}
 use Rattle.ground.specs.Instance.{number}
 use Rattle.ground.specs.Heading.{NumberedIn}
 use Rattle.magic.specs.Place.{nodeAt, fourAt, splitRule, nextAt, markAt, altsAt, factsIn}
-use Rattle.magic.proofs.RuledLaws.{RuleRead, ruled-headed}
+use Rattle.magic_node.proofs.RuledLaws.{RuleRead, ruled-headed}
 use Rattle.magic.proofs.PathLaws.{path-deep, false-few, put-size}
 use Rattle.magic.proofs.AltLaws.{alts-read, alts-few, alt-number, alt-numbered}
 use Rattle.magic.proofs.PlaceLaws.{next-small, entered-next}

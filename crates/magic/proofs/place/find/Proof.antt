@@ -4,7 +4,7 @@ use native.Mathlib.Omega.{arith}
 use borrow.Author.Needs.{needs}
 use lib.ListN.{length}
 use Rattle.store.proofs.Laws.{store-few}
-use Rattle.magic.specs.declared.node.Node.the-variants.{Closed, Open, Split}
+use Rattle.magic_node.specs.declared.node.Node.the-variants.{Closed, Open, Split}
 use Rattle.magic.specs.Place.{factsIn}
 use Rattle.magic.proofs.PathLaws.{path-deep, put-size}
 use Rattle.magic.proofs.PlaceLaws.{split-number, split-vars, found-open, found-closed, found-split, node-open, settled-as}

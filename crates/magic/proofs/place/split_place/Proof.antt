@@ -3,10 +3,10 @@ use Prim.Native.Nat.{ℕ, _≤_}
 use mathlib.Core.Path.{sym, ap, subst, _∙_}
 use native.Mathlib.Omega.{arith}
 use borrow.Author.Needs.{needs}
-use Rattle.magic.specs.Applied.{siteWith, Applied}
-use Rattle.magic.specs.Watch.{placeOf}
+use Rattle.magic_node.specs.Applied.{siteWith, Applied}
+use Rattle.magic_node.specs.Watch.{placeOf}
 use Rattle.magic.specs.Place.{nodeAt, fourAt, splitRule}
-use Rattle.magic.proofs.RuledLaws.{RuleRead}
+use Rattle.magic_node.proofs.RuledLaws.{RuleRead}
 use Rattle.magic.proofs.PathLaws.{path-deep}
 use Rattle.magic.proofs.AltLaws.{alts-read, split-applied, split-with}
 use Rattle.magic.proofs.place.split_place.Statement.{statement}

@@ -12,7 +12,7 @@ use Rattle.magic.specs.declared.place.Found.the-variants.{Closed, Open, 
 use Rattle.magic.specs.declared.walk.Walked.the-variants.{Shut, Opened, Exhausted as LimitMet}
 use Rattle.magic.specs.Place.{splitRule, nextAt, markAt, factsIn, Reached}
 use Rattle.magic.specs.Walk.{runsFrom, triesFrom}
-use Rattle.magic.proofs.RuledLaws.{RuleRead}
+use Rattle.magic_node.proofs.RuledLaws.{RuleRead}
 use Rattle.magic.proofs.PathLaws.{path-deep, put-size}
 use Rattle.magic.proofs.AltLaws.{alts-read}
 use Rattle.magic.proofs.WalkLaws.{visit-open, visit-closed, split-shut, split-opened, split-exhausted, tried-none, tried-exhausted, tried-opened, tried-out, after-next, after-parted, after-ended, walked-exhausted, found-open, reached-as, ended-same, left-some, left-none, left-four}

@@ -13,10 +13,10 @@ use Rattle.ground.proofs.AtomLaws.{table-size}
 use Rattle.ground.proofs.VerdictLaws.{limit-of, told-satisfied, told-refuted, told-exhausted}
 use Rattle.ground.proofs.Instances.{atoms-few}
 use Rattle.relevancy.specs.declared.walk.Walked.{Walked}
-use Rattle.relevancy.specs.Node.{groundIn}
+use Rattle.relevancy_node.specs.Node.{groundIn}
 use Rattle.relevancy.specs.Place.{factsIn}
 use Rattle.relevancy.specs.Walk.{TellsOutcome, outcomeIn}
-use Rattle.relevancy.proofs.CloseLaws.{false-bytes}
+use Rattle.relevancy_node.proofs.CloseLaws.{false-bytes}
 use Rattle.relevancy.proofs.engine.decide.Statement.{statement}
 use Rattle.relevancy.proofs.engine.decide.Tie as tie
 

@@ -4,7 +4,7 @@ use native.Mathlib.Omega.{arith}
 use borrow.Author.Needs.{needs}
 use lib.ListN.{length}
 use Rattle.store.proofs.Laws.{store-few}
-use Rattle.relevancy.specs.declared.node.Node.the-variants.{Closed, Open, Split}
+use Rattle.relevancy_node.specs.declared.node.Node.the-variants.{Closed, Open, Split}
 use Rattle.relevancy.specs.Place.{factsIn}
 use Rattle.relevancy.proofs.PathLaws.{path-deep, put-size}
 use Rattle.relevancy.proofs.PlaceLaws.{found-open, found-closed, found-split, node-open, settled-as}
