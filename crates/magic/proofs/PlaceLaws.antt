@@ -20,7 +20,7 @@ use Rattle.store.proofs.Lent.{zeros-store, added-carries, added-each}
 use Rattle.ground.specs.Instance.{Instance}
 use Rattle.rewriting.specs.Facts.{Ruled, falseIn, findIn, theRule, relevantFact}
 use Rattle.magic_node.specs.Choosing.{Site, Listed}
-use Rattle.magic_node.specs.Watch.{placeOf, askedAt, goalsAt, Met, WorkedOff, Rested, continuationsIn}
+use Rattle.magic_node.specs.Watch.{sitePlace, askedAt, goalsAt, Met, WorkedOff, Rested, continuationsIn}
 use Rattle.magic_node.specs.Node.{Opening, Started, Seeded, ClosedNode, OpenNode, SplitNode, Settled}
 use Rattle.magic.specs.Place.{nodeAt, splitAt, instanceOf, altsOf, siteAt, nextAt, markAt, altsAt, entryAt, branchOf, pathIn, factsIn, PathKept, Fresh, Parted, Noted, Entered, foundIn, placeIn, nextIn, Finding, Making, Beginning, Blank}
 use Rattle.magic_node.specs.declared.node.Node.{Node}
@@ -150,8 +150,8 @@ module _ (bs : List ℕ) (h : Ruled bs) (work : List ℕ) (depth : ℕ) (node : 
                 record {
                   size = put-size counted facts counted-size (put .store .room);
                   genuine = subst (Genuine find) (sym left-path) branch-genuine;
-                  opening = subst (λ (r : List ℕ). Opening bs r n (markAt work depth) (placeOf bs (splitAt bs work depth))) (sym left-facts)
-                      (added-opening bs (factsIn work) (markAt work depth) (placeOf bs (splitAt bs work depth)) (node .rested) (getD alts next 0) (omega (arith, next-small, false-few bs h)) facts n put);
+                  opening = subst (λ (r : List ℕ). Opening bs r n (markAt work depth) (sitePlace bs (splitAt bs work depth))) (sym left-facts)
+                      (added-opening bs (factsIn work) (markAt work depth) (sitePlace bs (splitAt bs work depth)) (node .rested) (getD alts next 0) (omega (arith, next-small, false-few bs h)) facts n put);
                   seeded = subst (λ (p : List (Branch Instance)). Seeded bs (entered p) (factsIn left) n) (sym left-path)
                       (subst (λ (r : List ℕ). Seeded bs (getD alts next 0 ∷ entered path) r n) (sym left-facts)
                       (added-seeded bs (entered path) (factsIn work) (markAt work depth) (node .seeded) (getD alts next 0) next-small facts n put));
@@ -275,8 +275,8 @@ module _ (bs : List ℕ) (work : List ℕ) (depth n done from : ℕ) (fresh : Fr
               (found .found (entered (pathIn bs noted-left depth)) seeded);
           store = rw (wrote .mark, wrote-facts) (found .rests .leaves .store);
           rested =
-              subst (λ (s : Site). Rested bs (placeOf bs s) (logged (factsIn noted-left) 18434 (markAt noted-left depth))) (sym wrote-split)
-              (subst (Rested bs (placeOf bs (found .site))) (sym wrote-log) (found .passed));
+              subst (λ (s : Site). Rested bs (sitePlace bs s) (logged (factsIn noted-left) 18434 (markAt noted-left depth))) (sym wrote-split)
+              (subst (Rested bs (sitePlace bs (found .site))) (sym wrote-log) (found .passed));
           seeded = rw (wrote .mark, wrote-facts) (found .rests .follows (entered (pathIn bs noted-left depth)) seeded);
         }
 

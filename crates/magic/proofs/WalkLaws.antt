@@ -15,7 +15,7 @@ use Rattle.store.specs.Store.{Store, Undone, logged}
 use Rattle.ground.specs.Instance.{Instance}
 use Rattle.rewriting.specs.Facts.{Ruled, findIn, ruleAt}
 use Rattle.magic_node.specs.Choosing.{Site, Listed}
-use Rattle.magic_node.specs.Watch.{placeOf, Rested}
+use Rattle.magic_node.specs.Watch.{sitePlace, Rested}
 use Rattle.magic_node.specs.Node.{Seeded}
 use Rattle.magic.specs.Place.{nodeAt, splitRule, splitAt, instanceOf, altsOf, siteAt, nextAt, markAt, altsAt, entryAt, pathIn, factsIn, PathKept, Parted, bitsIn, Reached, Making}
 use Rattle.magic.specs.Walk.{AllShut, Ended, runsFrom, triesFrom, outcomeIn, TellsOutcome}
@@ -166,8 +166,8 @@ module _ (bs work : List ℕ) (depth count limit : ℕ) (node : Parted bs work d
                   (subst (λ (s : Site). finds (entered (pathIn bs work depth)) ≡ split (instanceOf bs s) (altsOf bs s)) (sym after-split) (node .found));
               store = subst (Store 18434 (factsIn after)) (sym after-mark) (shut .facts .store);
               rested =
-                  subst (λ (s : Site). Rested bs (placeOf bs s) (logged (factsIn after) 18434 (markAt after depth))) (sym after-split)
-                  (subst (λ (facts : List ℕ). Rested bs (placeOf bs (splitAt bs work depth)) facts) after-log (node .rested));
+                  subst (λ (s : Site). Rested bs (sitePlace bs s) (logged (factsIn after) 18434 (markAt after depth))) (sym after-split)
+                  (subst (λ (facts : List ℕ). Rested bs (sitePlace bs (splitAt bs work depth)) facts) after-log (node .rested));
               seeded =
                   subst (λ (p : List (Branch Instance)). Seeded bs (entered p) (factsIn after) (markAt after depth)) (sym after-path)
                   (seeded-same bs (entered (pathIn bs work depth)) (factsIn work) (markAt work depth) (factsIn after) (markAt after depth) after-log (node .seeded));

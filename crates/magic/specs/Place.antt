@@ -14,7 +14,7 @@ use Rattle.store.specs.Store.{Store, logged, isSet}
 use Rattle.ground.specs.Instance.{Instance}
 use Rattle.rewriting.specs.Facts.{falseIn, findIn, theRule, relevantFact}
 use Rattle.magic_node.specs.Choosing.{siteOf, headsOf, Site, Listed}
-use Rattle.magic_node.specs.Watch.{placeOf, Rested}
+use Rattle.magic_node.specs.Watch.{sitePlace, Rested}
 use Rattle.magic_node.specs.Node.{Opening, Seeded}
 use Rattle.magic.specs.declared.place.Found.{Found as Told}
 use Rattle.magic.specs.declared.place.Found.the-variants.{Closed, Open, Split}
@@ -89,7 +89,7 @@ pub record Parted (bs work : List ℕ) (depth : ℕ) : Type 0 where
   pub listed : Listed bs (splitAt bs work depth)
   pub found : findIn bs (entered (pathIn bs work depth)) ≡ split (siteAt bs work depth) (altsAt bs work depth)
   pub store : Store 18434 (factsIn work) (markAt work depth)
-  pub rested : Rested bs (placeOf bs (splitAt bs work depth)) (logged (factsIn work) 18434 (markAt work depth))
+  pub rested : Rested bs (sitePlace bs (splitAt bs work depth)) (logged (factsIn work) 18434 (markAt work depth))
   pub seeded : Seeded bs (entered (pathIn bs work depth)) (factsIn work) (markAt work depth)
 
 -- a split node has been written down
@@ -103,7 +103,7 @@ pub record Noted (work : List ℕ) (depth m q a b c d : ℕ) (left : List ℕ) :
 
 -- the next alternative of the node at this depth has been entered
 pub record Entered (bs work : List ℕ) (depth : ℕ) (left : List ℕ) (n : ℕ) : Type 0 where
-  pub fresh : Fresh bs left (depth + 1) n (markAt work depth) (placeOf bs (splitAt bs work depth))
+  pub fresh : Fresh bs left (depth + 1) n (markAt work depth) (sitePlace bs (splitAt bs work depth))
   pub at-split : splitAt bs left depth ≡ splitAt bs work depth
   pub next : nextAt left depth ≡ nextAt work depth + 1
   pub mark : markAt left depth ≡ markAt work depth

@@ -11,7 +11,7 @@ ghost use Prim.Native.Nat.{_+_, _*_, _/_, _≤_, _<_};
 ghost use lib.ListN.{length};
 ghost use Rattle.rewriting.specs.Facts.{Ruled};
 ghost use Rattle.magic_node.specs.Index.{Indexed};
-ghost use Rattle.magic_node.specs.Watch.{placeOf};
+ghost use Rattle.magic_node.specs.Watch.{sitePlace};
 ghost use Rattle.magic.specs.Place.{splitAt, nextAt, altsAt, Fresh, Parted, Noted, Entered, Finding, Making, Beginning, Blank};
 
 // How a place is found: closed or split, with the number of its facts, or open. The split is written down in the path.
@@ -48,7 +48,7 @@ pub fn split_rule(low: u8, next: u8) -> usize
 fn split_place(rules: &[u8], work: &[u8], depth: usize) -> usize
     requires { ⌜ Ruled (now rules) ⌝ }
     requires { ⌜ Parted (now rules) (now work) depth ⌝ }
-    ensures { λ x. ⌜ x ≡ placeOf (now (rules .entry)) (splitAt (now (rules .entry)) (now (work .entry)) depth) ⌝ }
+    ensures { λ x. ⌜ x ≡ sitePlace (now (rules .entry)) (splitAt (now (rules .entry)) (now (work .entry)) depth) ⌝ }
 {
     let at = 55302 + 8 * depth;
     let values = [work[at + 1], work[at + 2], work[at + 3], work[at + 4]];

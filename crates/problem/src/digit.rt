@@ -39,7 +39,7 @@ pub fn digit_of(k: u8) -> u8
     requires { ⌜ k < 16 ⌝ }
     ensures { λ r. ⌜ r ≡ getD digits k 0 ⌝ }
 {
-    let digits = b"0123456789ABCDEF";
+    let signs = b"0123456789ABCDEF";
     let i = k as usize;
-    digits[i]
+    signs[i]
 }

@@ -4,7 +4,7 @@ use mathlib.Core.Path.{sym, ap, subst, _∙_}
 use native.Mathlib.Omega.{arith}
 use borrow.Author.Needs.{needs}
 use Rattle.magic_node.specs.Applied.{siteWith, Applied}
-use Rattle.magic_node.specs.Watch.{placeOf}
+use Rattle.magic_node.specs.Watch.{sitePlace}
 use Rattle.magic.specs.Place.{nodeAt, fourAt, splitRule}
 use Rattle.magic_node.proofs.RuledLaws.{RuleRead}
 use Rattle.magic.proofs.PathLaws.{path-deep}
@@ -77,5 +77,5 @@ split-place-spec =
     let w = s .args .work .now in
     let d = s .args .depth in
     c .place-at .ensures
-    ∙ ap (λ (q : ℕ). placeOf rules (siteWith rules q (fourAt w (nodeAt d)))) (c .before .before .split-rule .ensures)
-    ∙ ap (placeOf rules) (split-with rules (s .pre .0) w d (s .pre .1))))  -- returns
+    ∙ ap (λ (q : ℕ). sitePlace rules (siteWith rules q (fourAt w (nodeAt d)))) (c .before .before .split-rule .ensures)
+    ∙ ap (sitePlace rules) (split-with rules (s .pre .0) w d (s .pre .1))))  -- returns
