@@ -2,8 +2,7 @@
 //! against the engine made for speed, on the right against the straightforward one.
 
 use crate::engines::Engine;
-use crate::means::Ratios;
-use crate::measured::{Measured, MANY};
+use crate::measured::{self, Measured, MANY};
 
 const COLOURS: [&str; 2] = ["#4477aa", "#ee7733"];
 
@@ -77,7 +76,7 @@ fn rows(all: &[Measured]) -> Vec<Row> {
         .collect();
     let large: Vec<&Measured> = all.iter().filter(|measured| measured.is_large()).collect();
     for (name, of) in [("geometric mean of all", all.iter().collect()), ("geometric mean of the large ones", large)] {
-        let mean = |one, other| Ratios::new(of.iter().copied(), one, other).geometric_mean();
+        let mean = |one, other| measured::ratios(of.iter().copied(), one, other).geometric_mean();
         rows.push(Row { name: name.to_string(), is_mean: true, ratios: ratios(&mean) });
     }
     rows

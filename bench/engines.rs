@@ -1,6 +1,7 @@
 //! The engines that are measured, each called in one way: the library's two; the tests' walk, which repeats passes over
 //! all instances at each node; and the one in Rust made for speed. The library's times have checking the table and
 //! rewriting in them, the others' have grounding.
+#![allow(dead_code)] // each program uses its own part
 
 use crate::grounded;
 use crate::library;

@@ -2,6 +2,7 @@
 
 use crate::engines::{Engine, Lent};
 use crate::grounded;
+use crate::means::Ratios;
 use crate::puzzles::Puzzle;
 use crate::reference::{self, Ticket};
 use crate::walk::Outcome;
@@ -29,6 +30,11 @@ pub fn all(puzzles: &[Puzzle]) -> Vec<Measured> {
         all[i].round(&puzzle.ticket);
     }
     all
+}
+
+/// How many times longer one engine takes than the other, for each.
+pub fn ratios<'a>(all: impl IntoIterator<Item = &'a Measured>, one: Engine, other: Engine) -> Ratios<&'a Measured> {
+    Ratios::new(all.into_iter().map(|measured| (measured, measured.ratio(one, other))))
 }
 
 impl Measured {

@@ -2,6 +2,7 @@
 //! table, checked by the library; and shorter tickets, to see that the time goes with the text's length.
 #[path = "../tests/library.rs"]
 mod library;
+mod operations;
 #[path = "../tests/random.rs"]
 mod random;
 mod reader;
@@ -11,10 +12,7 @@ mod reference;
 mod tickets;
 mod timing;
 
-use library::packed;
-use reference::{TABLE, TEXT_OUT};
-use std::hint::black_box;
-use timing::{best, time, ROUNDS};
+use timing::{best, ROUNDS};
 
 const CALLS: u32 = 100;
 
@@ -46,17 +44,9 @@ fn main() {
 
 /// Nanoseconds for reading by the library, reading in Rust, and checking the table, which is writing it.
 fn measure(text: &[u8], table: &[u8]) -> [f64; 3] {
-    let reading = |read: fn(&[u8], &mut [u8]) -> u64| {
-        let mut lent = vec![0xA5; TABLE];
-        let took = time(CALLS, packed(0, 0), || read(black_box(text), black_box(&mut lent)));
-        assert_eq!(lent, table, "a table is another");
-        took
-    };
-    let writing = || {
-        let mut out = vec![0; TEXT_OUT];
-        let took = time(CALLS, packed(0, text.len() as u32), || library::write(black_box(table), black_box(&mut out)));
-        assert_eq!(&out[..text.len()], text, "the text written is another");
-        took
-    };
-    best([&mut || reading(library::read), &mut || reading(reader::read), &mut || writing()])
+    best([
+        &mut || operations::reading(CALLS, text, table, library::read),
+        &mut || operations::reading(CALLS, text, table, reader::read),
+        &mut || operations::writing(CALLS, text, table),
+    ])
 }

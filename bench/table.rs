@@ -1,8 +1,7 @@
 //! What was measured, as tables of text.
 
 use crate::engines::Engine;
-use crate::means::Ratios;
-use crate::measured::{Measured, MANY};
+use crate::measured::{ratios, Measured, MANY};
 
 pub fn print(all: &[Measured]) {
     println!("{:74} {:^60} {:^22} {:^22}", "", "ns for each entry and the root", "over the optimised", "straightforward over");
@@ -30,12 +29,12 @@ fn means(all: &[Measured]) {
     let large = || all.iter().filter(|measured| measured.is_large());
     println!("geometric means; {} of {} tickets are large: more than {MANY} instances and more than {MANY} entries", large().count(), all.len());
     for engine in Engine::LIBRARY {
-        let to_optimised = Ratios::new(all, engine, Engine::Optimised);
+        let to_optimised = ratios(all, engine, Engine::Optimised);
         let (worst, most) = to_optimised.most();
         println!("  {:9} / optimised, all tickets         {:8.2}   most  {most:8.2}, {}", engine.name(), to_optimised.geometric_mean(), worst.name);
     }
     for engine in Engine::LIBRARY {
-        let over = Ratios::new(large(), Engine::Straightforward, engine);
+        let over = ratios(large(), Engine::Straightforward, engine);
         let (worst, least) = over.least();
         println!("  straightforward / {:9}, large ones   {:8.2}   least {least:8.2}, {}", engine.name(), over.geometric_mean(), worst.name);
     }

@@ -29,8 +29,14 @@ fn now() -> f64 {
 /// What a call gives, and the nanoseconds that it took.
 pub fn timed<T>(call: impl FnOnce() -> T) -> (T, f64) {
     let start = now();
-    let given = black_box(call());
+    let given = counted(call);
     (given, now() - start)
+}
+
+/// The call and nothing else, so that callgrind can count its instructions: it knows where by this name.
+#[inline(never)]
+fn counted<T>(call: impl FnOnce() -> T) -> T {
+    black_box(call())
 }
 
 /// Nanoseconds for one of so many calls, each with the answer expected.
