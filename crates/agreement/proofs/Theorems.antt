@@ -1,42 +1,35 @@
 -- The claim of `specs/Claims.antt`, proved: the two walks of a ground problem are one (`search`), the rules buffer has the rewriting of that ground problem in
 -- another order (`magic`), and each operation's outcome is that of its own walk.
-use Prim.Native.Nat.{ℕ, _≤_}
+use Prim.Native.Nat.{ℕ}
 use mathlib.Core.Bool.{true, false}
 use mathlib.Core.List.{List, _++_, append-assoc}
-use mathlib.Core.Path.{_≡_, sym, ap, subst, _∙_}
-use lib.Dec.{T}
+use mathlib.Core.Path.{_≡_, sym, ap, _∙_}
 use lib.ListN.{length, take, drop}
-use Rattle.lists.specs.Member.{All}
 use Rattle.lists.proofs.Member.{all-map}
 use Rattle.lists.proofs.Test.{T-true}
 use Rattle.search.specs.Ground.{Ground, Found}
-use Rattle.search.specs.Relevancy.{isTrue, isRelevant, findR}
+use Rattle.search.specs.Relevancy.{findR}
 use Rattle.search.specs.Magic.{Magic, MagicRule, tru, rel, rewriting, holds, findM}
-use Rattle.search.specs.Machine.{Place, Outcome, entered, trail, outcome}
+use Rattle.search.specs.Machine.{Outcome, entered, trail, outcome}
 use Rattle.search.specs.Claims.{OneTrail, SameFacts as SameAt}
 use Rattle.search.proofs.Regroup.{holds-regroup}
 use Rattle.search.proofs.Theorems.{theorems as walks}
 use Rattle.problem.specs.Problem.{Problem, Fits, atomCount}
 use Rattle.problem.specs.Layout.{problemIn}
-use Rattle.problem.specs.Table.{Lawful, isValid}
+use Rattle.problem.specs.Table.{isValid}
 use Rattle.problem.proofs.Theorems.{theorems as tables}
-use Rattle.ground.specs.declared.verdict.Verdict.{Verdict}
 use Rattle.ground.specs.Instance.{Instance, groundOf}
 use Rattle.ground.specs.Names.{instanceKey}
 use Rattle.ground.specs.Verdict.{verdictOf, answerOf}
 use Rattle.ground.specs.Walks.{magic}
 use Rattle.ground.proofs.Instances.{atoms-are}
-use Rattle.relevancy.specs.Walk.{outcomeIn}
-use Rattle.relevancy.specs.Claims.{groundLent, limitLent}
-use Rattle.relevancy.specs.Engine.{fitResult, fitAnswer}
+use Rattle.relevancy.specs.Engine.{outcomeIn, fitResult, fitAnswer}
+use Rattle.relevancy.specs.Claims.{limitLent}
 use Rattle.relevancy.proofs.EngineLaws.{long-enough}
 use Rattle.rewriting.specs.Rules.{rewritingOf, groundRules}
 use Rattle.rewriting.specs.RulesLayout.{rulesLayout}
 use Rattle.rewriting.specs.Facts.{falseIn, magicIn, findIn}
-use Rattle.rewriting.specs.Rewrite.{rulesOver}
-use Rattle.magic.specs.Walk.{outcomeIn as magicOutcomeIn}
-use Rattle.magic.specs.Engine.{tooShort, magicOutcome, magicResult, magicRules, magicAnswer}
-use Rattle.rewriting.specs.Claims.{Regrouped}
+use Rattle.magic.specs.Engine.{rulesOutcome, magicTooShort, magicOutcome, magicResult, magicRules, magicAnswer}
 use Rattle.magic.proofs.EngineLaws.{long-enough as all-long}
 use Rattle.rewriting.proofs.RegroupLaws.{find-by}
 use Rattle.rewriting.proofs.Theorems.{theorems as rewritings}
@@ -94,7 +87,7 @@ module _ (tb rules answer work₁ work₂ : List ℕ) (taken : BothTaken tb rule
   fits : Fits q
   fits = tables .lawful t (taken .valid) .fits
 
-  long : tooShort tb rules answer work₂ ≡ false
+  long : magicTooShort tb rules answer work₂ ≡ false
   long = all-long tb rules answer work₂ (taken .table-long) (taken .rules-long) (taken .answer-long) (taken .work-long .1)
 
   bytes-are : bs ≡ rulesLayout q ++ rest
@@ -132,7 +125,7 @@ module _ (tb rules answer work₁ work₂ : List ℕ) (taken : BothTaken tb rule
 
   -- the walk by the part of the buffer is that by the whole
   magic-outcome : magicOutcome t (take 16384 rules) ≡ outcome (findIn bs) (limitLent tb)
-  unfolding magicOutcomeIn
+  unfolding rulesOutcome
   magic-outcome = ap (λ (f : List ℕ → Found Instance). outcome f (limitLent tb)) (find-part ∙ sym find-all)
 
   magic-is : magicResult tb rules answer work₂ ≡ verdictOf (outcome (findIn bs) (limitLent tb))

@@ -6,7 +6,6 @@ use mathlib.Core.List.{List}
 use mathlib.Core.Path.{_≡_}
 use lib.ListN.{length, take}
 use Rattle.lists.specs.Member.{All}
-use Rattle.search.specs.Ground.{Ground}
 use Rattle.search.specs.Relevancy.{isTrue, isRelevant, findR}
 use Rattle.search.specs.Magic.{tru, rel, holds}
 use Rattle.search.specs.Machine.{Place, entered, trail, outcome}

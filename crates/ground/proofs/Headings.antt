@@ -6,8 +6,8 @@ use lib.ListN.{length, getD}
 use Rattle.problem.specs.Problem.{atomCount}
 use Rattle.problem.specs.Layout.{aritiesIn, problemIn}
 use Rattle.problem.specs.Table.{Lawful}
-use Rattle.ground.specs.Heading.{NumberedIn}
-use Rattle.ground.specs.ModelCheck.{Numbered}
+use Rattle.ground.specs.contracts.Heading.{NumberedIn}
+use Rattle.ground.specs.contracts.Placed.{Numbered}
 use Rattle.ground.proofs.AtomLaws.{table-size}
 
 module _ (tb : List ℕ) (h : Lawful tb) where

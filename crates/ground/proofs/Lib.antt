@@ -1,15 +1,14 @@
 pub mod Instances
 pub mod AtomLaws
+pub mod Sides
 pub mod Headings
 pub mod MatchLaws
 pub mod Boxes
 pub mod IndexLaws
-pub mod CheckLaws
 pub mod Sites
 pub mod Turns
-pub mod CheckLoops
 pub mod Cases
 pub mod Theorems
 pub mod Visits
+pub mod Rows
 pub mod VerdictLaws
-pub mod NodeRecord

@@ -16,8 +16,8 @@ use Rattle.lists.specs.Tabulate.{tabulate}
 use Rattle.lists.proofs.Bytes.{at-zeros}
 use Rattle.lists.proofs.Digits.{horner-digits, digits-horner, digits-fit, tuples-at, tuples-count}
 use Rattle.lists.proofs.Tabulate.{tabulate-length, tabulate-at, tabulate-map}
-use Rattle.ground.specs.ModelCheck.{Stepped}
-use Rattle.ground.proofs.CheckLaws.{first-past, first-front}
+use Rattle.ground.specs.contracts.Placed.{Stepped}
+use Rattle.lists.proofs.Member.{first-past, first-front}
 
 -- ---- digits at the start
 

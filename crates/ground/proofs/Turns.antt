@@ -12,7 +12,7 @@ use Rattle.problem.specs.Layout.{problemIn}
 use Rattle.problem.specs.Table.{Lawful}
 use Rattle.problem.proofs.Access.{clauses-in, instances-in}
 use Rattle.ground.specs.Instance.{Instance, number, noClause, clauseOf, instancesOf, groundOf}
-use Rattle.ground.specs.ModelCheck.{Placed, Stepped}
+use Rattle.ground.specs.contracts.Placed.{Placed, Stepped}
 use Rattle.ground.proofs.AtomLaws.{table-size, constants-small, number-takes, clause-fits, clause-room, conds-count, vars-in}
 use Rattle.ground.proofs.Sites.{Turning, turning-starts, turning-below, turning-on, turning-value, turning-stops, turning-ends, groupsFrom, groups-start, groups-on, groups-stop, groups-end}
 

@@ -1,18 +1,17 @@
 -- The steps of giving a model, and the limit's bytes.
-use Prim.Native.Nat.{ℕ, suc, _+_, _*_, _≤_, _<_}
+use Prim.Native.Nat.{ℕ, suc, _+_, _*_, _<_}
 use mathlib.Core.Bool.{Bool, not, _||_}
 use mathlib.Core.List.{List, [], _∷_, _++_, map, append-assoc}
 use mathlib.Core.Path.{_≡_, refl, sym, ap, _∙_}
 use native.Mathlib.Numerals.{add-one}
 use native.Mathlib.Omega.{arith}
-use lib.Dec.{eqb}
 use lib.ListN.{length, take, drop, getD, set, length-map}
 use lib.Seq.{drop-cons, set-at, getD-take, getD-drop}
 use Rattle.lists.specs.Tabulate.{tabulate}
-use Rattle.lists.proofs.Tabulate.{tabulate-length, tabulate-same}
+use Rattle.lists.proofs.Tabulate.{tabulate-length}
 use Rattle.search.specs.Relevancy.{modelBits}
 use Rattle.search.specs.Machine.{Outcome, Satisfied, Refuted, Exhausted}
-use Rattle.store.specs.Store.{isSet, bit}
+use Rattle.lists.specs.Bytes.{isSet, bit}
 use Rattle.problem.specs.Problem.{limitOf}
 use Rattle.problem.specs.Layout.{problemIn}
 use Rattle.ground.specs.declared.verdict.Verdict.the-variants.{Satisfied as IsSatisfied, Refuted as IsRefuted, Exhausted as IsExhausted}
@@ -43,25 +42,13 @@ give-more f answer a h =
 
 -- ---- what is told of an outcome
 
--- the facts lie in the first bytes of a buffer
-facts-bit : (size : ℕ) (x : List ℕ) (a : ℕ) → a < size → isSet x a ≡ isSet (take size x) a
-facts-bit size x a h = ap (λ (b : ℕ). eqb b 1) (sym (getD-take size x a 0 h))
-
-bits-same : (size : ℕ) (x : List ℕ) (n : ℕ) → n + 1025 ≤ size
-    → modelBits n (isSet x) (λ a. isSet x (1025 + a)) ≡ modelBits n (isSet (take size x)) (λ a. isSet (take size x) (1025 + a))
-bits-same size x n h =
-    tabulate-same (λ a. isSet x a || not (isSet x (1025 + a))) (λ a. isSet (take size x) a || not (isSet (take size x) (1025 + a))) n
-    (λ a l. rw (facts-bit size x a (omega arith), facts-bit size x (1025 + a) (omega arith)))
-
 module _ (o : Outcome) (answer : List ℕ) where
-  pub told-satisfied : (size : ℕ) (x : List ℕ) (n c : ℕ) → n + 1025 ≤ size
-      → o ≡ Satisfied c (modelBits n (isSet (take size x)) (λ a. isSet (take size x) (1025 + a)))
-      → (IsSatisfied c ≡ verdictOf o) × (map bit (modelBits n (isSet x) (λ a. isSet x (1025 + a))) ++ drop n answer ≡ answerOf o answer)
-  told-satisfied size x n c h e =
-      let bits : List Bool = modelBits n (isSet x) (λ a. isSet x (1025 + a)) in
-      let o′ : o ≡ Satisfied c bits = e ∙ ap (Satisfied c) (sym (bits-same size x n h)) in
-      let long : length bits ≡ n = tabulate-length (λ a. isSet x a || not (isSet x (1025 + a))) n in
-      (sym (ap verdictOf o′), ap (λ (k : ℕ). map bit bits ++ drop k answer) (sym long) ∙ sym (ap (λ (w : Outcome). answerOf w answer) o′))
+  pub told-open : (facts : List ℕ) (n c : ℕ) → o ≡ Satisfied c (modelBits n (isSet facts) (λ a. isSet facts (1025 + a)))
+      → (IsSatisfied c ≡ verdictOf o) × (map bit (modelBits n (isSet facts) (λ a. isSet facts (1025 + a))) ++ drop n answer ≡ answerOf o answer)
+  told-open facts n c e =
+      let bits : List Bool = modelBits n (isSet facts) (λ a. isSet facts (1025 + a)) in
+      let long : length bits ≡ n = tabulate-length (λ a. isSet facts a || not (isSet facts (1025 + a))) n in
+      (sym (ap verdictOf e), ap (λ (k : ℕ). map bit bits ++ drop k answer) (sym long) ∙ sym (ap (λ (w : Outcome). answerOf w answer) e))
 
   pub told-refuted : (c : ℕ) → o ≡ Refuted c → (IsRefuted c ≡ verdictOf o) × (answer ≡ answerOf o answer)
   told-refuted c e = (sym (ap verdictOf e), sym (ap (λ (w : Outcome). answerOf w answer) e))

@@ -1,31 +1,15 @@
--- What is claimed of the ground problem and of the model check, whatever the code. `proofs/Theorems.antt` proves `Theorems`.
+-- What is claimed of the ground problem, whatever the code. `proofs/Theorems.antt` proves `Theorems`.
 use Prim.Native.Nat.{ℕ, _^_, _<_}
-use mathlib.Core.Bool.{Bool, not}
-use mathlib.Core.List.{List, _∷_, _++_}
+use mathlib.Core.Bool.{Bool}
+use mathlib.Core.List.{List}
 use mathlib.Core.Logic.{_↔_}
 use mathlib.Core.Path.{_≡_}
 use lib.Dec.{T}
-use lib.ListN.{length, getD}
-use Rattle.lists.specs.Member.{All}
-use Rattle.search.specs.Ground.{Proper, Model}
+use lib.ListN.{length}
+use Rattle.lists.specs.Member.{All, lead}
+use Rattle.search.specs.Ground.{Proper}
 use Rattle.problem.specs.Problem.{Problem, Fits, atomCount}
-use Rattle.ground.specs.declared.check.Judging.the-variants.{Model as IsModel, Violated}
-use Rattle.ground.specs.Instance.{Instance, GroundAtom, AtomOf, groundNumber, clauseOf, instancesOf, groundOf}
-use Rattle.ground.specs.ModelCheck.{lead, isSet, violates, checkOf}
-
--- clause k with the values a, b, c, d, 0 for a variable that it lacks, is the first violated instance
-pub record FirstViolated (q : Problem) (answer : List ℕ) (k a b c d : ℕ) : Type 0 where
-  pub before : List Instance
-  pub found : Instance
-  pub after : List Instance
-  pub order : (groundOf q) .instances ≡ before ++ (found ∷ after)
-  pub none-before : All (λ i. T (not (violates q answer i))) before
-  pub here : T (violates q answer found)
-  pub clause : found .clause ≡ k
-  pub value-80 : getD (found .values) 0 0 ≡ a
-  pub value-81 : getD (found .values) 1 0 ≡ b
-  pub value-82 : getD (found .values) 2 0 ≡ c
-  pub value-83 : getD (found .values) 3 0 ≡ d
+use Rattle.ground.specs.Instance.{GroundAtom, AtomOf, groundNumber, clauseOf, instancesOf, groundOf}
 
 pub record Theorems : Type 0 where
   -- different ground atoms have different numbers, and every number below A is that of one
@@ -38,10 +22,3 @@ pub record Theorems : Type 0 where
   pub proper : (q : Problem) → Fits q → Proper (groundOf q)
   -- as many hold from the left as there are, exactly if all hold
   pub leads : (t : ℕ → Bool) (atoms : List ℕ) → (lead t atoms ≡ length atoms) ↔ All (λ a. T (t a)) atoms
-  -- violated: all conditions in the set, and no alternative
-  pub violated : (q : Problem) (answer : List ℕ) (i : Instance)
-      → T (violates q answer i) ↔ (All (λ a. T (isSet answer a)) ((groundOf q) .conds i) × All (λ a. T (not (isSet answer a))) ((groundOf q) .alts i))
-  -- "fitting" exactly if the set is a model
-  pub model : (q : Problem) (answer : List ℕ) → (checkOf q answer ≡ IsModel) ↔ Model (groundOf q) (λ a. T (isSet answer a))
-  -- and what is named otherwise is the first violated instance
-  pub first-named : (q : Problem) (answer : List ℕ) (k a b c d : ℕ) → checkOf q answer ≡ Violated k a b c d → FirstViolated q answer k a b c d

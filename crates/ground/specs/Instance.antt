@@ -9,6 +9,7 @@ use Rattle.lists.specs.Digits.{horner, tuples}
 use Rattle.lists.specs.Member.{All}
 use Rattle.lists.specs.Tabulate.{tabulate}
 use Rattle.search.specs.Ground.{Ground}
+use Rattle.problem.specs.Layout.{problemIn}
 use Rattle.problem.specs.Problem.{Atom, Clause, Problem, atomCount, firstAtom}
 
 -- "An instance puts a constant for each variable": a clause's number, and the values of its variables 80, 81, 82, 83 in that order
@@ -62,3 +63,7 @@ groundOf q =
       conds = λ i. groundAtoms q (i .values) ((clauseOf q (i .clause)) .conds);
       alts = λ i. groundAtoms q (i .values) ((clauseOf q (i .clause)) .alts);
     }
+
+-- the ground problem of a table
+abbrev pub groundIn : List ℕ → Ground Instance
+groundIn tb = groundOf (problemIn tb)

@@ -1,12 +1,8 @@
 pub mod Instance
 pub mod Names
-pub mod ModelCheck
-pub mod Heading
-pub mod Matching
-pub mod Index
 pub mod Report
 pub mod Walks
 pub mod Cases
 pub mod Claims
-pub mod Visit
 pub mod Verdict
+pub mod contracts

@@ -4,7 +4,7 @@ use mathlib.Core.Bool.{Bool, not, _||_}
 use mathlib.Core.List.{List, _++_, map}
 use lib.ListN.{length, drop}
 use Rattle.search.specs.Machine.{Outcome, Satisfied, Refuted, Exhausted}
-use Rattle.store.specs.Store.{isSet, bit}
+use Rattle.lists.specs.Bytes.{isSet, bit}
 use Rattle.ground.specs.declared.verdict.Verdict.{Verdict}
 use Rattle.ground.specs.declared.verdict.Verdict.the-variants.{Satisfied as IsSatisfied, Refuted as IsRefuted, Exhausted as IsExhausted}
 

@@ -1,6 +1,5 @@
-// Instances of a table's clauses, and the model check.
+// Atoms and instances of a table's clauses, matching and filing facts, and an engine's verdict.
 pub mod atom;
-pub mod check;
 pub mod index;
 pub mod instance;
 pub mod matching;

@@ -5,7 +5,7 @@ ghost use mathlib.Core.List.{_++_, map};
 ghost use Prim.Native.Nat.{_+_, _*_, _≤_};
 ghost use lib.ListN.{length, take, drop};
 ghost use Rattle.search.specs.Relevancy.{modelBits};
-ghost use Rattle.store.specs.Store.{isSet, bit};
+ghost use Rattle.lists.specs.Bytes.{isSet, bit};
 ghost use Rattle.problem.specs.Problem.{limitOf};
 ghost use Rattle.ground.specs.Verdict.{chosenBit};
 

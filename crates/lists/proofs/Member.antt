@@ -7,7 +7,7 @@ use mathlib.Core.Path.{_≡_, refl, sym, subst, _∙_}
 use lib.Dec.{T}
 use Rattle.lists.specs.Key.{Key}
 use Rattle.lists.specs.Member.{All, Any, every, first, has, In}
-use Rattle.lists.proofs.Test.{and-T, T-left, T-right, or-left, or-right, T-or}
+use Rattle.lists.proofs.Test.{and-T, T-left, T-right, T-false, or-left, or-right, T-or}
 
 pub flat-append : {A B : Type 0} (f : A → List B) (xs ys : List A) → flatMap f (xs ++ ys) ≡ flatMap f xs ++ flatMap f ys
 unfolding flatMap
@@ -96,6 +96,29 @@ module _ {A : Type 0} where
       go : (b : Bool) → (first p xs ≡ none → All (λ y. T (not (p y))) xs) → cond b (some x) (first p xs) ≡ none → T (not b) × All (λ y. T (not (p y))) xs
       go true f u = absurd (Option·none-ne-some x (sym u))
       go false f u = (tt, f u)
+
+  pub none-first : (p : A → Bool) (xs : List A) → All (λ x. T (not (p x))) xs → first p xs ≡ none
+  none-first p [] a = refl
+  none-first p (x ∷ xs) a = rw (T-false (p x) (a .0)) (none-first p xs (a .1))
+
+  -- what is left out at the front passes nothing, or all is decided there
+  pub first-past : (p : A → Bool) (xs ys : List A) → first p xs ≡ none → first p (xs ++ ys) ≡ first p ys
+  first-past p [] ys e = refl
+  first-past p (x ∷ xs) ys e = go (p x) (first-past p xs ys) e
+    where
+      go : (b : Bool) → (first p xs ≡ none → first p (xs ++ ys) ≡ first p ys) → cond b (some x) (first p xs) ≡ none
+          → cond b (some x) (first p (xs ++ ys)) ≡ first p ys
+      go true f u = absurd (Option·none-ne-some x (sym u))
+      go false f u = f u
+
+  pub first-front : (p : A → Bool) (xs ys : List A) (y : A) → first p xs ≡ some y → first p (xs ++ ys) ≡ some y
+  first-front p [] ys y e = absurd (Option·none-ne-some y e)
+  first-front p (x ∷ xs) ys y e = go (p x) (first-front p xs ys y) e
+    where
+      go : (b : Bool) → (first p xs ≡ some y → first p (xs ++ ys) ≡ some y) → cond b (some x) (first p xs) ≡ some y
+          → cond b (some x) (first p (xs ++ ys)) ≡ some y
+      go true f u = u
+      go false f u = f u
 
   -- what holds of every member and is tested holds of the first that passes
   pub first-some {ℓ} : (p : A → Bool) (P : A → Type ℓ) (xs : List A) → All (λ x. T (p x) → P x) xs → (x : A) → first p xs ≡ some x → P x

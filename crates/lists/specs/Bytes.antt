@@ -1,9 +1,9 @@
--- Lists of bytes: padding, numbers of two bytes, equality, and bytes put over others.
+-- Lists of bytes: padding, numbers of two bytes, equality, bytes put over others, and flags.
 use Prim.Native.Nat.{ℕ, _+_, _-_, _/_, _%_}
 use mathlib.Core.Bool.{Bool, true, false, _&&_}
 use mathlib.Core.List.{List, [], _∷_, _++_}
 use lib.Dec.{eqb}
-use lib.ListN.{length, take, drop, replicate}
+use lib.ListN.{length, take, drop, getD, replicate}
 
 -- xs, and zeros after it to the length n
 abbrev pub pad : ℕ → List ℕ → List ℕ
@@ -22,3 +22,11 @@ sameList (x ∷ xs) (y ∷ ys) = eqb x y && sameList xs ys
 -- a list with these bytes from a place on
 abbrev pub spliced : ℕ → List ℕ → List ℕ → List ℕ
 spliced at bytes xs = take at xs ++ bytes ++ drop (at + length bytes) xs
+
+-- the set that flags stand for, and a flag's byte
+abbrev pub isSet : List ℕ → ℕ → Bool
+isSet flags a = eqb (getD flags a 0) 1
+
+abbrev pub bit : Bool → ℕ
+bit true = 1
+bit false = 0

@@ -1,4 +1,5 @@
 -- What holds of every member of a list, of some member, and membership by an equality test.
+use Prim.Native.Nat.{ℕ, suc}
 use mathlib.Core.Bool.{Bool, true, false, cond, _&&_, _||_}
 use mathlib.Core.List.{List, [], _∷_}
 use mathlib.Core.Logic.{_⊎_}
@@ -35,3 +36,8 @@ In k s x = T (has k s x)
 abbrev pub Distinct : {K : Type 0} → Key K → List K → Type 0
 Distinct k [] = Unit
 Distinct k (x ∷ s) = (In k s x → ⊥) × Distinct k s
+
+-- how many hold from the left, before the first that does not
+abbrev pub lead : (ℕ → Bool) → List ℕ → ℕ
+lead t [] = 0
+lead t (a ∷ atoms) = cond (t a) (suc (lead t atoms)) 0

@@ -1,7 +1,7 @@
 // Loops over bytes that every crate needs. Definitions on lists are in specs/, their laws in proofs/.
 ghost use mathlib.Core.Path.{_≡_};
 ghost use mathlib.Core.List.{_++_};
-ghost use Prim.Native.Nat.{_≤_};
+ghost use Prim.Native.Nat.{_+_, _*_, _≤_};
 ghost use lib.ListN.{length, drop, replicate};
 ghost use Rattle.lists.specs.Bytes.{sameList};
 
@@ -43,4 +43,11 @@ pub fn zero(dst: &mut [u8])
         dst[i] = 0;
         i += 1;
     }
+}
+
+// A number of two bytes.
+pub fn pair(low: u8, high: u8) -> usize
+    ensures { λ r. ⌜ r ≡ low + 256 * high ⌝ }
+{
+    (low as usize) + 256 * (high as usize)
 }

@@ -1,13 +1,13 @@
 -- An operation's answer as one number: the refusal's number in bits 0 to 7, 0 where there is none, and in bits 32 to 63 what goes with the answer.
 use Prim.Native.Nat.{ℕ, _+_, _*_}
-use Rattle.ground.specs.declared.check.Judging.{Judging}
-use Rattle.ground.specs.declared.check.Judging.the-variants.{Unjudged, Model as IsModel, Violated}
+use Rattle.judging.specs.declared.judge.Judging.{Judging}
+use Rattle.judging.specs.declared.judge.Judging.the-variants.{Unjudged, Model as IsModel, Violated}
 use Rattle.rewriting.specs.declared.rewrite.Rewriting.{Rewriting}
 use Rattle.rewriting.specs.declared.rewrite.Rewriting.the-variants as rewriting
-use Rattle.problem.specs.declared.read.Reading.{Reading}
-use Rattle.problem.specs.declared.read.Reading.the-variants.{Refused, Accepted}
-use Rattle.problem.specs.declared.write.Writing.{Writing}
-use Rattle.problem.specs.declared.write.Writing.the-variants.{Unwritten, Written}
+use Rattle.reading.specs.declared.read.Reading.{Reading}
+use Rattle.reading.specs.declared.read.Reading.the-variants.{Refused, Accepted}
+use Rattle.writing.specs.declared.write.Writing.{Writing}
+use Rattle.writing.specs.declared.write.Writing.the-variants.{Unwritten, Written}
 use Rattle.ground.specs.declared.verdict.Verdict.{Verdict}
 use Rattle.ground.specs.declared.verdict.Verdict.the-variants as verdict
 

@@ -1,12 +1,13 @@
 // The operations, for a host in C: numbers and byte slices go in, and one number comes back.
-use ground::check::Judging;
 use ground::verdict::Verdict;
-use problem::read::Reading;
-use problem::write::Writing;
+use judging::judge::Judging;
+use reading::read::Reading;
 use rewriting::rewrite::Rewriting;
+use writing::write::Writing;
 ghost use mathlib.Core.Path.{_≡_};
-ghost use Rattle.problem.specs.Table.{readResult, readLeaves, writeResult, writeLeaves};
-ghost use Rattle.ground.specs.ModelCheck.{judgeResult};
+ghost use Rattle.reading.specs.Read.{readResult, readLeaves};
+ghost use Rattle.writing.specs.Write.{writeResult, writeLeaves};
+ghost use Rattle.judging.specs.ModelCheck.{judgeResult};
 ghost use Rattle.relevancy.specs.Engine.{fitResult, fitAnswer, fitWork};
 ghost use Rattle.magic.specs.Engine.{magicResult, magicRules, magicAnswer, magicWork};
 ghost use Rattle.rewriting.specs.Rewrite.{rewriteResult, rewriteLeaves};
@@ -69,7 +70,7 @@ fn pack_rewriting(r: Rewriting) -> u64
 pub extern "C" fn lutsamik_read(text: &[u8], table: &mut [u8]) -> u64
     ensures { λ n. ⌜ (n ≡ packReading (readResult (now (text .entry)) (now (table .entry)))) × (now (table .exit) ≡ readLeaves (now (text .entry)) (now (table .entry))) ⌝ }
 {
-    pack_reading(problem::read::read(text, table))
+    pack_reading(reading::read::read(text, table))
 }
 
 // Writes a table out as text, into 7,168 bytes.
@@ -77,7 +78,7 @@ pub extern "C" fn lutsamik_read(text: &[u8], table: &mut [u8]) -> u64
 pub extern "C" fn lutsamik_write(table: &[u8], out: &mut [u8]) -> u64
     ensures { λ n. ⌜ (n ≡ packWriting (writeResult (now (table .entry)) (now (out .entry)))) × (now (out .exit) ≡ writeLeaves (now (table .entry)) (now (out .entry))) ⌝ }
 {
-    pack_writing(problem::write::write(table, out))
+    pack_writing(writing::write::write(table, out))
 }
 
 // Judges an answer of 1,024 bytes by a table.
@@ -85,7 +86,7 @@ pub extern "C" fn lutsamik_write(table: &[u8], out: &mut [u8]) -> u64
 pub extern "C" fn lutsamik_judge(table: &[u8], answer: &[u8]) -> u64
     ensures { λ n. ⌜ n ≡ packJudging (judgeResult (now (table .entry)) (now (answer .entry))) ⌝ }
 {
-    pack_judging(ground::check::judge(table, answer))
+    pack_judging(judging::judge::judge(table, answer))
 }
 
 // Fits a table by the relevancy engine, with 1,024 answer bytes and 65,536 to work in.

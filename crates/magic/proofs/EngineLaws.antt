@@ -1,19 +1,26 @@
--- The ways out of the magic engine's operation.
-use Prim.Native.Nat.{ℕ, _+_, _≤_, _<_}
+-- The ways out of the magic engine's operation, and what is told of its walk.
+use Prim.Native.Nat.{ℕ, _-_, _≤_, _<_}
 use mathlib.Core.Bool.{true, false}
 use mathlib.Core.List.{List, _++_}
-use mathlib.Core.Path.{_≡_, refl, ap, _∙_}
+use mathlib.Core.Path.{_≡_, refl, sym, ap, subst, _∙_}
+use native.Mathlib.Omega.{arith}
 use lib.ListN.{length, take, drop, replicate}
 use borrow.Author.Tests.{lt-ltb, le-ltb}
+use Rattle.search.specs.Machine.{Satisfied, Refuted, Exhausted, outcome}
 use Rattle.problem.specs.Layout.{problemIn}
 use Rattle.problem.specs.Table.{Lawful, isValid}
 use Rattle.ground.specs.declared.verdict.Verdict.{Verdict}
 use Rattle.ground.specs.declared.verdict.Verdict.the-variants.{Refused}
 use Rattle.ground.specs.Verdict.{verdictOf, answerOf}
 use Rattle.rewriting.specs.RulesLayout.{rulesLayout}
-use Rattle.rewriting.specs.Facts.{Ruled}
+use Rattle.rewriting.specs.Facts.{Ruled, findIn}
 use Rattle.rewriting.specs.Rewrite.{rulesOver}
-use Rattle.magic.specs.Engine.{tooShort, magicOutcome, magicResult, magicRules, magicAnswer, magicWork}
+use Rattle.walk.specs.contracts.Place.{bitsIn}
+use Rattle.walk.specs.contracts.Walk.{Tells}
+use Rattle.walk.specs.declared.answer.Walked.{Walked}
+use Rattle.walk.specs.declared.answer.Walked.the-variants.{Shut, Opened, Exhausted as LimitMet}
+use Rattle.magic_walk.specs.contracts.Place.{magicWalker}
+use Rattle.magic.specs.Engine.{rulesOutcome, magicTooShort, magicOutcome, magicResult, magicRules, magicAnswer, magicWork}
 
 -- the rules of a valid table are the rules of its problem
 pub ruled : (tb rules : List ℕ) → Lawful tb → length (rulesOver tb rules) ≡ 16384 → Ruled (rulesOver tb rules)
@@ -27,19 +34,19 @@ ruled tb rules h size =
     }
 
 module _ (tb rules answer work : List ℕ) where
-  pub short-table : length tb < 4096 → tooShort tb rules answer work ≡ true
+  pub short-table : length tb < 4096 → magicTooShort tb rules answer work ≡ true
   short-table h = rw (lt-ltb (length tb) 4096 h)
 
-  pub short-rules : 4096 ≤ length tb → length rules < 16384 → tooShort tb rules answer work ≡ true
+  pub short-rules : 4096 ≤ length tb → length rules < 16384 → magicTooShort tb rules answer work ≡ true
   short-rules h k = rw (le-ltb (length tb) 4096 h, lt-ltb (length rules) 16384 k)
 
-  pub short-answer : 4096 ≤ length tb → 16384 ≤ length rules → length answer < 1024 → tooShort tb rules answer work ≡ true
+  pub short-answer : 4096 ≤ length tb → 16384 ≤ length rules → length answer < 1024 → magicTooShort tb rules answer work ≡ true
   short-answer h k l = rw (le-ltb (length tb) 4096 h, le-ltb (length rules) 16384 k, lt-ltb (length answer) 1024 l)
 
-  pub short-work : 4096 ≤ length tb → 16384 ≤ length rules → 1024 ≤ length answer → length work < 65536 → tooShort tb rules answer work ≡ true
+  pub short-work : 4096 ≤ length tb → 16384 ≤ length rules → 1024 ≤ length answer → length work < 65536 → magicTooShort tb rules answer work ≡ true
   short-work h k l m = rw (le-ltb (length tb) 4096 h, le-ltb (length rules) 16384 k, le-ltb (length answer) 1024 l, lt-ltb (length work) 65536 m)
 
-  pub long-enough : 4096 ≤ length tb → 16384 ≤ length rules → 1024 ≤ length answer → 65536 ≤ length work → tooShort tb rules answer work ≡ false
+  pub long-enough : 4096 ≤ length tb → 16384 ≤ length rules → 1024 ≤ length answer → 65536 ≤ length work → magicTooShort tb rules answer work ≡ false
   long-enough h k l m = rw (le-ltb (length tb) 4096 h, le-ltb (length rules) 16384 k, le-ltb (length answer) 1024 l, le-ltb (length work) 65536 m)
 
   -- what the operation says and leaves
@@ -47,15 +54,15 @@ module _ (tb rules answer work : List ℕ) where
   Fitted r rs left rest =
       (r ≡ magicResult tb rules answer work) × (rs ≡ magicRules tb rules answer work) × (left ≡ magicAnswer tb rules answer work) × (rest ≡ magicWork tb rules answer work)
 
-  pub fit-short : tooShort tb rules answer work ≡ true → Fitted (Refused 11) rules answer work
+  pub fit-short : magicTooShort tb rules answer work ≡ true → Fitted (Refused 11) rules answer work
   unfolding magicResult magicRules magicAnswer magicWork
   fit-short e = (rw e, rw e, rw e, rw e)
 
-  pub fit-invalid : tooShort tb rules answer work ≡ false → isValid (take 4096 tb) ≡ false → Fitted (Refused 31) rules answer work
+  pub fit-invalid : magicTooShort tb rules answer work ≡ false → isValid (take 4096 tb) ≡ false → Fitted (Refused 31) rules answer work
   unfolding magicResult magicRules magicAnswer magicWork
   fit-invalid e v = (rw (e, v), rw (e, v), rw (e, v), rw (e, v))
 
-  pub fit-runs : tooShort tb rules answer work ≡ false → isValid (take 4096 tb) ≡ true → (r : Verdict) (rs left part : List ℕ)
+  pub fit-runs : magicTooShort tb rules answer work ≡ false → isValid (take 4096 tb) ≡ true → (r : Verdict) (rs left part : List ℕ)
       → r ≡ verdictOf (magicOutcome (take 4096 tb) (take 16384 rules))
       → rs ≡ rulesOver (take 4096 tb) (take 16384 rules)
       → left ≡ answerOf (magicOutcome (take 4096 tb) (take 16384 rules)) answer
@@ -64,3 +71,22 @@ module _ (tb rules answer work : List ℕ) where
   unfolding magicResult magicRules magicAnswer magicWork
   fit-runs e v r rs left part o q a z =
       (o ∙ rw (e, v), ap (λ (l : List ℕ). l ++ drop 16384 rules) q ∙ rw (e, v), a ∙ rw (e, v), ap (λ (l : List ℕ). l ++ drop 65536 work) z ∙ rw (e, v))
+
+-- ---- what the walk's answer says of the outcome
+
+module _ (bs : List ℕ) (limit : ℕ) (x : Walked) (facts : List ℕ) (tells : Tells (magicWalker bs limit) x facts) where
+  outcome-is : rulesOutcome bs limit ≡ outcome (findIn bs) (limit - 0)
+  unfolding rulesOutcome
+  outcome-is = let all : limit - 0 ≡ limit = omega arith in ap (outcome (findIn bs)) (sym all)
+
+  told : (y : Walked) → x ≡ y → Tells (magicWalker bs limit) y facts
+  told y e = subst (λ (z : Walked). Tells (magicWalker bs limit) z facts) e tells
+
+  pub tells-open : (c d : ℕ) → x ≡ Opened c d → rulesOutcome bs limit ≡ Satisfied c (bitsIn (magicWalker bs limit) facts)
+  tells-open c d e = outcome-is ∙ told (Opened c d) e
+
+  pub tells-shut : (c : ℕ) → x ≡ Shut c → rulesOutcome bs limit ≡ Refuted c
+  tells-shut c e = outcome-is ∙ told (Shut c) e
+
+  pub tells-due : (d : ℕ) → x ≡ LimitMet d → rulesOutcome bs limit ≡ Exhausted limit
+  tells-due d e = outcome-is ∙ told (LimitMet d) e

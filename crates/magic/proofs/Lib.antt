@@ -1,5 +1,1 @@
-pub mod PathLaws
-pub mod PlaceLaws
-pub mod AltLaws
-pub mod WalkLaws
 pub mod EngineLaws

@@ -4,42 +4,46 @@ use mathlib.Core.Bool.{Bool, cond, _||_}
 use mathlib.Core.List.{List, _++_}
 use lib.Dec.{ltb}
 use lib.ListN.{length, take, drop, replicate}
-use Rattle.search.specs.Machine.{Outcome}
+use Rattle.search.specs.Machine.{Outcome, outcome}
 use Rattle.problem.specs.Problem.{limitOf}
 use Rattle.problem.specs.Layout.{problemIn}
 use Rattle.problem.specs.Table.{isValid}
 use Rattle.ground.specs.declared.verdict.Verdict.{Verdict}
 use Rattle.ground.specs.declared.verdict.Verdict.the-variants.{Refused}
 use Rattle.ground.specs.Verdict.{verdictOf, answerOf}
+use Rattle.rewriting.specs.Facts.{findIn}
 use Rattle.rewriting.specs.Rewrite.{rulesOver}
-use Rattle.magic.specs.Walk.{outcomeIn}
 
-abbrev pub tooShort : List ℕ → List ℕ → List ℕ → List ℕ → Bool
-tooShort tb rules answer work = ltb (length tb) 4096 || ltb (length rules) 16384 || ltb (length answer) 1024 || ltb (length work) 65536
+-- the outcome of the walk by a buffer's rules under a limit
+unfoldable pub rulesOutcome : List ℕ → ℕ → Outcome
+rulesOutcome bs limit = outcome (findIn bs) limit
+
+abbrev pub magicTooShort : List ℕ → List ℕ → List ℕ → List ℕ → Bool
+magicTooShort tb rules answer work = ltb (length tb) 4096 || ltb (length rules) 16384 || ltb (length answer) 1024 || ltb (length work) 65536
 
 -- the outcome of the magic walk by the rules that are left in the rules buffer, under the table's limit
 abbrev pub magicOutcome : List ℕ → List ℕ → Outcome
-magicOutcome tb rules = outcomeIn (rulesOver tb rules) (limitOf ((problemIn tb) .limit))
+magicOutcome tb rules = rulesOutcome (rulesOver tb rules) (limitOf ((problemIn tb) .limit))
 
 -- 11, then 31, then the rewriting and the walk
 unfoldable pub magicResult : List ℕ → List ℕ → List ℕ → List ℕ → Verdict
 magicResult tb rules answer work =
-    cond (tooShort tb rules answer work)
+    cond (magicTooShort tb rules answer work)
     (Refused 11)
     (cond (isValid (take 4096 tb)) (verdictOf (magicOutcome (take 4096 tb) (take 16384 rules))) (Refused 31))
 
 -- the rules stay, whatever the verdict
 unfoldable pub magicRules : List ℕ → List ℕ → List ℕ → List ℕ → List ℕ
 magicRules tb rules answer work =
-    cond (tooShort tb rules answer work) rules (cond (isValid (take 4096 tb)) (rulesOver (take 4096 tb) (take 16384 rules) ++ drop 16384 rules) rules)
+    cond (magicTooShort tb rules answer work) rules (cond (isValid (take 4096 tb)) (rulesOver (take 4096 tb) (take 16384 rules) ++ drop 16384 rules) rules)
 
 unfoldable pub magicAnswer : List ℕ → List ℕ → List ℕ → List ℕ → List ℕ
 magicAnswer tb rules answer work =
-    cond (tooShort tb rules answer work)
+    cond (magicTooShort tb rules answer work)
     answer
     (cond (isValid (take 4096 tb)) (answerOf (magicOutcome (take 4096 tb) (take 16384 rules)) answer) answer)
 
 -- "Work bytes are zero afterwards, up to 65,536."
 unfoldable pub magicWork : List ℕ → List ℕ → List ℕ → List ℕ → List ℕ
 magicWork tb rules answer work =
-    cond (tooShort tb rules answer work) work (cond (isValid (take 4096 tb)) (replicate 65536 0 ++ drop 65536 work) work)
+    cond (magicTooShort tb rules answer work) work (cond (isValid (take 4096 tb)) (replicate 65536 0 ++ drop 65536 work) work)

@@ -1,3 +1,1 @@
-pub mod Place
-pub mod Walk
 pub mod Engine

@@ -1,12 +1,12 @@
 // The magic engine's operation.
-use crate::walk::Walked;
-use crate::walk::walk;
-use ground::atom::pair;
 use ground::verdict::Verdict;
 use ground::verdict::give;
 use ground::verdict::limit_in;
-use problem::write::valid;
+use lists::pair;
+use magic_walk::trail::whole_walk;
 use rewriting::rewrite::write_rules;
+use walk::answer::Walked;
+use writing::write::valid;
 ghost use mathlib.Core.Path.{_≡_};
 ghost use Prim.Native.Nat.{_≤_};
 ghost use lib.ListN.{length, replicate};
@@ -14,19 +14,18 @@ ghost use Rattle.problem.specs.Table.{Lawful};
 ghost use Rattle.ground.specs.Verdict.{verdictOf, answerOf};
 ghost use Rattle.rewriting.specs.Facts.{Ruled};
 ghost use Rattle.rewriting.specs.Rewrite.{rulesOver};
-ghost use Rattle.magic.specs.Walk.{outcomeIn};
-ghost use Rattle.magic.specs.Engine.{magicOutcome, magicResult, magicRules, magicAnswer, magicWork};
+ghost use Rattle.magic.specs.Engine.{rulesOutcome, magicOutcome, magicResult, magicRules, magicAnswer, magicWork};
 
-// The magic walk by the rules of a buffer under a limit, in a buffer of 65,536 bytes.
-fn decide(rules: &[u8], limit: u32, answer: &mut [u8], work: &mut [u8]) -> Verdict
+// The magic walk by the rules of a buffer under a limit, in a buffer for its facts.
+fn decide(rules: &[u8], limit: u32, answer: &mut [u8], facts: &mut [u8]) -> Verdict
     requires { ⌜ Ruled (now rules) ⌝ }
-    requires { ⌜ (1024 ≤ length (now answer)) × (length (now work) ≡ 65536) ⌝ }
-    ensures { λ r. ⌜ (r ≡ verdictOf (outcomeIn (now (rules .entry)) limit)) × (now (answer .exit) ≡ answerOf (outcomeIn (now (rules .entry)) limit) (now (answer .entry))) ⌝ }
+    requires { ⌜ (1024 ≤ length (now answer)) × (length (now facts) ≡ 55302) ⌝ }
+    ensures { λ r. ⌜ (r ≡ verdictOf (rulesOutcome (now (rules .entry)) limit)) × (now (answer .exit) ≡ answerOf (rulesOutcome (now (rules .entry)) limit) (now (answer .entry))) ⌝ }
 {
-    let walked = walk(rules, work, limit);
+    let walked = whole_walk(rules, facts, limit);
     match walked {
-        Walked::Opened(count) => {
-            give(work, answer, pair(rules[8], rules[9]));
+        Walked::Opened(count, _depth) => {
+            give(facts, answer, pair(rules[8], rules[9]));
             return Verdict::Satisfied(count);
         }
         Walked::Shut(count) => {
@@ -37,7 +36,7 @@ fn decide(rules: &[u8], limit: u32, answer: &mut [u8], work: &mut [u8]) -> Verdi
     Verdict::Exhausted(limit)
 }
 
-// Rewrites a valid table, walks by the rules alone, and leaves the work buffer zero.
+// Rewrites a valid table, walks by the rules alone in the first part of the work buffer, and leaves it zero.
 fn run(table: &[u8], rules: &mut [u8], answer: &mut [u8], work: &mut [u8]) -> Verdict
     requires { ⌜ Lawful (now table) ⌝ }
     requires { ⌜ (length (now rules) ≡ 16384) × (1024 ≤ length (now answer)) × (length (now work) ≡ 65536) ⌝ }
@@ -45,7 +44,7 @@ fn run(table: &[u8], rules: &mut [u8], answer: &mut [u8], work: &mut [u8]) -> Ve
 {
     write_rules(table, rules);
     let limit = limit_in(table);
-    let verdict = decide(rules, limit, answer, work);
+    let verdict = decide(rules, limit, answer, &mut work[0..55302]);
     lists::zero(work);
     verdict
 }

@@ -4,3 +4,4 @@ pub mod close;
 pub mod fact;
 pub mod index;
 pub mod node;
+pub mod rule;

@@ -1,7 +1,7 @@
 -- What stands where in the table of a problem that fits: the fields that the engines read.
 use Prim.Native.Nat.{ℕ, zero, suc, _+_, _*_, _^_, _≤_, _<_}
 use mathlib.Core.List.{List, [], _∷_, _++_}
-use mathlib.Core.Path.{_≡_, refl, ap, _∙_}
+use mathlib.Core.Path.{_≡_, ap, _∙_}
 use native.Mathlib.Nat.{pow-zero, suc-mul}
 use native.Mathlib.Omega.{arith}
 use lib.ListN.{length, take, getD, replicate, length-append, List·getD-append}
@@ -51,15 +51,6 @@ module _ (q : Problem) (f : Fits q) where
 
   pub clauses-in : getD (layout q) 2 0 ≡ length (q .clauses)
   clauses-in = heading-byte q f 2 (omega arith)
-
-  pub limit-in : (i : ℕ) → i < 4 → getD (layout q) (4 + i) 0 ≡ getD (q .limit) i 0
-  limit-in i h =
-      let four : length (q .limit) ≡ 4 = f .limit-four in
-      let counts : List ℕ = bytes2 (atomCount (q .constants) (q .arities)) in
-      heading-byte q f (4 + i) (omega arith)
-      ∙ getD-skip (q .constants ∷ length (q .arities) ∷ length (q .clauses) ∷ 0 ∷ []) (q .limit ++ counts ++ replicate 6 0) 4 i refl
-      ∙ List·getD-append (q .limit ++ counts) (replicate 6 0) 0 i (omega (arith, length-append (q .limit) counts))
-      ∙ List·getD-append (q .limit) counts 0 i (omega arith)
 
   pub count-byte : (i : ℕ) → i < 2 → getD (layout q) (8 + i) 0 ≡ getD (bytes2 (atomCount (q .constants) (q .arities))) i 0
   count-byte i h =
@@ -152,18 +143,6 @@ module _ (q : Problem) (f : Fits q) (d : Clause) (k : ℕ) (below : k < length (
       (omega (arith, instances-fit (q .constants) (q .arities) (getD (q .clauses) k d) clause-fits bound))
       (clause-byte q f d k 4 below (omega arith))
       (clause-byte q f d k 5 below (omega arith))
-
-  pub offset-in : getD (layout q) (144 + 56 * k + 6) 0 + 256 * getD (layout q) (144 + 56 * k + 7) 0 ≡ weights (q .constants) (take k (q .clauses))
-  offset-in =
-      let whole : weights (q .constants) (q .clauses) ≤ 16384 = f .weights-fit in
-      held2
-      (layout q)
-      (144 + 56 * k + 6)
-      (144 + 56 * k + 7)
-      (weights (q .constants) (take k (q .clauses)))
-      (omega (arith, weights-take (q .constants) (q .clauses) k))
-      (clause-byte q f d k 6 below (omega arith))
-      (clause-byte q f d k 7 below (omega arith))
 
   -- atom i of the conditions, or of the alternatives, whose slots start at byte n of the record
   atom-in : (e : Atom) (n : ℕ) (atoms : List Atom) → n ≤ 32 → length atoms ≤ 4 → All (AtomFits (q .constants) (q .arities) (getD (q .clauses) k d .vars)) atoms

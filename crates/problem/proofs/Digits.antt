@@ -12,14 +12,6 @@ use lib.ListN.{length, getD}
 use Rattle.lists.proofs.Test.{T-left, T-right}
 use Rattle.problem.specs.Digit.{digits, placeOf, digitOf, isDigit, hexByte}
 
-pub place-le : (ds : List ℕ) (b : ℕ) → placeOf ds b ≤ length ds
-place-le [] b = omega arith
-place-le (d ∷ ds) b = go (eqb d b) (place-le ds b)
-  where
-    go : (t : Bool) → placeOf ds b ≤ length ds → cond t 0 (suc (placeOf ds b)) ≤ suc (length ds)
-    go true h = omega arith
-    go false h = omega arith
-
 -- what stands at the place of b is b
 pub place-back : (ds : List ℕ) (b : ℕ) → placeOf ds b < length ds → getD ds (placeOf ds b) 0 ≡ b
 place-back [] b h = absurd (omega arith)
@@ -42,14 +34,6 @@ passes-at p (suc n) t b h = go (eq-or-lt-of-le h) (passes-at p n (T-left (passes
     go : (suc b ≡ suc n) ⊎ (suc b < suc n) → (b < n → T (p b)) → T (p b)
     go (inl e) f = let same : n ≡ b = omega arith in subst (λ (k : ℕ). T (p k)) same (T-right (passes p n) (p n) t)
     go (inr l) f = f (omega arith)
-
-pub digit-value : (b : ℕ) → b < 16 → digitOf (getD digits b 0) ≡ b
-unfolding digitOf
-digit-value b h = eqb→eq (placeOf digits (getD digits b 0)) b (passes-at (λ k. eqb (placeOf digits (getD digits k 0)) k) 16 tt b h)
-
-pub digit-le : (b : ℕ) → digitOf b ≤ 16
-unfolding digitOf
-digit-le b = place-le digits b
 
 pub digit-is : (b : ℕ) → digitOf b < 16 → T (isDigit b)
 unfolding isDigit

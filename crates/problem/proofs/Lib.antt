@@ -3,11 +3,5 @@ pub mod Lines
 pub mod Judges
 pub mod TableLayout
 pub mod Parse
-pub mod ClauseLaws
 pub mod Access
-pub mod FilledLaws
-pub mod ArityLaws
-pub mod TurnLaws
-pub mod ReadLaws
-pub mod WriteLaws
 pub mod Theorems

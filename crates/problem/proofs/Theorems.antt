@@ -1,5 +1,6 @@
 -- The claims of `specs/Claims.antt`, proved.
 use Prim.Native.Nat.{ℕ}
+use mathlib.Core.Bool.{true}
 use mathlib.Core.List.{List}
 use mathlib.Core.Path.{_≡_, refl, sym, ap, subst, _∙_}
 use lib.Dec.{T}
@@ -40,6 +41,9 @@ unfolding isValid
 valid-to tb v =
     let back : print tb ≡ v .text = ap print (sym (v .bytes)) ∙ print-back (v .text) (v .problem) (v .accepted) in
     subst (λ (o : Parsed). T (readsTo o tb)) (sym (ap parse back ∙ v .accepted)) (subst (λ (b : List ℕ). T (sameList (layout (v .problem)) b)) (v .bytes) (same-refl (layout (v .problem))))
+
+pub valid-table : (tb : List ℕ) → isValid tb ≡ true → Lawful tb
+valid-table tb e = valid-lawful tb (valid-from tb (subst T (sym e) tt))
 
 pub theorems : Theorems
 theorems =

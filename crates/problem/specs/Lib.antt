@@ -6,6 +6,4 @@ pub mod Parse
 pub mod Layout
 pub mod Print
 pub mod Table
-pub mod Filled
-pub mod Printed
 pub mod Claims

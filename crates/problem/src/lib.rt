@@ -1,7 +1,3 @@
-// The ticket's text and its table: reading, writing, and which tables are valid.
-pub mod clause;
-pub mod digit;
+// The ticket's text and its table, with no code but the answers that the definitions name: what a text says, which table it reads to, and which tables are valid.
 pub mod judge;
 pub mod line;
-pub mod read;
-pub mod write;

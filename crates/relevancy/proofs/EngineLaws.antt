@@ -1,29 +1,25 @@
--- The steps of the engine's own loops and answers, over lists.
-use Prim.Native.Nat.{ℕ, suc, _+_, _*_, _≤_, _<_}
-use mathlib.Core.Bool.{Bool, true, false, not, _||_}
-use mathlib.Core.List.{List, [], _∷_, _++_, map, append-assoc}
-use mathlib.Core.Path.{_≡_, refl, sym, ap, _∙_}
-use native.Mathlib.Numerals.{add-one}
+-- The ways out of the operation, and what is told of its walk.
+use Prim.Native.Nat.{ℕ, _-_, _≤_, _<_}
+use mathlib.Core.Bool.{true, false}
+use mathlib.Core.List.{List, _++_}
+use mathlib.Core.Path.{_≡_, ap, sym, _∙_}
 use native.Mathlib.Omega.{arith}
-use lib.Dec.{eqb}
-use lib.ListN.{length, take, drop, getD, set, replicate, length-map, length-replicate, getD-replicate}
+use lib.ListN.{length, take, drop, replicate}
 use borrow.Author.Tests.{lt-ltb, le-ltb}
-use lib.Seq.{drop-cons, set-at, getD-take, getD-drop}
-use Rattle.lists.specs.Tabulate.{tabulate}
-use Rattle.lists.proofs.Tabulate.{tabulate-length, tabulate-same}
-use Rattle.search.specs.Relevancy.{modelBits}
-use Rattle.search.specs.Machine.{Outcome, Satisfied, Refuted, Exhausted}
-use Rattle.store.specs.Store.{isSet, bit}
+use Rattle.search.specs.Relevancy.{findR}
+use Rattle.search.specs.Machine.{Satisfied, Refuted, Exhausted, outcome}
 use Rattle.problem.specs.Problem.{limitOf}
 use Rattle.problem.specs.Layout.{problemIn}
 use Rattle.problem.specs.Table.{isValid}
 use Rattle.ground.specs.declared.verdict.Verdict.{Verdict}
-use Rattle.ground.specs.declared.verdict.Verdict.the-variants.{Refused, Satisfied as IsSatisfied, Refuted as IsRefuted, Exhausted as IsExhausted}
-use Rattle.relevancy_node.specs.Node.{groundIn}
-use Rattle.relevancy.specs.Place.{factsIn, bitsIn, Blank}
-use Rattle.relevancy.specs.Walk.{outcomeIn}
+use Rattle.ground.specs.declared.verdict.Verdict.the-variants.{Refused}
 use Rattle.ground.specs.Verdict.{verdictOf, answerOf}
-use Rattle.relevancy.specs.Engine.{tooShort, fitResult, fitAnswer, fitWork}
+use Rattle.ground.specs.Instance.{groundIn}
+use Rattle.walk.specs.contracts.Place.{bitsIn}
+use Rattle.walk.specs.contracts.Walk.{Tells}
+use Rattle.walk.specs.declared.answer.Walked.the-variants.{Shut, Opened, Exhausted as LimitMet}
+use Rattle.relevancy_walk.specs.contracts.Place.{relevancyWalker}
+use Rattle.relevancy.specs.Engine.{outcomeIn, tooShort, fitResult, fitAnswer, fitWork}
 
 -- ---- the ways out of the operation
 
@@ -57,3 +53,21 @@ module _ (tb answer work : List ℕ) where
       → Fitted r left (part ++ drop 65536 work)
   unfolding fitResult fitAnswer fitWork
   fit-runs e v r left part o a z = (o ∙ rw (e, v), a ∙ rw (e, v), ap (λ (l : List ℕ). l ++ drop 65536 work) z ∙ rw (e, v))
+
+-- ---- what the walk's answer says of the outcome
+
+outcome-is : (tb : List ℕ) → outcomeIn tb ≡ outcome (findR (groundIn tb)) (limitOf ((problemIn tb) .limit) - 0)
+unfolding outcomeIn
+outcome-is tb =
+    let all : limitOf ((problemIn tb) .limit) - 0 ≡ limitOf ((problemIn tb) .limit) = omega arith in
+    ap (outcome (findR (groundIn tb))) (sym all)
+
+module _ (tb facts : List ℕ) where
+  pub tells-open : (c d : ℕ) → Tells (relevancyWalker tb) (Opened c d) facts → outcomeIn tb ≡ Satisfied c (bitsIn (relevancyWalker tb) facts)
+  tells-open c d h = outcome-is tb ∙ h
+
+  pub tells-shut : (c : ℕ) → Tells (relevancyWalker tb) (Shut c) facts → outcomeIn tb ≡ Refuted c
+  tells-shut c h = outcome-is tb ∙ h
+
+  pub tells-due : (d : ℕ) → Tells (relevancyWalker tb) (LimitMet d) facts → outcomeIn tb ≡ Exhausted (limitOf ((problemIn tb) .limit))
+  tells-due d h = outcome-is tb ∙ h

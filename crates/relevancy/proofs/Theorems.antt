@@ -1,6 +1,6 @@
 -- The claims of `specs/Claims.antt`, proved.
 use Prim.Native.Nat.{ℕ, zero, suc, _≤_, _<_}
-use mathlib.Core.Bool.{Bool, true, false, not}
+use mathlib.Core.Bool.{Bool, true, false}
 use mathlib.Core.List.{List, [], _∷_, _++_, map}
 use mathlib.Core.Logic.{_⊎_, inl, inr, ∥∥₁-map}
 use mathlib.Core.Option.{Option, none, some}
@@ -19,21 +19,19 @@ use Rattle.search.specs.Relevancy.{findR}
 use Rattle.search.specs.Machine.{Branch, Place, Outcome, Satisfied, Refuted, Exhausted, stopped, answerAt, nextPath, answer, last, root, entries, outcome, Whole}
 use Rattle.search.specs.Claims.{ModelGiven}
 use Rattle.search.proofs.Theorems.{theorems as walks}
-use Rattle.store.specs.Store.{bit}
+use Rattle.lists.specs.Bytes.{bit, isSet}
 use Rattle.problem.specs.Problem.{atomCount}
 use Rattle.problem.specs.Layout.{problemIn}
 use Rattle.problem.specs.Table.{Lawful, isValid}
 use Rattle.problem.proofs.Theorems.{theorems as tables}
-use Rattle.ground.specs.declared.check.Judging.the-variants.{Model as IsModel}
-use Rattle.ground.specs.Instance.{Instance}
-use Rattle.ground.specs.ModelCheck.{isSet, judgeResult}
+use Rattle.judging.specs.declared.judge.Judging.the-variants.{Model as IsModel}
+use Rattle.ground.specs.Instance.{Instance, groundIn}
+use Rattle.judging.specs.ModelCheck.{judgeResult}
 use Rattle.ground.proofs.Instances.{atoms-are, atoms-few, ground-proper}
-use Rattle.ground.proofs.CheckLaws.{model-checked}
+use Rattle.judging.proofs.CheckLaws.{model-checked}
 use Rattle.ground.specs.declared.verdict.Verdict.the-variants.{Refused, Satisfied as IsSatisfied, Refuted as IsRefuted, Exhausted as IsExhausted}
-use Rattle.relevancy_node.specs.Node.{groundIn}
-use Rattle.relevancy.specs.Walk.{outcomeIn}
 use Rattle.ground.specs.Verdict.{verdictOf, answerOf}
-use Rattle.relevancy.specs.Engine.{fitResult, fitAnswer}
+use Rattle.relevancy.specs.Engine.{outcomeIn, fitResult, fitAnswer}
 use Rattle.relevancy.specs.Claims.{Taken, limitLent, FullWalk, Demand2, Theorems}
 use Rattle.relevancy.proofs.EngineLaws.{short-table, short-answer, short-work, long-enough, fit-short, fit-invalid}
 

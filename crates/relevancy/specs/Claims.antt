@@ -12,12 +12,12 @@ use Rattle.search.specs.Machine.{Place, root, Whole}
 use Rattle.problem.specs.Problem.{limitOf}
 use Rattle.problem.specs.Layout.{problemIn}
 use Rattle.problem.specs.Table.{Valid}
-use Rattle.ground.specs.declared.check.Judging.the-variants.{Model as IsModel}
-use Rattle.ground.specs.Instance.{Instance}
-use Rattle.ground.specs.ModelCheck.{isSet, judgeResult}
+use Rattle.judging.specs.declared.judge.Judging.the-variants.{Model as IsModel}
+use Rattle.ground.specs.Instance.{Instance, groundIn}
+use Rattle.lists.specs.Bytes.{isSet}
+use Rattle.judging.specs.ModelCheck.{judgeResult}
 use Rattle.ground.specs.declared.verdict.Verdict.{Verdict}
 use Rattle.ground.specs.declared.verdict.Verdict.the-variants.{Refused, Satisfied as IsSatisfied, Refuted as IsRefuted, Exhausted as IsExhausted}
-use Rattle.relevancy_node.specs.Node.{groundIn}
 use Rattle.relevancy.specs.Engine.{fitResult, fitAnswer}
 
 -- the buffers are long enough, and some accepted text reads to the table

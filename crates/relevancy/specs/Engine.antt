@@ -1,16 +1,22 @@
 -- What the relevancy engine gives for a lent table, and what it leaves in each lent buffer.
-use Prim.Native.Nat.{ℕ, _+_}
-use mathlib.Core.Bool.{Bool, not, cond, _||_}
-use mathlib.Core.List.{List, _++_, map}
+use Prim.Native.Nat.{ℕ}
+use mathlib.Core.Bool.{Bool, cond, _||_}
+use mathlib.Core.List.{List, _++_}
 use lib.Dec.{ltb}
 use lib.ListN.{length, take, drop, replicate}
-use Rattle.search.specs.Machine.{Outcome, Satisfied, Refuted, Exhausted}
-use Rattle.store.specs.Store.{isSet, bit}
+use Rattle.search.specs.Relevancy.{findR}
+use Rattle.search.specs.Machine.{Outcome, outcome}
+use Rattle.problem.specs.Problem.{limitOf}
+use Rattle.problem.specs.Layout.{problemIn}
 use Rattle.problem.specs.Table.{isValid}
 use Rattle.ground.specs.declared.verdict.Verdict.{Verdict}
 use Rattle.ground.specs.declared.verdict.Verdict.the-variants.{Refused}
 use Rattle.ground.specs.Verdict.{verdictOf, answerOf}
-use Rattle.relevancy.specs.Walk.{outcomeIn}
+use Rattle.ground.specs.Instance.{groundIn}
+
+-- the outcome of a table's walk under its own limit
+unfoldable pub outcomeIn : List ℕ → Outcome
+outcomeIn tb = outcome (findR (groundIn tb)) (limitOf ((problemIn tb) .limit))
 
 abbrev pub tooShort : List ℕ → List ℕ → List ℕ → Bool
 tooShort tb answer work = ltb (length tb) 4096 || ltb (length answer) 1024 || ltb (length work) 65536

@@ -1,4 +1,2 @@
-pub mod Place
-pub mod Walk
 pub mod Engine
 pub mod Claims

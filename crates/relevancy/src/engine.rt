@@ -1,33 +1,28 @@
 // The relevancy engine's operation.
-use crate::walk::Walked;
-use crate::walk::walk;
-use ground::atom::pair;
 use ground::verdict::Verdict;
 use ground::verdict::give;
 use ground::verdict::limit_in;
-use problem::write::valid;
+use lists::pair;
+use relevancy_walk::trail::whole_walk;
+use walk::answer::Walked;
+use writing::write::valid;
 ghost use mathlib.Core.Path.{_≡_};
-ghost use mathlib.Core.List.{_++_, map};
-ghost use Prim.Native.Nat.{_+_, _≤_};
-ghost use lib.ListN.{length, take, drop, replicate};
-ghost use Rattle.search.specs.Relevancy.{modelBits};
-ghost use Rattle.store.specs.Store.{isSet, bit};
-ghost use Rattle.problem.specs.Problem.{limitOf};
+ghost use Prim.Native.Nat.{_≤_};
+ghost use lib.ListN.{length, replicate};
 ghost use Rattle.problem.specs.Table.{Lawful};
-ghost use Rattle.relevancy.specs.Walk.{outcomeIn};
 ghost use Rattle.ground.specs.Verdict.{verdictOf, answerOf};
-ghost use Rattle.relevancy.specs.Engine.{fitResult, fitAnswer, fitWork};
+ghost use Rattle.relevancy.specs.Engine.{outcomeIn, fitResult, fitAnswer, fitWork};
 
-// The relevancy walk of a valid table, in a buffer of 65,536 bytes.
-fn decide(table: &[u8], answer: &mut [u8], work: &mut [u8]) -> Verdict
+// The relevancy walk of a valid table, in a buffer for its facts.
+fn decide(table: &[u8], answer: &mut [u8], facts: &mut [u8]) -> Verdict
     requires { ⌜ Lawful (now table) ⌝ }
-    requires { ⌜ (1024 ≤ length (now answer)) × (length (now work) ≡ 65536) ⌝ }
+    requires { ⌜ (1024 ≤ length (now answer)) × (length (now facts) ≡ 6150) ⌝ }
     ensures { λ r. ⌜ (r ≡ verdictOf (outcomeIn (now (table .entry)))) × (now (answer .exit) ≡ answerOf (outcomeIn (now (table .entry))) (now (answer .entry))) ⌝ }
 {
-    let walked = walk(table, work);
+    let walked = whole_walk(table, facts);
     match walked {
-        Walked::Opened(count) => {
-            give(work, answer, pair(table[8], table[9]));
+        Walked::Opened(count, _depth) => {
+            give(facts, answer, pair(table[8], table[9]));
             return Verdict::Satisfied(count);
         }
         Walked::Shut(count) => {
@@ -38,13 +33,13 @@ fn decide(table: &[u8], answer: &mut [u8], work: &mut [u8]) -> Verdict
     Verdict::Exhausted(limit_in(table))
 }
 
-// The same, and the buffer is left zero.
+// The same, in the first part of the work buffer, which is left zero.
 fn run(table: &[u8], answer: &mut [u8], work: &mut [u8]) -> Verdict
     requires { ⌜ Lawful (now table) ⌝ }
     requires { ⌜ (1024 ≤ length (now answer)) × (length (now work) ≡ 65536) ⌝ }
     ensures { λ r. ⌜ (r ≡ verdictOf (outcomeIn (now (table .entry)))) × (now (answer .exit) ≡ answerOf (outcomeIn (now (table .entry))) (now (answer .entry))) × (now (work .exit) ≡ replicate 65536 0) ⌝ }
 {
-    let verdict = decide(table, answer, work);
+    let verdict = decide(table, answer, &mut work[0..6150]);
     lists::zero(work);
     verdict
 }

@@ -1,4 +1,2 @@
-// The relevancy engine: the walk of a table, and the operation over lent buffers. It marks the relevant facts afresh at each node.
+// The relevancy engine's operation over lent buffers.
 pub mod engine;
-pub mod place;
-pub mod walk;

@@ -4,3 +4,5 @@ pub mod close;
 pub mod index;
 pub mod mark;
 pub mod node;
+pub mod visit;
+pub mod work;

@@ -12,15 +12,16 @@ use Rattle.lists.proofs.Test.{T-true}
 use Rattle.search.specs.Ground.{Found}
 use Rattle.search.specs.Machine.{Outcome, Satisfied, outcome}
 use Rattle.search.proofs.Theorems.{theorems}
-use Rattle.problem.specs.declared.read.Reading.the-variants.{Refused, Accepted}
+use Rattle.reading.specs.declared.read.Reading.the-variants.{Refused, Accepted}
 use Rattle.problem.specs.Problem.{Problem, Fits, atomCount, limitOf}
 use Rattle.problem.specs.Parse.{Parsed, refused, parsed, parse}
 use Rattle.problem.specs.Layout.{layout, problemIn}
-use Rattle.problem.specs.Table.{Valid, Lawful, isValid, readingOf, tableOf, readResult, readLeaves}
-use Rattle.problem.specs.Printed.{Put}
+use Rattle.problem.specs.Table.{Valid, Lawful, isValid}
+use Rattle.reading.specs.Read.{readingOf, tableOf, readResult, readLeaves}
+use Rattle.writing.specs.contracts.Printed.{Put}
 use Rattle.problem.proofs.Parse.{parse-fits}
 use Rattle.problem.proofs.TableLayout.{layout-length, problem-back}
-use Rattle.problem.proofs.WriteLaws.{put-count, put-front, put-text}
+use Rattle.writing.proofs.WriteLaws.{put-count, put-front, put-text}
 use Rattle.problem.proofs.Theorems.{valid-to, valid-lawful}
 use Rattle.ground.specs.Instance.{Instance, groundOf}
 use Rattle.ground.specs.Report.{report, refusal}
@@ -28,13 +29,11 @@ use Rattle.ground.specs.Names.{instanceKey}
 use Rattle.ground.specs.Walks.{relevancy, magic, printed}
 use Rattle.ground.proofs.Instances.{ground-proper}
 use Rattle.ground.specs.declared.verdict.Verdict.{Verdict}
-use Rattle.relevancy.specs.Walk.{outcomeIn}
+use Rattle.relevancy.specs.Engine.{outcomeIn, fitResult, fitAnswer}
 use Rattle.ground.specs.Verdict.{verdictOf, answerOf}
-use Rattle.relevancy.specs.Engine.{fitResult, fitAnswer}
 use Rattle.relevancy.proofs.EngineLaws.{long-enough}
 use Rattle.rewriting.specs.RulesLayout.{rulesLayout}
-use Rattle.magic.specs.Walk.{outcomeIn as rulesOutcomeIn}
-use Rattle.magic.specs.Engine.{magicOutcome, magicResult, magicAnswer}
+use Rattle.magic.specs.Engine.{rulesOutcome, magicOutcome, magicResult, magicAnswer}
 use Rattle.rewriting.proofs.RegroupLaws.{find-by}
 use Rattle.magic.proofs.EngineLaws.{long-enough as all-long}
 use Rattle.report.specs.Told.{told}
@@ -132,7 +131,7 @@ module _ (x tb : List ℕ) (t : ReadInto x tb) where
 
   -- the walk by the rules written is the magic walk of the table's problem
   magic-own : (rules : List ℕ) → magicOutcome tb rules ≡ outcome (magic (problemIn tb)) limit
-  unfolding rulesOutcomeIn
+  unfolding rulesOutcome
   magic-own rules =
       ap (λ (f : List ℕ → Found Instance). outcome f limit) (find-by (problemIn tb) (taken-lawful .fits) (drop (length (rulesLayout (problemIn tb))) rules))
 

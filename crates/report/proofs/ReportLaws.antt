@@ -11,14 +11,14 @@ use lib.Seq.{length-take-le}
 use Rattle.lists.specs.Tabulate.{tabulate}
 use Rattle.lists.proofs.Member.{flat-append}
 use Rattle.lists.proofs.Tabulate.{tabulate-length}
-use Rattle.store.specs.Store.{isSet}
+use Rattle.lists.specs.Bytes.{isSet}
 use Rattle.problem.specs.Digit.{hexLine}
 use Rattle.problem.specs.Problem.{Problem, atomCount}
 use Rattle.problem.specs.Layout.{aritiesIn, problemIn}
 use Rattle.problem.specs.Table.{Lawful}
-use Rattle.problem.specs.Printed.{Put}
-use Rattle.problem.proofs.WriteLaws.{put-as, put-most, put-then, put-none}
-use Rattle.ground.specs.Matching.{Decoded}
+use Rattle.writing.specs.contracts.Printed.{Put}
+use Rattle.writing.proofs.WriteLaws.{put-as, put-most, put-then, put-none}
+use Rattle.ground.specs.contracts.Matching.{Decoded}
 use Rattle.ground.specs.Report.{atomsInOrder, chosen}
 use Rattle.ground.proofs.MatchLaws.{PredicateKnown, predicate-known}
 use Rattle.report.specs.Told.{atomLine, modelLines}

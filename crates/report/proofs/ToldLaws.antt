@@ -6,7 +6,7 @@ use mathlib.Core.Path.{_≡_, refl, sym, ap}
 use lib.ListN.{length, drop}
 use Rattle.lists.proofs.Bytes.{tabulate-of}
 use Rattle.search.specs.Machine.{Outcome, Satisfied, Refuted, Exhausted}
-use Rattle.store.specs.Store.{isSet, bit}
+use Rattle.lists.specs.Bytes.{isSet, bit}
 use Rattle.problem.specs.Problem.{Problem, atomCount}
 use Rattle.ground.specs.Report.{verdictLine, report, refusal}
 use Rattle.ground.specs.declared.verdict.Verdict.the-variants.{Refused, Satisfied as IsSatisfied, Refuted as IsRefuted, Exhausted as IsExhausted}

@@ -6,7 +6,7 @@ use mathlib.Core.List.{List, [], _∷_, flatMap}
 use lib.ListN.{getD}
 use Rattle.lists.specs.Tabulate.{tabulate}
 use Rattle.search.specs.Machine.{Satisfied, Refuted, Exhausted}
-use Rattle.store.specs.Store.{isSet}
+use Rattle.lists.specs.Bytes.{isSet}
 use Rattle.problem.specs.Digit.{hexLine}
 use Rattle.problem.specs.Problem.{Problem, atomCount}
 use Rattle.ground.specs.Report.{atomsInOrder, chosen, report, refusal}

@@ -2,14 +2,14 @@
 use crate::line::put_atom;
 use crate::line::put_count;
 use crate::line::put_refusal;
-use ground::atom::pair;
 use ground::verdict::Verdict;
+use lists::pair;
 ghost use Prim.Native.Nat.{_+_, _<_, _≤_};
 ghost use lib.ListN.{length};
 ghost use Rattle.problem.specs.Problem.{atomCount};
 ghost use Rattle.problem.specs.Layout.{problemIn};
 ghost use Rattle.problem.specs.Table.{Lawful};
-ghost use Rattle.problem.specs.Printed.{Put};
+ghost use Rattle.writing.specs.contracts.Printed.{Put};
 ghost use Rattle.report.specs.Told.{atomLine, modelLines, told};
 
 // The line of atom a, if its answer byte is 1.

@@ -1,7 +1,7 @@
 // The printed lines.
 use ground::matching::decode;
-use problem::write::put_byte;
-use problem::write::put_end;
+use writing::write::put_byte;
+use writing::write::put_end;
 ghost use mathlib.Core.List.{[], _∷_};
 ghost use Prim.Native.Nat.{_+_, _*_, _<_, _≤_};
 ghost use lib.ListN.{length, getD};
@@ -9,7 +9,7 @@ ghost use Rattle.problem.specs.Digit.{hexLine};
 ghost use Rattle.problem.specs.Problem.{atomCount};
 ghost use Rattle.problem.specs.Layout.{problemIn};
 ghost use Rattle.problem.specs.Table.{Lawful};
-ghost use Rattle.problem.specs.Printed.{Put};
+ghost use Rattle.writing.specs.contracts.Printed.{Put};
 ghost use Rattle.ground.specs.Report.{atomsInOrder, verdictLine, refusal};
 
 // A frame as a line.

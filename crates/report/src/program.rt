@@ -1,9 +1,9 @@
 // What a program prints of a text.
 use crate::answer::put_verdict;
 use crate::line::put_refusal;
-use problem::read::Reading;
-use problem::read::read;
-ghost use Rattle.problem.specs.Printed.{Put};
+use reading::read::Reading;
+use reading::read::read;
+ghost use Rattle.writing.specs.contracts.Printed.{Put};
 ghost use Rattle.ground.specs.Walks.{relevancy, magic, printed};
 
 // Prints what the relevancy engine says of a text, and gives the number of bytes.

@@ -11,6 +11,5 @@ pub mod Magic
 pub mod Regroup
 pub mod OneTrail
 pub mod MagicPath
-pub mod Limit
 pub mod Cases
 pub mod Theorems

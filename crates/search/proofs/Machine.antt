@@ -11,7 +11,7 @@ use lib.ListN.{length, length-append}
 use borrow.Author.Tests.{lt-ltb, le-ltb}
 use Rattle.lists.specs.Member.{All}
 use Rattle.search.specs.Ground.{Found, closed, opened, split}
-use Rattle.search.specs.Machine.{Branch, Place, entered, enter, back, after, nextPath, Satisfied, Exhausted, stopped, answerAt, answer, last, place, placed, advance, entries, proceed, resume, Whole}
+use Rattle.search.specs.Machine.{Branch, Place, enter, back, after, nextPath, Satisfied, Exhausted, stopped, answerAt, answer, last, place, placed, advance, entries, proceed, Whole}
 
 pub last-all {ℓ} : {I : Type 0} (P : Place I → Type ℓ) (s : Place I) (es : List (Place I)) → P s → All P es → P (last s es)
 last-all P s [] h a = h
@@ -66,7 +66,7 @@ module _ {I : Type 0} (find : List ℕ → Found I) where
   unfolding proceed
   proceed-some n c s t e = rw (entries-some n s t e, add-suc, suc-add)
 
-  last-append : (s : Place I) (es fs : List (Place I)) → last s (es ++ fs) ≡ last (last s es) fs
+  pub last-append : (s : Place I) (es fs : List (Place I)) → last s (es ++ fs) ≡ last (last s es) fs
   last-append s [] fs = refl
   last-append s (t ∷ ts) fs = last-append t ts fs
 
@@ -120,24 +120,3 @@ module _ {I : Type 0} (find : List ℕ → Found I) where
   proceed-limit s (t ∷ ts) w zero c = rw (proceed-zero c s, answer-some s t c (w .0), lt-ltb 0 (suc (length ts)) (omega arith), add-zero)
   proceed-limit s (t ∷ ts) w (suc n) c =
       rw (proceed-some n c s t (w .0), proceed-limit t ts (w .1) n (suc c), leb·suc-suc (suc n) (length ts), suc-add c n, suc-add c (length ts), add-suc c n, add-suc c (length ts))
-
-  -- running on from a place is answering there, or making the entry of the next path
-  pub proceed-open : (left count : ℕ) (bs : List (Branch I)) (bits : List Bool) → find (entered bs) ≡ opened bits → proceed find left count (place find bs) ≡ Satisfied count bits
-  proceed-open left count bs bits e =
-      let over : advance find (place find bs) ≡ none = ap (λ (f : Found I). placed find (after f bs)) e in
-      proceed-none left count (place find bs) over ∙ ap (λ (f : Found I). answerAt f (after f bs) count) e
-
-  resumes : (left count : ℕ) (bs : List (Branch I)) (o : Option (List (Branch I))) → nextPath (place find bs) ≡ o → answer (place find bs) count ≡ stopped o count
-      → proceed find left count (place find bs) ≡ resume find left count o
-  unfolding resume
-  resumes left count bs none e a = proceed-none left count (place find bs) (ap (placed find) e) ∙ a
-  resumes zero count bs (some cs) e a = proceed-zero count (place find bs) ∙ a
-  resumes (suc left) count bs (some cs) e a = proceed-some left count (place find bs) (place find cs) (ap (placed find) e)
-
-  pub proceed-closed : (left count : ℕ) (bs : List (Branch I)) → find (entered bs) ≡ closed → proceed find left count (place find bs) ≡ resume find left count (back bs)
-  proceed-closed left count bs e = resumes left count bs (back bs) (ap (λ (f : Found I). after f bs) e) (ap (λ (f : Found I). answerAt f (after f bs) count) e)
-
-  pub proceed-split : (left count : ℕ) (bs : List (Branch I)) (i : I) (ds : List ℕ) → find (entered bs) ≡ split i ds
-      → proceed find left count (place find bs) ≡ resume find left count (enter i ds bs (back bs))
-  proceed-split left count bs i ds e =
-      resumes left count bs (enter i ds bs (back bs)) (ap (λ (f : Found I). after f bs) e) (ap (λ (f : Found I). answerAt f (after f bs) count) e)

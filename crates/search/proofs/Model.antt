@@ -10,7 +10,7 @@ use native.Mathlib.Omega.{arith}
 use lib.Dec.{T, T-not}
 use lib.ListN.{getD}
 use Rattle.lists.specs.Key.{natKey}
-use Rattle.lists.specs.Member.{All, Any, every, first, has, In}
+use Rattle.lists.specs.Member.{All, Any, every, first, In}
 use Rattle.lists.proofs.Test.{and-T, decided, not-not}
 use Rattle.lists.proofs.Member.{all-map, all-zip, any-zip, every-all, all-every, some-fails, first-none}
 use Rattle.lists.proofs.Tabulate.{tabulate-at}

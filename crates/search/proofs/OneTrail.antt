@@ -11,7 +11,7 @@ use Rattle.lists.specs.Member.{All, every, first}
 use Rattle.lists.specs.Tabulate.{tabulate}
 use Rattle.lists.proofs.Test.{and-T, T-left, T-right, same-test, fails, T-true}
 use Rattle.lists.proofs.Member.{all-map, all-zip, every-all, all-every}
-use Rattle.search.specs.Ground.{Ground, Found, split, goals, orFalse, disjunctive}
+use Rattle.search.specs.Ground.{Ground, Found, goals, orFalse, disjunctive}
 use Rattle.search.specs.Relevancy.{isTrue, isRelevant, splittable, modelBits, foundAs, withAlts, findR}
 use Rattle.search.specs.Magic.{Magic, tru, rel, cont, heads, MagicRule, stages, rewriteInstance, rewriting, holds, ready, withHeads, findM}
 use Rattle.search.specs.Machine.{Branch, Place, entered, nextPath, answer, last, place, placed, root, entries, trail, outcome, proceed, Genuine}

@@ -7,11 +7,11 @@ use mathlib.Core.Path.{_≡_, sym, subst}
 use lib.Dec.{T, T-not}
 use lib.ListN.{length, length-map}
 use Rattle.lists.specs.Key.{natKey}
-use Rattle.lists.specs.Member.{All, every, has, In, Distinct}
+use Rattle.lists.specs.Member.{All, every, In, Distinct}
 use Rattle.lists.proofs.Test.{T-left, T-right}
 use Rattle.lists.proofs.Member.{all-map, all-zip, every-all, first-some, has-all}
 use Rattle.lists.proofs.Pigeonhole.{pigeonhole}
-use Rattle.search.specs.Ground.{Ground, Proper, closed, split, disjunctive}
+use Rattle.search.specs.Ground.{Ground, Proper, split, disjunctive}
 use Rattle.search.specs.Relevancy.{trueSet, relevantSet, isTrue, isRelevant, splittable, findR}
 use Rattle.search.specs.Machine.{Branch, entered, Genuine}
 use Rattle.search.proofs.Relevancy.{true-entered, true-grows, relevant-grows}

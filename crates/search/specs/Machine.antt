@@ -97,12 +97,6 @@ module _ {I : Type 0} (find : List ℕ → Found I) where
   abbrev pub outcome : ℕ → Outcome
   outcome limit = proceed limit 0 root
 
-  -- running on by making the entry of a path, where there is one
-  unfoldable pub resume : ℕ → ℕ → Option (List (Branch I)) → Outcome
-  resume left count none = Refuted count
-  resume zero count (some bs) = Exhausted count
-  resume (suc left) count (some bs) = proceed left (suc count) (place bs)
-
   -- the entries that the walk without a limit makes from a place on
   abbrev pub Whole : Place I → List (Place I) → Type 0
   Whole s [] = advance s ≡ none

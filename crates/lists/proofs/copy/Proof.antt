@@ -1,7 +1,7 @@
 -- `lists::copy` meets its contract. The invariant: the bytes passed are src's, the rest is as it was.
 use Prim.Native.Nat.{ℕ, _≤_, _-_}
 use mathlib.Core.List.{List, _++_}
-use mathlib.Core.Path.{_≡_, refl, sym, ap, _∙_}
+use mathlib.Core.Path.{_≡_, refl, ap, _∙_}
 use native.Mathlib.Omega.{arith}
 use lib.ListN.{length, take, drop, getD, set, length-set}
 use Rattle.lists.proofs.Loops.{copy-more, copy-done}

@@ -1,5 +1,5 @@
 -- `lists::same` meets its contract. The invariant: the bytes passed agree, so the rest decides.
-use Prim.Native.Nat.{ℕ, _≤_, _-_}
+use Prim.Native.Nat.{_≤_, _-_}
 use mathlib.Core.Path.{_≡_, refl, sym, _∙_}
 use native.Mathlib.Omega.{arith}
 use lib.ListN.{length, drop}

@@ -1,12 +1,11 @@
 -- `ground::verdict::give` meets its contract. The invariant: the bytes passed are the model's bits, the rest is as it was.
 use Prim.Native.Nat.{ℕ, _+_, _≤_, _-_}
-use mathlib.Core.Bool.{not, _||_}
 use mathlib.Core.List.{List, _++_, map}
 use mathlib.Core.Path.{_≡_, refl, ap, _∙_}
 use native.Mathlib.Omega.{arith}
 use lib.ListN.{length, drop, set, length-set}
 use Rattle.lists.specs.Tabulate.{tabulate}
-use Rattle.store.specs.Store.{isSet, bit}
+use Rattle.lists.specs.Bytes.{bit}
 use Rattle.ground.specs.Verdict.{chosenBit}
 use Rattle.ground.proofs.VerdictLaws.{give-more}
 use Rattle.ground.proofs.verdict.give.Statement.{statement}

@@ -1,8 +1,8 @@
 -- `ground::verdict::in_model` meets its contract.
 use borrow.Author.Needs.{needs}
-use mathlib.Core.Bool.{true, false}
+use mathlib.Core.Bool.{true}
 use mathlib.Core.Path.{_≡_, sym, _∙_}
-use Rattle.store.specs.Store.{isSet}
+use Rattle.lists.specs.Bytes.{isSet}
 use Rattle.ground.proofs.verdict.in_model.Statement.{statement}
 use Rattle.ground.proofs.verdict.in_model.Tie as tie
 

@@ -1,66 +1,62 @@
 -- `magic::engine::decide` meets its contract.
 use Prim.Native.Nat.{ℕ, _+_, _≤_}
-use borrow.Author.Needs.{needs}
-use mathlib.Core.List.{List}
-use mathlib.Core.Path.{_≡_, sym, ap, subst, _∙_}
+use mathlib.Core.Path.{_≡_, sym, ap, _∙_}
 use native.Mathlib.Omega.{arith}
-use lib.ListN.{length}
+use borrow.Author.Needs.{needs}
 use Rattle.search.specs.Relevancy.{modelBits}
 use Rattle.search.specs.Machine.{Satisfied}
-use Rattle.store.specs.Store.{isSet}
-use Rattle.ground.proofs.VerdictLaws.{told-satisfied, told-refuted, told-exhausted}
-use Rattle.magic.specs.declared.walk.Walked.{Walked}
+use Rattle.lists.specs.Bytes.{isSet}
+use Rattle.ground.proofs.VerdictLaws.{told-open, told-refuted, told-exhausted}
 use Rattle.rewriting.specs.Facts.{falseIn}
-use Rattle.magic.specs.Place.{factsIn}
-use Rattle.magic.specs.Walk.{TellsOutcome, outcomeIn}
 use Rattle.magic_node.proofs.RuledLaws.{ruled-headed, ruled-false}
+use Rattle.magic.specs.Engine.{rulesOutcome}
+use Rattle.magic.proofs.EngineLaws.{tells-open, tells-shut, tells-due}
 use Rattle.magic.proofs.engine.decide.Statement.{statement}
 use Rattle.magic.proofs.engine.decide.Tie as tie
+
+abbrev begun : tie.After-whole-walk → tie.Start
+begun w = w .before .before .before .before .before
 
 pub decide-spec : {M : Type 1} → statement M
 decide-spec =
     tie.close
     (tie.spec
-    (λ c κs. search needs)  -- walk-requires
+    (λ c κs. search needs)  -- whole-walk-requires
     (λ c. search needs)  -- enum-known-walked
-    (λ c. let s = c .before .before .before .before .before .before .before .before .before .before .before .before .before in omega (arith, s .pre .0 .size))  -- shared-slice-read-pair
-    (λ c. let s = c .before .before .before .before .before .before .before .before .before .before .before .before .before .before in omega (arith, s .pre .0 .size))  -- shared-slice-read-pair-2
+    (λ c. omega (arith, begun (c .before .before .before .before .before .before .before .before) .pre .0 .size))  -- shared-slice-read-pair
+    (λ c. omega (arith, begun (c .before .before .before .before .before .before .before .before .before) .pre .0 .size))  -- shared-slice-read-pair-2
     (λ c κs. search needs)  -- pair-requires
     (λ c κs.
-    let s = c .before .before .before .before .before .before .before .before .before .before .before .before .before .before .before in
-    let bs : List ℕ = s .args .rules .now in
     let w = c .before .before .before .before .before .before .before .before .before .before in
-    let n : c .pair .result ≡ falseIn bs = c .pair .ensures ∙ ruled-false bs (s .pre .0) in
-    let few : c .pair .result ≤ 1024 = omega (arith, ruled-headed bs (s .pre .0) .atoms) in
-    let room : 1024 ≤ length (s .args .answer .now) = s .pre .1 .0 in
-    (few, omega arith, omega (arith, w .walk .kept .1 .0, s .pre .1 .1)))  -- give-requires
+    let s = begun w in
+    let n : c .pair .result ≤ 1024 = omega (arith, c .pair .ensures, ruled-false (s .args .rules .now) (s .pre .0), ruled-headed (s .args .rules .now) (s .pre .0) .atoms) in
+    (n, omega (arith, s .pre .1 .0), omega (arith, w .whole-walk .kept .1 .0, s .pre .1 .1)))  -- give-requires
     (λ c. search needs)  -- same-length
     (λ c. search needs)  -- same-length-2
     (λ c.
-    let s = c .before .before .before .before .before .before .before .before .before .before .before .before .before .before .before .before .before .before in
-    let bs : List ℕ = s .args .rules .now in
     let w = c .before .before .before .before .before .before .before .before .before .before .before .before .before in
+    let s = begun w in
+    let rules = s .args .rules .now in
     let k = c .before .before .before .before .before .before .before .before .before .walked .given in
-    let p = c .before .before .before in
-    let n : p .pair .result ≡ falseIn bs = p .pair .ensures ∙ ruled-false bs (s .pre .0) in
-    let few : p .pair .result ≤ 1024 = omega (arith, ruled-headed bs (s .pre .0) .atoms) in
-    let left : List ℕ = w .walk .last .1 .0 in
-    let tells = subst (λ (x : Walked). TellsOutcome bs (s .args .limit) x left) (k .1) (w .walk .ensures) in
-    let fits = told-satisfied (outcomeIn bs (s .args .limit)) (s .args .answer .now) 55302 left (p .pair .result) (k .0 .0) (omega arith) (tells ∙ ap (λ (a : ℕ). Satisfied (k .0 .0) (modelBits a (isSet (factsIn left)) (λ x. isSet (factsIn left) (1025 + x)))) (sym n)) in
-    (fits .0, c .before .before .give .ensures ∙ fits .1))  -- returns
+    let p = c .before .before .before .pair in
+    let n : p .result ≡ falseIn rules = p .ensures ∙ ruled-false rules (s .pre .0) in
+    let facts = w .whole-walk .last .1 .0 in
+    let tells = tells-open rules (s .args .limit) (w .whole-walk .result) facts (w .whole-walk .ensures .tells) (k .0 .0) (k .0 .1 .0) (k .1) in
+    let fits = told-open (rulesOutcome rules (s .args .limit)) (s .args .answer .now) facts (p .result) (k .0 .0) (tells ∙ ap (λ (a : ℕ). Satisfied (k .0 .0) (modelBits a (isSet facts) (λ x. isSet facts (1025 + x)))) (sym n)) in
+    (fits .0, (c .before .before) .give .ensures ∙ fits .1))  -- returns
     (λ c. search needs)  -- enum-known-walked-2
     (λ c. search needs)  -- same-length-3
     (λ c.
-    let s = c .before .before .before .before .before .before .before .before .before .before in
-    let bs : List ℕ = s .args .rules .now in
     let w = c .before .before .before .before .before in
+    let s = begun w in
     let k = c .before .walked2 .given in
-    told-refuted (outcomeIn bs (s .args .limit)) (s .args .answer .now) (k .0 .0) (subst (λ (x : Walked). TellsOutcome bs (s .args .limit) x (w .walk .last .1 .0)) (k .1) (w .walk .ensures)))  -- returns-2
+    told-refuted (rulesOutcome (s .args .rules .now) (s .args .limit)) (s .args .answer .now) (k .0 .0)
+    (tells-shut (s .args .rules .now) (s .args .limit) (w .whole-walk .result) (w .whole-walk .last .1 .0) (w .whole-walk .ensures .tells) (k .0 .0) (k .1)))  -- returns-2
     (λ c. search needs)  -- enum-told
     (λ c. search needs)  -- same-length-4
     (λ c.
-    let s = c .before .before .before .before .before .before .before .before .before in
-    let bs : List ℕ = s .args .rules .now in
     let w = c .before .before .before .before in
-    told-exhausted (outcomeIn bs (s .args .limit)) (s .args .answer .now) (s .args .limit)
-    (subst (λ (x : Walked). TellsOutcome bs (s .args .limit) x (w .walk .last .1 .0)) (c .enum-told .given .1) (w .walk .ensures))))  -- returns-3
+    let s = begun w in
+    let k = c .enum-told .given in
+    told-exhausted (rulesOutcome (s .args .rules .now) (s .args .limit)) (s .args .answer .now) (s .args .limit)
+    (tells-due (s .args .rules .now) (s .args .limit) (w .whole-walk .result) (w .whole-walk .last .1 .0) (w .whole-walk .ensures .tells) (k .0 .0) (k .1))))  -- returns-3

@@ -5,7 +5,7 @@ use borrow.Author.Needs.{needs}
 use borrow.Author.Tests.{not-true, not-false}
 use lib.ListN.{take}
 use lib.Seq.{length-take-le}
-use Rattle.ground.proofs.CheckLoops.{valid-table}
+use Rattle.problem.proofs.Theorems.{valid-table}
 use Rattle.magic.proofs.EngineLaws.{short-table, short-rules, short-answer, short-work, long-enough, fit-short, fit-invalid, fit-runs}
 use Rattle.magic.proofs.engine.fit.Statement.{statement}
 use Rattle.magic.proofs.engine.fit.Tie as tie

@@ -1,54 +1,68 @@
 -- `magic::engine::run` meets its contract.
 use Prim.Native.Nat.{ℕ}
-use borrow.Author.Needs.{needs}
-use mathlib.Core.List.{List}
+use mathlib.Core.List.{List, _++_}
 use mathlib.Core.Path.{_≡_, sym, ap, subst, _∙_}
 use native.Mathlib.Omega.{arith}
-use lib.ListN.{length, replicate}
+use lib.ListN.{length, take, drop, replicate}
+use lib.Seq.{length-take-le}
+use borrow.Author.Needs.{needs}
 use Rattle.search.specs.Machine.{Outcome}
-use Rattle.problem.specs.Problem.{limitOf}
-use Rattle.problem.specs.Layout.{problemIn}
+use Rattle.store.proofs.Lent.{put-size}
 use Rattle.ground.specs.Verdict.{verdictOf, answerOf}
 use Rattle.ground.proofs.AtomLaws.{table-size}
 use Rattle.ground.proofs.VerdictLaws.{limit-of}
 use Rattle.rewriting.specs.Facts.{Ruled}
 use Rattle.rewriting.specs.Rewrite.{rulesOver}
-use Rattle.magic.specs.Walk.{outcomeIn}
-use Rattle.magic.specs.Engine.{magicOutcome}
+use Rattle.magic.specs.Engine.{rulesOutcome, magicOutcome}
 use Rattle.magic.proofs.EngineLaws.{ruled}
 use Rattle.magic.proofs.engine.run.Statement.{statement}
 use Rattle.magic.proofs.engine.run.Tie as tie
+
+-- the places before deciding
+abbrev wrote : tie.After-limit-in → tie.After-write-rules
+wrote l = l .before .before .before
+
+abbrev begun : tie.After-limit-in → tie.Start
+begun l = l .before .before .before .before .before .before .before .before .before
+
+-- the facts lie in the first part of the work buffer
+part : (s : tie.Start) → length (take 55302 (s .args .work .now)) ≡ 55302
+part s = length-take-le 55302 (s .args .work .now) (omega (arith, s .pre .1 .2))
+
+whole : (d : tie.After-decide) → let s = begun (d .before .before .before .before) in length (d .decide .last .1 .1 .1 .0 ++ drop 55302 (s .args .work .now)) ≡ 65536
+whole d = let s = begun (d .before .before .before .before) in put-size 55302 65536 (omega arith) (s .args .work .now) (s .pre .1 .2) (d .decide .last .1 .1 .1 .0) (d .decide .kept .1 .1 .1 .0 ∙ part s)
+
+-- the outcome is that of the rules written, under the table's limit
+same : (l : tie.After-limit-in) → rulesOutcome (wrote l .write-rules .last .1 .0) (l .limit-in .result) ≡ magicOutcome (begun l .args .table .now) (begun l .args .rules .now)
+same l =
+    let s = begun l in
+    ap (λ (bs : List ℕ). rulesOutcome bs (l .limit-in .result)) (wrote l .write-rules .ensures .1)
+    ∙ ap (rulesOutcome (rulesOver (s .args .table .now) (s .args .rules .now))) (l .limit-in .ensures ∙ limit-of (s .args .table .now))
 
 pub run-spec : {M : Type 1} → statement M
 run-spec =
     tie.close
     (tie.spec
-    (λ c κs.
-    let s = c .before .before .before .before .before in
-    (s .pre .0, omega (arith, s .pre .1 .0)))  -- write-rules-requires
+    (λ c κs. search needs)  -- write-rules-requires
     (λ c κs. let s = c .before .before .before .before .before .before .before .before in table-size (s .args .table .now) (s .pre .0))  -- limit-in-requires
+    (λ c. search needs)  -- sub-decide
+    (λ c. search needs)  -- part-decide-start
+    (λ c. omega (arith, begun (c .before .before) .pre .1 .2))  -- part-decide-end
     (λ c κs.
-    let s = c .before .before .before .before .before .before .before .before .before .before .before .before in
-    let tb : List ℕ = s .args .table .now in
-    let r = c .before .before .before .before .before .before in
-    let size : length (r .write-rules .last .1 .0) ≡ 16384 = r .write-rules .kept .1 .0 ∙ s .pre .1 .0 in
-    (subst Ruled (sym (r .write-rules .ensures .1)) (ruled tb (s .args .rules .now) (s .pre .0) (ap length (sym (r .write-rules .ensures .1)) ∙ size)), (s .pre .1 .1, s .pre .1 .2)))  -- decide-requires
+    let l = c .before .before .before in
+    let s = begun l in
+    let r = wrote l .write-rules in
+    (subst Ruled (sym (r .ensures .1)) (ruled (s .args .table .now) (s .args .rules .now) (s .pre .0) (ap length (sym (r .ensures .1)) ∙ r .kept .1 .0 ∙ s .pre .1 .0)), (s .pre .1 .1, part s)))  -- decide-requires
     (λ c κs. search needs)  -- zero-requires
     (λ c. search needs)  -- same-length
     (λ c. search needs)  -- same-length-2
-    (λ c. search needs)  -- same-length-3
+    (λ c. let z = c .before .before .zero in z .kept .0 ∙ whole (c .before .before .before .before .before .before .before .before) ∙ sym ((c .before .before .before .before .before .before .before .before .before .before .before .before .before .before .before .before .before .before .before .before .before) .pre .1 .2))  -- same-length-3
     (λ c.
-    let s = c .before .before .before .before .before .before .before .before .before .before .before .before .before .before .before .before .before .before .before .before .before in
-    let tb : List ℕ = s .args .table .now in
-    let r = c .before .before .before .before .before .before .before .before .before .before .before .before .before .before .before in
     let d = c .before .before .before .before .before .before .before .before in
-    let z = c .before .before in
-    let limit : c .before .before .before .before .before .before .before .before .before .before .before .before .limit-in .result ≡ limitOf ((problemIn tb) .limit) = c .before .before .before .before .before .before .before .before .before .before .before .before .limit-in .ensures ∙ limit-of tb in
-    let same : outcomeIn (r .write-rules .last .1 .0) (c .before .before .before .before .before .before .before .before .before .before .before .before .limit-in .result) ≡ magicOutcome tb (s .args .rules .now) =
-    ap (λ (bs : List ℕ). outcomeIn bs (c .before .before .before .before .before .before .before .before .before .before .before .before .limit-in .result)) (r .write-rules .ensures .1) ∙ ap (outcomeIn (rulesOver tb (s .args .rules .now))) limit in
-    let size : length (d .decide .last .1 .1 .1 .0) ≡ 65536 = omega (arith, d .decide .kept .1 .1 .1 .0, s .pre .1 .2) in (
-      d .decide .ensures .0 ∙ ap verdictOf same,
-      r .write-rules .ensures .1,
-      d .decide .ensures .1 ∙ ap (λ (o : Outcome). answerOf o (s .args .answer .now)) same,
-      z .zero .ensures ∙ ap (λ (m : ℕ). replicate m 0) size,
+    let l = d .before .before .before .before in
+    let s = begun l in (
+      d .decide .ensures .0 ∙ ap verdictOf (same l),
+      wrote l .write-rules .ensures .1,
+      d .decide .ensures .1 ∙ ap (λ (o : Outcome). answerOf o (s .args .answer .now)) (same l),
+      (c .before .before) .zero .ensures ∙ ap (λ (m : ℕ). replicate m 0) (whole d),
     )))  -- returns

@@ -1,14 +1,9 @@
 -- `magic_node::choose::can_split` meets its contract.
 use mathlib.Core.Path.{sym}
 use borrow.Author.Tests.{not-true, not-false}
-use Rattle.magic_node.proofs.RuledLaws.{RuleRead, rule-read}
 use Rattle.magic_node.proofs.AskLaws.{ready-unasked, ready-rest}
 use Rattle.magic_node.proofs.choose.can_split.Statement.{statement}
 use Rattle.magic_node.proofs.choose.can_split.Tie as tie
-
--- what stands in the rule's record
-read : (s : tie.Start) → RuleRead (s .args .rules .now) (s .args .q)
-read s = rule-read (s .args .rules .now) (s .pre .0) (s .args .q) (s .pre .1 .0 .known)
 
 pub can-split-spec : {M : Type 1} → statement M
 can-split-spec =
@@ -19,12 +14,10 @@ can-split-spec =
     let s = c .before .before .before .before .before in
     let h = c .before .asks-held in
     sym
-    (ready-unasked (s .args .rules .now) (s .args .q) (s .args .values .now) (read s) (s .pre .1 .0) (s .pre .1 .1 .0) (s .args .r .now) (h .result) (h .ensures)
-    (not-true (h .result) (c .if1 .taken))))  -- returns
+    (ready-unasked (s .pre .0) (s .pre .1 .0) (s .pre .1 .1 .0) (s .args .r .now) (h .result) (h .ensures) (not-true (h .result) (c .if1 .taken))))  -- returns
     (λ c κs. c .before .before .before .before .before .pre)  -- none-true-requires
     (λ c.
     let s = c .before .before .before .before .before .before in
     let h = c .before .before .asks-held in
     let n = c .none-true in
-    ready-rest (s .args .rules .now) (s .args .q) (s .args .values .now) (read s) (s .pre .1 .0) (s .pre .1 .1 .0) (s .args .r .now) (h .result) (h .ensures)
-    (not-false (h .result) (c .before .if1 .left)) (n .result) (n .ensures)))  -- returns-2
+    ready-rest (s .pre .0) (s .pre .1 .0) (s .pre .1 .1 .0) (s .args .r .now) (h .result) (h .ensures) (not-false (h .result) (c .before .if1 .left)) (n .result) (n .ensures)))  -- returns-2

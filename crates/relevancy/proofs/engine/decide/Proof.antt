@@ -1,22 +1,23 @@
 -- `relevancy::engine::decide` meets its contract.
-use Prim.Native.Nat.{ℕ, _+_, _≤_}
-use borrow.Author.Needs.{needs}
+use Prim.Native.Nat.{ℕ, _+_}
 use mathlib.Core.List.{List}
 use mathlib.Core.Path.{_≡_, sym, ap, subst, _∙_}
 use native.Mathlib.Omega.{arith}
-use lib.ListN.{length}
+use borrow.Author.Needs.{needs}
 use Rattle.search.specs.Relevancy.{modelBits}
 use Rattle.search.specs.Machine.{Satisfied, Exhausted}
-use Rattle.store.specs.Store.{isSet}
+use Rattle.lists.specs.Bytes.{isSet}
 use Rattle.problem.specs.Layout.{problemIn}
 use Rattle.ground.proofs.AtomLaws.{table-size}
-use Rattle.ground.proofs.VerdictLaws.{limit-of, told-satisfied, told-refuted, told-exhausted}
+use Rattle.ground.proofs.VerdictLaws.{limit-of, told-open, told-refuted, told-exhausted}
 use Rattle.ground.proofs.Instances.{atoms-few}
-use Rattle.relevancy.specs.declared.walk.Walked.{Walked}
-use Rattle.relevancy_node.specs.Node.{groundIn}
-use Rattle.relevancy.specs.Place.{factsIn}
-use Rattle.relevancy.specs.Walk.{TellsOutcome, outcomeIn}
+use Rattle.ground.specs.Instance.{groundIn}
 use Rattle.relevancy_node.proofs.CloseLaws.{false-bytes}
+use Rattle.walk.specs.contracts.Walk.{Tells}
+use Rattle.walk.specs.declared.answer.Walked.{Walked}
+use Rattle.relevancy_walk.specs.contracts.Place.{relevancyWalker}
+use Rattle.relevancy.specs.Engine.{outcomeIn}
+use Rattle.relevancy.proofs.EngineLaws.{tells-open, tells-shut, tells-due}
 use Rattle.relevancy.proofs.engine.decide.Statement.{statement}
 use Rattle.relevancy.proofs.engine.decide.Tie as tie
 
@@ -24,7 +25,7 @@ pub decide-spec : {M : Type 1} → statement M
 decide-spec =
     tie.close
     (tie.spec
-    (λ c κs. search needs)  -- walk-requires
+    (λ c κs. search needs)  -- whole-walk-requires
     (λ c. search needs)  -- enum-known-walked
     (λ c. let s = c .before .before .before .before .before .before .before .before .before .before .before .before .before in omega (arith, table-size (s .args .table .now) (s .pre .0)))  -- shared-slice-read-pair
     (λ c. let s = c .before .before .before .before .before .before .before .before .before .before .before .before .before .before in omega (arith, table-size (s .args .table .now) (s .pre .0)))  -- shared-slice-read-pair-2
@@ -32,38 +33,38 @@ decide-spec =
     (λ c κs.
     let s = c .before .before .before .before .before .before .before .before .before .before .before .before .before .before .before in
     let tb : List ℕ = s .args .table .now in
-    let w = c .before .before .before .before .before .before .before .before .before .before in
     let n : c .pair .result ≡ (groundIn tb) .atoms = c .pair .ensures ∙ false-bytes tb (s .pre .0) in
-    let few : c .pair .result ≤ 1024 = omega (arith, atoms-few (problemIn tb) (s .pre .0 .fits)) in
-    let room : 1024 ≤ length (s .args .answer .now) = s .pre .1 .0 in
-    (few, omega arith, omega (arith, w .walk .kept .1 .0, s .pre .1 .1)))  -- give-requires
+    let few = atoms-few (problemIn tb) (s .pre .0 .fits) in
+    (omega (arith, n, few), omega (arith, n, few, s .pre .1 .0), omega (arith, (c .before .before .before .before .before .before .before .before .before .before) .whole-walk .kept .1 .0, s .pre .1 .1)))  -- give-requires
     (λ c. search needs)  -- same-length
     (λ c. search needs)  -- same-length-2
     (λ c.
     let s = c .before .before .before .before .before .before .before .before .before .before .before .before .before .before .before .before .before .before in
     let tb : List ℕ = s .args .table .now in
-    let w = c .before .before .before .before .before .before .before .before .before .before .before .before .before in
+    let w = c .before .before .before .before .before .before .before .before .before .before .before .before .before .whole-walk in
     let k = c .before .before .before .before .before .before .before .before .before .walked .given in
-    let p = c .before .before .before in
-    let n : p .pair .result ≡ (groundIn tb) .atoms = p .pair .ensures ∙ false-bytes tb (s .pre .0) in
-    let few : p .pair .result ≤ 1024 = omega (arith, atoms-few (problemIn tb) (s .pre .0 .fits)) in
-    let tells = subst (λ (x : Walked). TellsOutcome tb x (w .walk .last .1 .0)) (k .1) (w .walk .ensures) in
-    let fits = told-satisfied (outcomeIn tb) (s .args .answer .now) 6150 (w .walk .last .1 .0) (p .pair .result) (k .0 .0) (omega arith) (tells ∙ ap (λ (a : ℕ). Satisfied (k .0 .0) (modelBits a (isSet (factsIn (w .walk .last .1 .0))) (λ x. isSet (factsIn (w .walk .last .1 .0)) (1025 + x)))) (sym n)) in
-    (fits .0, c .before .before .give .ensures ∙ fits .1))  -- returns
+    let p = c .before .before .before .pair in
+    let n : p .result ≡ (groundIn tb) .atoms = p .ensures ∙ false-bytes tb (s .pre .0) in
+    let facts : List ℕ = w .last .1 .0 in
+    let tells = tells-open tb facts (k .0 .0) (k .0 .1 .0) (subst (λ (x : Walked). Tells (relevancyWalker tb) x facts) (k .1) (w .ensures .tells)) in
+    let fits = told-open (outcomeIn tb) (s .args .answer .now) facts (p .result) (k .0 .0) (tells ∙ ap (λ (a : ℕ). Satisfied (k .0 .0) (modelBits a (isSet facts) (λ x. isSet facts (1025 + x)))) (sym n)) in
+    (fits .0, (c .before .before) .give .ensures ∙ fits .1))  -- returns
     (λ c. search needs)  -- enum-known-walked-2
     (λ c. search needs)  -- same-length-3
     (λ c.
     let s = c .before .before .before .before .before .before .before .before .before .before in
     let tb : List ℕ = s .args .table .now in
-    let w = c .before .before .before .before .before in
+    let w = c .before .before .before .before .before .whole-walk in
     let k = c .before .walked2 .given in
-    told-refuted (outcomeIn tb) (s .args .answer .now) (k .0 .0) (subst (λ (x : Walked). TellsOutcome tb x (w .walk .last .1 .0)) (k .1) (w .walk .ensures)))  -- returns-2
+    told-refuted (outcomeIn tb) (s .args .answer .now) (k .0 .0) (tells-shut tb (w .last .1 .0) (k .0 .0) (subst (λ (x : Walked). Tells (relevancyWalker tb) x (w .last .1 .0)) (k .1) (w .ensures .tells))))  -- returns-2
     (λ c. search needs)  -- enum-told
     (λ c κs. let s = c .before .before .before .before .before .before .before .before .before in table-size (s .args .table .now) (s .pre .0))  -- limit-in-requires
     (λ c. search needs)  -- same-length-4
     (λ c.
     let s = c .before .before .before .before .before .before .before .before .before .before in
     let tb : List ℕ = s .args .table .now in
-    let w = c .before .before .before .before .before in
-    let tells = subst (λ (x : Walked). TellsOutcome tb x (w .walk .last .1 .0)) (c .before .enum-told .given .1) (w .walk .ensures) in
-    told-exhausted (outcomeIn tb) (s .args .answer .now) (c .limit-in .result) (tells ∙ ap Exhausted (sym (c .limit-in .ensures ∙ limit-of tb)))))  -- returns-3
+    let w = c .before .before .before .before .before .whole-walk in
+    let g = c .before .enum-told .given in
+    let l = c .limit-in in
+    told-exhausted (outcomeIn tb) (s .args .answer .now) (l .result)
+    (tells-due tb (w .last .1 .0) (g .0 .0) (subst (λ (x : Walked). Tells (relevancyWalker tb) x (w .last .1 .0)) (g .1) (w .ensures .tells)) ∙ ap Exhausted (sym (l .ensures ∙ limit-of tb)))))  -- returns-3

@@ -7,7 +7,7 @@ use borrow.Author.Tests.{not-true, not-false}
 use lib.ListN.{take}
 use lib.Seq.{length-take-le}
 use Rattle.problem.specs.Table.{isValid}
-use Rattle.ground.proofs.CheckLoops.{valid-table}
+use Rattle.problem.proofs.Theorems.{valid-table}
 use Rattle.relevancy.proofs.EngineLaws.{short-table, short-answer, short-work, long-enough, fit-short, fit-invalid, fit-runs}
 use Rattle.relevancy.proofs.engine.fit.Statement.{statement}
 use Rattle.relevancy.proofs.engine.fit.Tie as tie

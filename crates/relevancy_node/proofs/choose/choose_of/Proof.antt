@@ -8,7 +8,7 @@ use Rattle.problem.specs.Layout.{problemIn}
 use Rattle.ground.specs.Instance.{clauseOf}
 use Rattle.ground.proofs.AtomLaws.{alts-count}
 use Rattle.ground.proofs.Turns.{Turn, ClauseKnown, clause-known, clause-listed, turn-starts, turn-placed, turn-asks, turn-next}
-use Rattle.relevancy_node.specs.Node.{splittableIn}
+use Rattle.relevancy_node.specs.contracts.Node.{splittableIn}
 use Rattle.relevancy_node.proofs.ChooseLaws.{choose-horn, splits-same, choose-here, choose-none}
 use Rattle.relevancy_node.proofs.choose.choose_of.Statement.{statement}
 use Rattle.relevancy_node.proofs.choose.choose_of.Tie as tie

@@ -4,9 +4,8 @@ use mathlib.Core.Path.{_≡_, refl, _∙_}
 use native.Mathlib.Omega.{arith}
 use lib.ListN.{length}
 use Rattle.problem.specs.Layout.{problemIn}
-use Rattle.problem.specs.Printed.{Put}
-use Rattle.ground.proofs.AtomLaws.{table-size}
-use Rattle.ground.proofs.CheckLoops.{atoms-bytes}
+use Rattle.writing.specs.contracts.Printed.{Put}
+use Rattle.ground.proofs.AtomLaws.{table-size, atoms-bytes}
 use Rattle.report.proofs.ReportLaws.{linesUpto, model-none, model-more, model-done}
 use Rattle.report.proofs.answer.put_model.Statement.{statement}
 use Rattle.report.proofs.answer.put_model.Tie as tie

@@ -6,7 +6,7 @@ use native.Mathlib.Omega.{arith}
 use borrow.Author.Needs.{needs}
 use Rattle.problem.specs.Problem.{Problem}
 use Rattle.problem.specs.Layout.{problemIn}
-use Rattle.problem.proofs.WriteLaws.{put-as, put-most, put-then}
+use Rattle.writing.proofs.WriteLaws.{put-as, put-most, put-then}
 use Rattle.ground.specs.declared.verdict.Verdict.{Verdict}
 use Rattle.report.specs.Told.{told}
 use Rattle.report.proofs.ToldLaws.{told-refused, told-satisfied, told-refuted, told-exhausted}

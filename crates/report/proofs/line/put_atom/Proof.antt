@@ -6,7 +6,7 @@ use native.Mathlib.Omega.{arith}
 use borrow.Author.Needs.{needs}
 use lib.ListN.{length, take, getD}
 use Rattle.problem.specs.Digit.{hexLine}
-use Rattle.problem.proofs.WriteLaws.{put-as, put-most}
+use Rattle.writing.proofs.WriteLaws.{put-as, put-most}
 use Rattle.ground.proofs.MatchLaws.{PredicateKnown}
 use Rattle.report.proofs.ReportLaws.{decoded-known, frame-size, atom-frame}
 use Rattle.report.proofs.line.put_atom.Statement.{statement}

@@ -7,8 +7,8 @@ use lib.ListN.{length, getD}
 use Rattle.lists.specs.Tabulate.{tabulate}
 use Rattle.lists.proofs.Bytes.{tabulate-of}
 use Rattle.problem.specs.Digit.{hexByte}
-use Rattle.problem.specs.Printed.{Put}
-use Rattle.problem.proofs.WriteLaws.{put-as, put-line, puts-none, puts-more, puts-done}
+use Rattle.writing.specs.contracts.Printed.{Put}
+use Rattle.writing.proofs.WriteLaws.{put-as, put-line, puts-none, puts-more, puts-done}
 use Rattle.report.proofs.line.put_frame.Statement.{statement}
 use Rattle.report.proofs.line.put_frame.Tie as tie
 

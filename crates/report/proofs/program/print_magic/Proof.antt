@@ -5,7 +5,7 @@ use mathlib.Core.Path.{sym, _∙_}
 use native.Mathlib.Omega.{arith}
 use borrow.Author.Needs.{needs}
 use lib.ListN.{replicate, length-replicate}
-use Rattle.problem.proofs.WriteLaws.{put-as, put-most}
+use Rattle.writing.proofs.WriteLaws.{put-as, put-most}
 use Rattle.ground.specs.Walks.{magic}
 use Rattle.report.proofs.PrintLaws.{ReadInto, refusal-printed, text-taken, taken-lawful, magic-printed}
 use Rattle.report.proofs.program.print_magic.Statement.{statement}

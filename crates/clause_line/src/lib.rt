@@ -1,0 +1,2 @@
+// A clause line of the text, judged and laid out as a clause record.
+pub mod clause;

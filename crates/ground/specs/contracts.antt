@@ -1,0 +1,7 @@
+-- The vocabulary of inner contracts: what the functions of this crate say to each other of their buffers.
+pub mod Placed
+pub mod Heading
+pub mod Matching
+pub mod Index
+pub mod Visit
+pub mod Sides

@@ -1,0 +1,11 @@
+-- The claims of `specs/Claims.antt`, proved.
+use Rattle.judging.specs.Claims.{Theorems}
+use Rattle.judging.proofs.CheckLaws.{violated-from, violated-to, checked-model, model-checked, violated-first}
+
+pub theorems : Theorems
+theorems =
+    record {
+      violated = λ q answer i. (violated-from q answer i, violated-to q answer i);
+      model = λ q answer. (checked-model q answer, model-checked q answer);
+      first-named = violated-first;
+    }

@@ -1,0 +1,2 @@
+pub mod ModelCheck
+pub mod Claims

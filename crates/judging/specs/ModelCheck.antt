@@ -1,0 +1,47 @@
+-- The model check (01: judging).
+use Prim.Native.Nat.{ℕ}
+use mathlib.Core.Bool.{Bool, not, cond, _&&_, _||_}
+use mathlib.Core.List.{List}
+use mathlib.Core.Option.{Option, none, some}
+use lib.Dec.{eqb, ltb}
+use lib.ListN.{length, take, getD}
+use Rattle.lists.specs.Member.{every, first, lead}
+use Rattle.problem.specs.Problem.{Problem, atomCount}
+use Rattle.problem.specs.Layout.{problemIn}
+use Rattle.problem.specs.Table.{isValid}
+use Rattle.judging.specs.declared.judge.Judging.{Judging}
+use Rattle.judging.specs.declared.judge.Judging.the-variants.{Unjudged, Model as IsModel, Violated}
+use Rattle.ground.specs.Instance.{Instance, clauseOf, instancesOf, groundAtoms, groundOf}
+use Rattle.lists.specs.Bytes.{isSet}
+
+-- all conditions hold and no alternative does
+abbrev pub violatedBy : Problem → List ℕ → ℕ → List ℕ → Bool
+violatedBy q flags k values =
+    eqb (lead (isSet flags) (groundAtoms q values ((clauseOf q k) .conds))) (length ((clauseOf q k) .conds))
+    && every (λ a. not (isSet flags a)) (groundAtoms q values ((clauseOf q k) .alts))
+
+abbrev pub violates : Problem → List ℕ → Instance → Bool
+violates q flags i = violatedBy q flags (i .clause) (i .values)
+
+-- "by clause and values, with 0 for a variable the clause lacks"
+abbrev pub named : Option Instance → Judging
+named none = IsModel
+named (some i) = Violated (i .clause) (getD (i .values) 0 0) (getD (i .values) 1 0) (getD (i .values) 2 0) (getD (i .values) 3 0)
+
+unfoldable pub clauseCheck : Problem → List ℕ → ℕ → Judging
+clauseCheck q flags k = named (first (violates q flags) (instancesOf q k))
+
+-- "fitting", or the first violated instance, in the walk's order
+unfoldable pub checkOf : Problem → List ℕ → Judging
+checkOf q flags = named (first (violates q flags) ((groundOf q) .instances))
+
+-- Judging an answer by a lent table: 11, then 31, then "32 if one of the first A answer bytes is neither 0 nor 1"
+unfoldable pub judgeResult : List ℕ → List ℕ → Judging
+judgeResult tb answer =
+    cond (ltb (length tb) 4096 || ltb (length answer) 1024)
+    (Unjudged 11)
+    (cond (isValid (take 4096 tb))
+    (cond (every (λ b. ltb b 2) (take (atomCount ((problemIn (take 4096 tb)) .constants) ((problemIn (take 4096 tb)) .arities)) answer))
+    (checkOf (problemIn (take 4096 tb)) answer)
+    (Unjudged 32))
+    (Unjudged 31))

@@ -1,0 +1,4 @@
+pub mod AltLaws
+pub mod SoundLaws
+pub mod FreshLaws
+pub mod FindLaws

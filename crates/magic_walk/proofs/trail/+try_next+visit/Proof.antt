@@ -1,0 +1,241 @@
+-- The proof of the cycle of calls {try_next, visit}. Each place made has an atom more that is true, and the alternatives left at a node grow fewer.
+use Prim.Native.Nat.{ℕ, _+_, _<_}
+use mathlib.Core.Path.{_≡_, refl, sym, subst, _∙_}
+use native.Mathlib.Omega.{arith}
+use lib.ListN.{length}
+use borrow.Author.Needs.{needs}
+use borrow.Fn.Kinds.{In}
+use borrow.Fn.PlainCycle.{Measures, is, falls, and}
+use Rattle.store.specs.contracts.Store.{Store, Undone}
+use Rattle.walk.specs.contracts.Path.{nextAt, markAt, altsAt}
+use Rattle.walk.specs.contracts.Place.{Reached}
+use Rattle.walk.specs.contracts.Walk.{triesLeft, visitsLeft, AllShut}
+use Rattle.walk.specs.declared.answer.Found.the-variants.{Closed, Open, Split}
+use Rattle.walk.specs.declared.answer.Walked.the-variants.{Shut}
+use Rattle.walk.proofs.PlaceLaws.{split-parted, reached-as, visiting-as}
+use Rattle.walk.proofs.WalkLaws.{found-open, visit-open, visit-closed, split-tries, split-shut, passes, tried-none, tried-due, visit-falls, tries-fall, left-as, ended-as}
+use Rattle.walk.proofs.TriedLaws.{TriedOn, tried-on, own-undone}
+use Rattle.magic_walk.specs.contracts.Place.{magicWalker, OwnFacts}
+use Rattle.magic_walk.proofs.AltLaws.{split-listed, split-alts}
+use Rattle.magic_walk.proofs.SoundLaws.{sound}
+use Rattle.magic_walk.proofs.trail.try_next.Reads as try-next
+use Rattle.magic_walk.proofs.trail.try_next.Kinds as try-next-kinds
+use Rattle.magic_walk.proofs.trail.+try_next+visit.Lts-try_next as try-next-lts
+use Rattle.magic_walk.proofs.trail.visit.Reads as visit
+use Rattle.magic_walk.proofs.trail.visit.Kinds as visit-kinds
+use Rattle.magic_walk.proofs.trail.+try_next+visit.Lts-visit as visit-lts
+use Rattle.magic_walk.proofs.place.alternatives.Reads as alternatives-reads
+use Rattle.magic_walk.proofs.place.place.Reads as place-reads
+use Rattle.walk.proofs.node.next.Reads as next-reads
+use Rattle.walk.proofs.node.mark.Reads as mark-reads
+use Rattle.store.proofs.undo.Reads as undo-reads
+use Rattle.magic_walk.proofs.trail.+try_next+visit.{statement}
+use Rattle.magic_walk.proofs.trail.+try_next+visit.Tie.{close}
+
+abbrev μ-try-next : Measures 4 try-next-kinds.ps ℕ
+μ-try-next κs a = triesLeft (magicWalker (a .0 .now) (a .1 .1 .1 .1 .1 .1 .0)) (a .1 .1 .0 .now) (a .1 .1 .1 .0 .now) (a .1 .1 .1 .1 .0)
+
+abbrev μ-visit : Measures 4 visit-kinds.ps ℕ
+μ-visit κs a = visitsLeft (magicWalker (a .0 .now) (a .1 .1 .1 .1 .1 .1 .1 .1 .0)) (a .1 .1 .0 .now) (a .1 .1 .1 .0 .now) (a .1 .1 .1 .1 .0) (a .1 .1 .1 .1 .1 .1 .0)
+
+-- what each is given at the measure t, and what a call of it asks below t
+module _ (t : ℕ) where
+  abbrev try-next-at : In 4 try-next-kinds.ps
+  try-next-at = and 4 try-next-kinds.ps (is 4 try-next-kinds.ps μ-try-next t) try-next.Pre
+
+  abbrev try-next-below : In 4 try-next-kinds.ps
+  try-next-below = and 4 try-next-kinds.ps (falls 4 try-next-kinds.ps _<_ μ-try-next t) try-next.Pre
+
+  abbrev visit-at : In 4 visit-kinds.ps
+  visit-at = and 4 visit-kinds.ps (is 4 visit-kinds.ps μ-visit t) visit.Pre
+
+  abbrev visit-below : In 4 visit-kinds.ps
+  visit-below = and 4 visit-kinds.ps (falls 4 visit-kinds.ps _<_ μ-visit t) visit.Pre
+
+  abbrev trying : try-next-lts.Claims
+  trying = (next-reads.Asked, next-reads.Learnt, alternatives-reads.Asked, alternatives-reads.Learnt, mark-reads.Asked, mark-reads.Learnt, place-reads.Asked, place-reads.Learnt, visit-below, visit.Post, try-next-below, try-next.Post)
+
+  abbrev visiting : visit-lts.Claims
+  visiting = (try-next-below, try-next.Post, undo-reads.Asked, undo-reads.Learnt)
+
+  -- ---- trying
+
+  -- an alternative is left
+  some-left : (e : try-next-lts.Else1 trying try-next-at try-next.Post) →
+      let s = e .before .before .before .before .before .before .before .before in
+      nextAt (s .args .path .now) (s .args .depth) < length (altsAt (magicWalker (s .args .rules .now) (s .args .limit)) (s .args .path .now) (s .args .depth))
+  some-left e =
+      let s = e .before .before .before .before .before .before .before .before in
+      omega (arith, split-alts (s .args .rules .now) (s .args .limit) (s .args .path .now) (s .args .depth), (e .before .before .before) .next .ensures, e .before .alternatives .ensures, e .if1 .left)
+
+  -- it has been entered, and is shut
+  on : (k : try-next-lts.After-walked trying try-next-at try-next.Post) →
+      let s = k .before .before .before .before .before .before .before .before .before .before .before .before .before .before .before .before .before .before .before .before .before .before .before .before .before .before .before in
+      let v = k .before .before .before .before .before .before .visit in
+      TriedOn (magicWalker (s .args .rules .now) (s .args .limit)) (s .args .facts .now) (s .args .path .now) (s .args .depth) (s .args .count) (k .walked .given .0 .0) (v .last .1 .1 .0) (v .last .1 .1 .1 .0)
+  on k =
+      let s = k .before .before .before .before .before .before .before .before .before .before .before .before .before .before .before .before .before .before .before .before .before .before .before .before .before .before .before in
+      let p = k .before .before .before .before .before .before .before .before .before .before .before .before .before .place in
+      let m = k .before .before .before .before .before .before .before .before .before .before .before .before .before .before .before .before .mark in
+      let v = k .before .before .before .before .before .before .visit in
+      let x = s .pre .1 .1 .1 in
+      tried-on (magicWalker (s .args .rules .now) (s .args .limit)) (s .args .facts .now) (s .args .path .now) (s .args .depth) (s .args .count) (x .0) (x .1 .1) (some-left (k .before .before .before .before .before .before .before .before .before .before .before .before .before .before .before .before .before .before .before)) (p .result) (p .last .1 .1 .0) (p .last .1 .1 .1 .0) (p .ensures .0) (m .result) (m .ensures)
+      (v .result) (k .walked .given .0 .0) (k .walked .given .1) (v .last .1 .1 .0) (v .last .1 .1 .1 .0) (v .kept .1 .1 .1 .0) (v .ensures)
+
+  -- ---- visiting a split node
+
+  at : (f : visit-lts.After-found visiting visit-at visit.Post) → let s = f .before .before .before .before .before in Reached (magicWalker (s .args .rules .now) (s .args .limit)) (s .args .facts .now) (s .args .path .now) (s .args .depth) (s .args .done) (Split (f .found .given .0 .0))
+  at f = let s = f .before .before .before .before .before in reached-as (magicWalker (s .args .rules .now) (s .args .limit)) (s .args .facts .now) (s .args .path .now) (s .args .depth) (s .args .done) (s .args .found) (Split (f .found .given .0 .0)) (f .found .given .1) (s .pre .1 .1 .1 .0 .0)
+
+  -- its facts are all its own
+  own-is : (f : visit-lts.After-found visiting visit-at visit.Post) → let s = f .before .before .before .before .before in markAt (s .args .path .now) (s .args .depth) ≡ f .found .given .0 .0
+  own-is f = let s = f .before .before .before .before .before in subst (OwnFacts (s .args .path .now) (s .args .depth)) (f .found .given .1) (s .pre .1 .1 .1 .0 .1)
+
+  own : (f : visit-lts.After-found visiting visit-at visit.Post) → let s = f .before .before .before .before .before in Undone 18434 (s .args .facts .now) (markAt (s .args .path .now) (s .args .depth)) (s .args .facts .now)
+  own f = let s = f .before .before .before .before .before in own-undone (magicWalker (s .args .rules .now) (s .args .limit)) (s .args .facts .now) (s .args .path .now) (s .args .depth) (s .args .done) (f .found .given .0 .0) (at f) (own-is f)
+
+  -- all alternatives are shut
+  shut : (k : visit-lts.After-walked visiting visit-at visit.Post) →
+      let s = k .before .before .before .before .before .before .before .before .before .before .before .before .before .before .before in
+      let y = k .before .before .before .before .before .before .try-next in
+      AllShut (magicWalker (s .args .rules .now) (s .args .limit)) (s .args .facts .now) (s .args .path .now) (s .args .depth) (markAt (s .args .path .now) (s .args .depth)) (s .args .count) (k .walked .given .0 .0) (y .last .1 .1 .0) (y .last .1 .1 .1 .0)
+  shut k =
+      let s = k .before .before .before .before .before .before .before .before .before .before .before .before .before .before .before in
+      let y = k .before .before .before .before .before .before .try-next in
+      let own-mark = markAt (s .args .path .now) (s .args .depth) in
+      ended-as (magicWalker (s .args .rules .now) (s .args .limit)) (s .args .facts .now) (s .args .path .now) (s .args .depth) own-mark own-mark (s .args .count) (y .result) (Shut (k .walked .given .0 .0)) (y .last .1 .1 .0) (y .last .1 .1 .1 .0) refl (k .walked .given .1) (y .ensures)
+
+pub +try-next+visit-spec : {M : Type 1} → statement M
++try-next+visit-spec =
+    close μ-try-next μ-visit
+    (λ t.
+    try-next-lts.spec (trying t) (try-next-at t) try-next.Post
+    (λ c κs. (c .before .before .before .before) .pre .1 .1 .1 .0 .room)  -- next-requires
+    (λ c κs.
+    let s = c .before .before .before .before .before .before in
+    let x = s .pre .1 .1 .1 .0 in
+    (s .pre .1 .0, (x .room, split-listed (s .args .rules .now) (s .args .limit) (s .args .path .now) (s .args .depth) (x .at-split .listed))))  -- alternatives-requires
+    (λ c. search needs)  -- same-length
+    (λ c.
+    let s = c .before .before .before .before .before .before .before .before in
+    let x = s .pre .1 .1 .1 in
+    tried-none (magicWalker (s .args .rules .now) (s .args .limit)) (s .args .facts .now) (s .args .path .now) (s .args .depth) (s .args .count) (x .0) (x .1 .1)
+    (omega (arith, split-alts (s .args .rules .now) (s .args .limit) (s .args .path .now) (s .args .depth), (c .before .before .before) .next .ensures, c .before .alternatives .ensures, c .if1 .taken)) (x .1 .0))  -- returns
+    (λ c. search needs)  -- same-length-2
+    (λ c.
+    let s = c .before .before .before .before .before .before .before .before .before in
+    let x = s .pre .1 .1 .1 in
+    tried-due (magicWalker (s .args .rules .now) (s .args .limit)) (s .args .facts .now) (s .args .path .now) (s .args .depth) (s .args .count) (x .0) (x .1 .1) (some-left t (c .before)) (omega (arith, x .1 .1, c .if2 .taken)) (x .1 .0))  -- returns-2
+    (λ c κs. (c .before .before .before .before .before .before .before .before .before .before) .pre .1 .1 .1 .0 .room)  -- mark-requires
+    (λ c κs.
+    let s = c .before .before .before .before .before .before .before .before .before .before .before .before .before in
+    let x = s .pre .1 .1 .1 in
+    (s .pre .1 .0, (s .pre .1 .1 .0, (x .0, (some-left t (c .before .before .before .before .before), (x .1 .0, omega (arith, x .1 .1, (c .before .before .before .before) .if2 .left)))))))  -- place-requires
+    (λ c. omega (arith, (c .before .before .before .before .before .before .before .before .before .before .before .before .before .before .before .before .before .before .before .before) .pre .1 .1 .1 .0 .room .deep))  -- add-visit
+    (λ c. let s = c .before .before .before .before .before .before .before .before .before .before .before .before .before .before .before .before .before .before .before .before in omega (arith, s .pre .1 .1 .1 .1 .1, (c .before .before .before .before .before .before .before .before .before .before .before) .if2 .left, s .fits .limit))  -- add-visit-2
+    (λ c κs.
+    let s = c .before .before .before .before .before .before .before .before .before .before .before .before .before .before .before .before .before .before .before .before in
+    let w = (magicWalker (s .args .rules .now) (s .args .limit)) in
+    let x = s .pre .1 .1 .1 in
+    let p = c .before .before .before .before .before .before .place in
+    let from : triesLeft w (s .args .facts .now) (s .args .path .now) (s .args .depth) ≡ t = s .pre .0 in (
+      subst (λ (m : ℕ). visitsLeft w (p .last .1 .1 .0) (p .last .1 .1 .1 .0) (s .args .depth + 1) (p .result) < m) from
+          (visit-falls w (sound (s .args .rules .now) (s .pre .1 .0) (s .args .limit)) (s .args .facts .now) (s .args .path .now) (s .args .depth) (s .args .count) (x .0) (some-left t (c .before .before .before .before .before .before .before .before .before .before .before .before)) (p .result) (p .last .1 .1 .0) (p .last .1 .1 .1 .0) (p .ensures .0)),
+      (
+        s .pre .1 .0,
+        (
+          s .pre .1 .1 .0,
+          (
+            (subst (λ (m : ℕ). Reached w (p .last .1 .1 .0) (p .last .1 .1 .1 .0) (s .args .depth + 1) m (p .result)) (sym ((c .before .before .before .before .before .before .before .before .before) .mark .ensures)) (p .ensures .0 .reached), p .ensures .1),
+            (p .ensures .0 .trail, omega (arith, x .1 .1, (c .before .before .before .before .before .before .before .before .before .before .before) .if2 .left)),
+          ),
+        ),
+      ),
+    ))  -- visit-requires
+    (λ c. search needs)  -- enum-known-walked
+    (λ c κs.
+    let k = c .before .before .before in
+    let s = k .before .before .before .before .before .before .before .before .before .before .before .before .before .before .before .before .before .before .before .before .before .before .before .before .before .before .before in
+    let v = k .before .before .before .before .before .before .visit in
+    let from : triesLeft (magicWalker (s .args .rules .now) (s .args .limit)) (s .args .facts .now) (s .args .path .now) (s .args .depth) ≡ t = s .pre .0 in
+    (subst (λ (m : ℕ). triesLeft (magicWalker (s .args .rules .now) (s .args .limit)) (v .last .1 .1 .0) (v .last .1 .1 .1 .0) (s .args .depth) < m) from (on t k .falls), (s .pre .1 .0, (s .pre .1 .1 .0, (on t k .parted, (on t k .tries, on t k .within))))))  -- try-next-requires
+    (λ c. search needs)  -- same-length-3
+    (λ c. search needs)  -- same-length-4
+    (λ c. let y = c .before .before .before .before .try-next in on t (c .before .before .before .before .before .before .before .before) .ended (y .result) (y .last .1 .1 .0) (y .last .1 .1 .1 .0) (y .ensures))  -- returns-3
+    (λ c. search needs)  -- same-length-5
+    (λ c. search needs)  -- same-length-6
+    (λ c.
+    let s = c .before .before .before .before .before .before .before .before .before .before .before .before .before .before .before .before .before .before .before .before .before .before .before .before .before .before in
+    let p = c .before .before .before .before .before .before .before .before .before .before .before .before .place in
+    let v = c .before .before .before .before .before .visit in
+    passes (magicWalker (s .args .rules .now) (s .args .limit)) (p .last .1 .1 .0) (p .last .1 .1 .1 .0) (s .args .depth + 1) ((c .before .before .before .before .before .before .before .before .before .before .before .before .before .before .before) .mark .result) (s .args .count + 1)
+    (s .args .facts .now) (s .args .path .now) (s .args .depth) (markAt (s .args .path .now) (s .args .depth)) (s .args .count) (v .result) (c .match .keys2) (v .last .1 .1 .0) (v .last .1 .1 .1 .0) (v .ensures)))  -- returns-4
+    (λ t.
+    visit-lts.spec (visiting t) (visit-at t) visit.Post
+    (λ c. search needs)  -- enum-known-found
+    (λ c κs.
+    let f = c .before .before .before in
+    let s = f .before .before .before .before .before in
+    let w = (magicWalker (s .args .rules .now) (s .args .limit)) in
+    let x = s .pre .1 .1 .1 in
+    let n = f .found .given .0 .0 in
+    let here = visiting-as w (s .args .facts .now) (s .args .path .now) (s .args .depth) (s .args .count) (s .args .found) (Split n) (f .found .given .1) (x .1 .0) in
+    let from : visitsLeft w (s .args .facts .now) (s .args .path .now) (s .args .depth) (s .args .found) ≡ t = s .pre .0 in (
+      subst (λ (m : ℕ). triesLeft w (s .args .facts .now) (s .args .path .now) (s .args .depth) < m) (left-as w (s .args .facts .now) (s .args .path .now) (s .args .depth) (s .args .found) (Split n) (f .found .given .1) ∙ from)
+          (tries-fall w (sound (s .args .rules .now) (s .pre .1 .0) (s .args .limit)) (s .args .facts .now) (s .args .path .now) (s .args .depth) (s .args .done) n (at t f) (s .args .facts .now) (own t f)),
+      (
+        s .pre .1 .0,
+        (
+          s .pre .1 .1 .0,
+          (
+            split-parted w (s .args .facts .now) (s .args .path .now) (s .args .depth) (s .args .done) n (at t f) (s .args .facts .now) (own t f),
+            (split-tries w (s .args .facts .now) (s .args .path .now) (s .args .depth) (s .args .done) (s .args .count) (x .1 .1) n here, x .1 .1),
+          ),
+        ),
+      ),
+    ))  -- try-next-requires
+    (λ c. search needs)  -- enum-known-walked
+    (λ c κs.
+    let k = c .before .before in
+    let f = k .before .before .before .before .before .before .before .before .before .before in
+    let y = k .before .before .before .before .before .before .try-next in
+    (subst (Store 18434 (y .last .1 .1 .0)) (own-is t f) (shut t k .undone .store), (omega (arith, at t f .ready .0, own-is t f), omega arith)))  -- undo-requires
+    (λ c. search needs)  -- same-length
+    (λ c. search needs)  -- same-length-2
+    (λ c.
+    let k = c .before .before .before .before .before in
+    let f = k .before .before .before .before .before .before .before .before .before .before in
+    let s = f .before .before .before .before .before in
+    let y = k .before .before .before .before .before .before .try-next in
+    let e = c .before .before .undo in
+    split-shut (magicWalker (s .args .rules .now) (s .args .limit)) (s .args .facts .now) (s .args .path .now) (s .args .depth) (s .args .done) (s .args .count) (s .pre .1 .1 .1 .1 .1) (f .found .given .0 .0) (at t f) (s .args .facts .now) (own t f)
+    (k .walked .given .0 .0) (y .last .1 .1 .0) (y .last .1 .1 .1 .0) (shut t k) (e .last .0) (e .ensures))  -- returns
+    (λ c. search needs)  -- same-length-3
+    (λ c. search needs)  -- same-length-4
+    (λ c.
+    let s = c .before .before .before .before .before .before .before .before .before .before .before .before .before .before in
+    let y = c .before .before .before .before .before .try-next in
+    passes (magicWalker (s .args .rules .now) (s .args .limit)) (s .args .facts .now) (s .args .path .now) (s .args .depth) (markAt (s .args .path .now) (s .args .depth)) (s .args .count)
+    (s .args .facts .now) (s .args .path .now) (s .args .depth) (s .args .done) (s .args .count) (y .result) (c .match2 .keys2) (y .last .1 .1 .0) (y .last .1 .1 .1 .0) (y .ensures))  -- returns-2
+    (λ c. search needs)  -- enum-known-found-2
+    (λ c κs.
+    let s = c .before .before .before .before .before .before .before in
+    let g = c .before .before .found2 .given in
+    let here = reached-as (magicWalker (s .args .rules .now) (s .args .limit)) (s .args .facts .now) (s .args .path .now) (s .args .depth) (s .args .done) (s .args .found) (Closed (g .0 .0)) (g .1) (s .pre .1 .1 .1 .0 .0) in
+    (here .store, (here .ready, omega arith)))  -- undo-requires-2
+    (λ c. search needs)  -- same-length-5
+    (λ c.
+    let s = c .before .before .before .before .before .before .before .before .before .before in
+    let x = s .pre .1 .1 .1 in
+    let g = c .before .before .before .before .before .found2 .given in
+    let e = c .before .before .undo2 in
+    visit-closed (magicWalker (s .args .rules .now) (s .args .limit)) (s .args .facts .now) (s .args .path .now) (s .args .depth) (s .args .done) (s .args .count) (x .1 .1) (g .0 .0)
+    (visiting-as (magicWalker (s .args .rules .now) (s .args .limit)) (s .args .facts .now) (s .args .path .now) (s .args .depth) (s .args .count) (s .args .found) (Closed (g .0 .0)) (g .1) (x .1 .0)) (e .last .0) (e .ensures))  -- returns-3
+    (λ c. search needs)  -- enum-told
+    (λ c.
+    let s = c .before .before .before .before .before in
+    let x = s .pre .1 .1 .1 in
+    let o = found-open (s .args .found) (c .before .match .keys3) in
+    visit-open (magicWalker (s .args .rules .now) (s .args .limit)) (s .args .facts .now) (s .args .path .now) (s .args .depth) (s .args .done) (s .args .count) (x .1 .1) (o .0)
+    (reached-as (magicWalker (s .args .rules .now) (s .args .limit)) (s .args .facts .now) (s .args .path .now) (s .args .depth) (s .args .done) (s .args .found) (Open (o .0)) (o .1) (x .0 .0))
+    (visiting-as (magicWalker (s .args .rules .now) (s .args .limit)) (s .args .facts .now) (s .args .path .now) (s .args .depth) (s .args .count) (s .args .found) (Open (o .0)) (o .1) (x .1 .0))))  -- returns-4

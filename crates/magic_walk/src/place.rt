@@ -1,0 +1,123 @@
+// A place of the walk: making the next one, from the path and the next alternative at each node.
+use ground::atom::number_in;
+use magic_node::close::start;
+use magic_node::fact::place_at;
+use magic_node::node::Node;
+use magic_node::node::settle;
+use store::add;
+use walk::answer::Found;
+use walk::node::mark;
+use walk::node::next;
+use walk::node::note;
+use walk::node::number;
+use walk::node::pass;
+use walk::node::values;
+ghost use mathlib.Core.Path.{_≡_};
+ghost use Prim.Native.Nat.{ℕ, _+_, _<_};
+ghost use lib.ListN.{length, getD};
+ghost use Rattle.store.specs.contracts.Store.{Store};
+ghost use Rattle.rewriting.specs.Facts.{Ruled};
+ghost use Rattle.magic_node.specs.contracts.Index.{RulesIndexed};
+ghost use Rattle.magic_node.specs.contracts.Watch.{sitePlace};
+ghost use Rattle.magic_node.specs.contracts.Node.{HeldOpening};
+ghost use Rattle.walk.specs.contracts.Path.{Room, nextAt, altsAt};
+ghost use Rattle.walk.specs.contracts.Place.{Parted, Trying, Finding, Making, Beginning};
+ghost use Rattle.magic_walk.specs.contracts.Place.{ruleSite, siteAlts, Splitting, magicWalker, splitAt, HeldFresh, OwnFacts};
+
+// How many alternatives the split node at `depth` has.
+pub fn alternatives(rules: &[u8], path: &[u8], depth: usize) -> u8
+    requires { ⌜ Ruled (now rules) ⌝ }
+    requires { ⌜ Room (now path) depth × Splitting (now rules) (splitAt (now rules) (now path) depth) ⌝ }
+    ensures { λ r. ⌜ r ≡ length (siteAlts (now (rules .entry)) (splitAt (now (rules .entry)) (now (path .entry)) depth)) ⌝ }
+{
+    rules[144 + 42 * number(path, depth) + 5]
+}
+
+// The number of its next alternative.
+fn alternative(rules: &[u8], path: &[u8], depth: usize) -> usize
+    requires { ⌜ Ruled (now rules) ⌝ }
+    requires { ⌜ Room (now path) depth × Splitting (now rules) (splitAt (now rules) (now path) depth) ⌝ }
+    requires { ⌜ nextAt (now path) depth < length (siteAlts (now rules) (splitAt (now rules) (now path) depth)) ⌝ }
+    ensures { λ r. ⌜ r ≡ getD (siteAlts (now (rules .entry)) (splitAt (now (rules .entry)) (now (path .entry)) depth)) (nextAt (now (path .entry)) depth) 0 ⌝ }
+{
+    let four = values(path, depth);
+    let first = 144 + 42 * number(path, depth) + 26;
+    number_in(rules, first + 4 * (next(path, depth) as usize), &four)
+}
+
+// The place, in the walk's order, of the instance that it is split at.
+fn split_place(rules: &[u8], path: &[u8], depth: usize) -> usize
+    requires { ⌜ Ruled (now rules) ⌝ }
+    requires { ⌜ Room (now path) depth × Splitting (now rules) (splitAt (now rules) (now path) depth) ⌝ }
+    ensures { λ r. ⌜ r ≡ sitePlace (now (rules .entry)) (ruleSite (splitAt (now (rules .entry)) (now (path .entry)) depth)) ⌝ }
+{
+    let four = values(path, depth);
+    place_at(rules, number(path, depth) as u16, &four)
+}
+
+// Finds the place at `depth`, whose facts begin with n facts, of which `done` are worked off, with instances to split watched from `from` on.
+fn find(
+    rules: &[u8],
+    index: &[u16; 1536],
+    facts: &mut [u8],
+    path: &mut [u8],
+    depth: usize,
+    n: usize,
+    done: usize,
+    from: usize,
+) -> Found
+    requires { ⌜ Ruled (now rules) ⌝ }
+    requires { ⌜ RulesIndexed (now rules) (now index) ⌝ }
+    requires { ⌜ Room (now path) depth × HeldOpening (now rules) (now facts) n done from ⌝ }
+    ensures { λ x. ⌜ ((limit : ℕ) → HeldFresh (now (rules .entry)) limit (now (facts .entry)) (now (path .entry)) depth n → Finding (magicWalker (now (rules .entry)) limit) (now (facts .entry)) (now (path .entry)) depth n done x (now (facts .exit)) (now (path .exit))) × OwnFacts (now (path .exit)) depth x ⌝ }
+{
+    let node = settle(rules, index, facts, n, done, from);
+    match node {
+        Node::Split(m, q, a, b, c, d) => {
+            note(path, depth, q as usize, a, b, c, d, m);
+            return Found::Split(m);
+        }
+        Node::Closed(m) => {
+            return Found::Closed(m);
+        }
+        Node::Open(m) => {
+            return Found::Open(m);
+        }
+    }
+}
+
+// Makes the next place, entry `count` + 1 of the walk, where the limit allows one: enters the next alternative of the split node at `depth`.
+pub fn place(
+    rules: &[u8],
+    index: &[u16; 1536],
+    facts: &mut [u8],
+    path: &mut [u8],
+    depth: usize,
+    count: u32,
+    limit: u32,
+) -> Found
+    requires { ⌜ Ruled (now rules) ⌝ }
+    requires { ⌜ RulesIndexed (now rules) (now index) ⌝ }
+    requires { ⌜ Parted (magicWalker (now rules) limit) (now facts) (now path) depth ⌝ }
+    requires { ⌜ nextAt (now path) depth < length (altsAt (magicWalker (now rules) limit) (now path) depth) ⌝ }
+    requires { ⌜ Trying (magicWalker (now rules) limit) (now path) depth count × (count < limit) ⌝ }
+    ensures { λ x. ⌜ Making (magicWalker (now (rules .entry)) limit) (now (facts .entry)) (now (path .entry)) depth count x (now (facts .exit)) (now (path .exit)) × OwnFacts (now (path .exit)) (depth + 1) x ⌝ }
+{
+    let a = alternative(rules, path, depth);
+    let own = mark(path, depth);
+    let from = split_place(rules, path, depth);
+    pass(path, depth);
+    let n = add(facts, 18434, own, a);
+    find(rules, index, facts, path, depth + 1, n, own, from)
+}
+
+// Makes the root, in a set without facts.
+pub fn root(rules: &[u8], index: &[u16; 1536], facts: &mut [u8], path: &mut [u8]) -> Found
+    requires { ⌜ Ruled (now rules) ⌝ }
+    requires { ⌜ RulesIndexed (now rules) (now index) ⌝ }
+    requires { ⌜ Store 18434 (now facts) 0 × Room (now path) 0 ⌝ }
+    ensures { λ x. ⌜ ((limit : ℕ) → Beginning (magicWalker (now (rules .entry)) limit) x (now (facts .exit)) (now (path .exit))) × OwnFacts (now (path .exit)) 0 x ⌝ }
+{
+    let n = start(rules, facts);
+    find(rules, index, facts, path, 0, n, 0, 0)
+}

@@ -1,0 +1,132 @@
+// The walk: visiting a node, which calls the trying of alternatives, which calls visiting.
+use crate::place::alternatives;
+use crate::place::place;
+use crate::place::root;
+use magic_node::index::build;
+use store::undo;
+use walk::answer::Found;
+use walk::answer::Walked;
+use walk::node::mark;
+use walk::node::next;
+ghost use mathlib.Core.Path.{_≡_};
+ghost use Prim.Native.Nat.{_≤_};
+ghost use lib.ListN.{length};
+ghost use Rattle.store.specs.contracts.Store.{Store};
+ghost use Rattle.rewriting.specs.Facts.{Ruled};
+ghost use Rattle.magic_node.specs.contracts.Index.{RulesIndexed};
+ghost use Rattle.walk.specs.contracts.Path.{Room, markAt};
+ghost use Rattle.walk.specs.contracts.Place.{Parted, Reached, Visiting, Trying};
+ghost use Rattle.walk.specs.contracts.Walk.{Ended, Walks, WalkMade};
+ghost use Rattle.magic_walk.specs.contracts.Place.{magicWalker, OwnFacts};
+
+// Visits the node at `depth`, which is entry `count` and found so; its facts are taken back to the first `done` where all is closed.
+pub fn visit(
+    rules: &[u8],
+    index: &[u16; 1536],
+    facts: &mut [u8],
+    path: &mut [u8],
+    depth: usize,
+    done: usize,
+    found: Found,
+    count: u32,
+    limit: u32,
+) -> Walked
+    requires { ⌜ Ruled (now rules) ⌝ }
+    requires { ⌜ RulesIndexed (now rules) (now index) ⌝ }
+    requires { ⌜ Reached (magicWalker (now rules) limit) (now facts) (now path) depth done found × OwnFacts (now path) depth found ⌝ }
+    requires { ⌜ Visiting (magicWalker (now rules) limit) (now facts) (now path) depth found count × (count ≤ limit) ⌝ }
+    ensures { λ x. ⌜ Ended (magicWalker (now (rules .entry)) limit) (now (facts .entry)) (now (path .entry)) depth done count x (now (facts .exit)) (now (path .exit)) ⌝ }
+{
+    match found {
+        Found::Split(n) => {
+            let walked = try_next(rules, index, facts, path, depth, count, limit);
+            match walked {
+                Walked::Shut(shut) => {
+                    undo(facts, 18434, n, done);
+                    return Walked::Shut(shut);
+                }
+                _ => {}
+            }
+            return walked;
+        }
+        Found::Closed(n) => {
+            undo(facts, 18434, n, done);
+            return Walked::Shut(count);
+        }
+        _ => {}
+    }
+    Walked::Opened(count, depth)
+}
+
+// Tries the alternatives left at the split node at `depth`, after `count` entries.
+fn try_next(
+    rules: &[u8],
+    index: &[u16; 1536],
+    facts: &mut [u8],
+    path: &mut [u8],
+    depth: usize,
+    count: u32,
+    limit: u32,
+) -> Walked
+    requires { ⌜ Ruled (now rules) ⌝ }
+    requires { ⌜ RulesIndexed (now rules) (now index) ⌝ }
+    requires { ⌜ Parted (magicWalker (now rules) limit) (now facts) (now path) depth ⌝ }
+    requires { ⌜ Trying (magicWalker (now rules) limit) (now path) depth count × (count ≤ limit) ⌝ }
+    ensures { λ x. ⌜ Ended (magicWalker (now (rules .entry)) limit) (now (facts .entry)) (now (path .entry)) depth (markAt (now (path .entry)) depth) count x (now (facts .exit)) (now (path .exit)) ⌝ }
+{
+    if next(path, depth) >= alternatives(rules, path, depth) {
+        return Walked::Shut(count);
+    }
+    if count == limit {
+        return Walked::Exhausted(depth);
+    }
+    let own = mark(path, depth);
+    let found = place(rules, index, facts, path, depth, count, limit);
+    let walked = visit(
+        rules,
+        index,
+        facts,
+        path,
+        depth + 1,
+        own,
+        found,
+        count + 1,
+        limit,
+    );
+    match walked {
+        Walked::Shut(shut) => {
+            return try_next(rules, index, facts, path, depth, shut, limit);
+        }
+        _ => {}
+    }
+    walked
+}
+
+// The whole walk under a limit, from the root on, in a set without facts.
+pub fn from_root(
+    rules: &[u8],
+    index: &[u16; 1536],
+    facts: &mut [u8],
+    path: &mut [u8],
+    limit: u32,
+) -> Walked
+    requires { ⌜ Ruled (now rules) ⌝ }
+    requires { ⌜ RulesIndexed (now rules) (now index) ⌝ }
+    requires { ⌜ Store 18434 (now facts) 0 × Room (now path) 0 ⌝ }
+    ensures { λ x. ⌜ Walks (magicWalker (now (rules .entry)) limit) x (now (facts .exit)) (now (path .exit)) ⌝ }
+{
+    let found = root(rules, index, facts, path);
+    visit(rules, index, facts, path, 0, 0, found, 0, limit)
+}
+
+// Walks by the rules of a buffer under a limit, in a buffer for facts with any bytes.
+pub fn whole_walk(rules: &[u8], facts: &mut [u8], limit: u32) -> Walked
+    requires { ⌜ Ruled (now rules) ⌝ }
+    requires { ⌜ length (now facts) ≡ 55302 ⌝ }
+    ensures { λ x. ⌜ WalkMade (magicWalker (now (rules .entry)) limit) x (now (facts .exit)) ⌝ }
+{
+    let index = build(rules);
+    lists::zero(facts);
+    let mut path = [0u8; 9225];
+    from_root(rules, &index, facts, &mut path, limit)
+}

@@ -1,0 +1,73 @@
+-- A node just entered is found.
+use Prim.Native.Nat.{ℕ, _≤_, _<_}
+use mathlib.Core.List.{List}
+use mathlib.Core.Path.{_≡_, sym, subst}
+use native.Mathlib.Omega.{arith}
+use lib.ListN.{length, getD}
+use Rattle.search.specs.Machine.{entered}
+use Rattle.store.specs.contracts.Store.{logged}
+use Rattle.store.proofs.Laws.{store-few}
+use Rattle.problem.specs.Layout.{problemIn}
+use Rattle.problem.specs.Table.{Lawful}
+use Rattle.ground.specs.Instance.{clauseOf}
+use Rattle.ground.proofs.AtomLaws.{clause-fits}
+use Rattle.relevancy_node.specs.contracts.Node.{ClosedByClauses, OpenByClauses, SplitByClauses, TrueSettled}
+use Rattle.relevancy_node.specs.declared.node.Node.{Node}
+use Rattle.walk.specs.contracts.Walker.{Site}
+use Rattle.walk.specs.contracts.Path.{markAt, pathIn, siteAt, Noted}
+use Rattle.walk.specs.contracts.Place.{Finding}
+use Rattle.walk.specs.declared.answer.Found.the-variants.{Closed as ToldClosed, Open as ToldOpen, Split as ToldSplit}
+use Rattle.walk.proofs.PathLaws.{site-back}
+use Rattle.walk.proofs.PlaceLaws.{found-here, found-split}
+use Rattle.relevancy_walk.specs.contracts.Place.{TrueAtSplit, relevancyWalker, TrueFresh}
+use Rattle.relevancy_walk.proofs.SoundLaws.{sound}
+
+-- the settled node, by another name of the answer
+pub settled-as : (tb r : List ℕ) (n : ℕ) (x y : Node) (left : List ℕ) → x ≡ y → TrueSettled tb r n x left → TrueSettled tb r n y left
+settled-as tb r n x y left e h = subst (λ (z : Node). TrueSettled tb r n z left) e h
+
+module _ (tb : List ℕ) (h : Lawful tb) (facts path : List ℕ) (depth n done : ℕ) (fresh : TrueFresh tb facts path depth n done) (left-facts : List ℕ) where
+  abbrev l : List ℕ
+  l = entered (pathIn (relevancyWalker tb) path depth)
+
+  pub node-closed : (m : ℕ) → ClosedByClauses tb facts n m left-facts → Finding (relevancyWalker tb) facts path depth n done (ToldClosed m) left-facts path
+  node-closed m node =
+      found-here (relevancyWalker tb) facts path depth n done (ToldClosed m) left-facts (fresh .room) (fresh .kept) (node .found l (fresh .seeded)) (node .leaves .store)
+      (node .held l (fresh .seeded)) (omega (arith, node .leaves .grows, fresh .opening .part)) (node .leaves .kept)
+
+  pub node-open : (m : ℕ) → OpenByClauses tb facts n m left-facts → Finding (relevancyWalker tb) facts path depth n done (ToldOpen m) left-facts path
+  node-open m node =
+      found-here (relevancyWalker tb) facts path depth n done (ToldOpen m) left-facts (fresh .room) (fresh .kept) (node .found l (fresh .seeded)) (node .leaves .store)
+      (node .held l (fresh .seeded)) (omega (arith, node .leaves .grows, fresh .opening .part)) (node .leaves .kept)
+
+  -- the node is split, and written down
+  module _ (m t k a b c d : ℕ) (node : SplitByClauses tb facts n m t k a b c d left-facts) where
+    pub few-facts : t < 65536
+    few-facts = omega (arith, node .part, store-few (node .leaves .store))
+
+    abbrev site : Site
+    site = record { number = (node .site) .clause; values = (node .site) .values }
+
+    module _ (left : List ℕ) (size : length left ≡ 9225) (wrote : Noted path depth k a b c d t left) where
+      site-is : siteAt (relevancyWalker tb) left depth ≡ site
+      site-is =
+          let i = node .site in
+          let named = node .named in
+          let ek : i .clause ≡ k = cc in
+          let ea : getD (i .values) 0 0 ≡ a = cc in
+          let eb : getD (i .values) 1 0 ≡ b = cc in
+          let ec : getD (i .values) 2 0 ≡ c = cc in
+          let ed : getD (i .values) 3 0 ≡ d = cc in
+          let few : (clauseOf (problemIn tb) (i .clause)) .vars ≤ 4 = (clause-fits tb h (i .clause) (node .listed .known)) .few-vars in
+          site-back (relevancyWalker tb) path left depth k a b c d t site (node .listed .count) few ek ea eb ec ed wrote
+
+      rests : TrueAtSplit tb site l (logged left-facts 2050 (markAt left depth))
+      rests =
+          subst (λ (j : ℕ). TrueAtSplit tb site l (logged left-facts 2050 j)) (sym (wrote .mark-is))
+          (record { truths = node .rests .truths; worked = node .rests .worked; stands = node .stands l (fresh .seeded); untrue = node .untrue })
+
+      pub node-split : Finding (relevancyWalker tb) facts path depth n done (ToldSplit m) left-facts left
+      node-split =
+          found-split (relevancyWalker tb) (sound tb h) facts path depth n done (fresh .room) (fresh .kept) site (node .listed) (node .found l (fresh .seeded))
+          left-facts left size (wrote .before) site-is (wrote .next) m (node .leaves .store)
+          (omega (arith, wrote .mark-is, node .part)) (omega (arith, wrote .mark-is, node .more, fresh .opening .part)) rests (node .held l (fresh .seeded)) (node .leaves .kept)

@@ -1,0 +1,91 @@
+-- A node just entered: what follows from the path's atoms, once an atom is put into the facts of a split node, and at the root.
+use Prim.Native.Nat.{ℕ, _+_, _≤_, _<_}
+use mathlib.Core.List.{List, _∷_}
+use mathlib.Core.Path.{_≡_, sym, subst}
+use native.Mathlib.Omega.{arith}
+use lib.Dec.{T}
+use lib.ListN.{length, getD}
+use Rattle.lists.specs.Key.{natKey}
+use Rattle.lists.specs.Member.{All, In}
+use Rattle.lists.proofs.Member.{all-map, all-has}
+use Rattle.search.specs.Closure.{Closed}
+use Rattle.search.specs.Relevancy.{hornRules, trueSet}
+use Rattle.search.specs.Machine.{Branch, entered}
+use Rattle.search.proofs.Closure.{least-ind}
+use Rattle.store.specs.contracts.Store.{Added, logged}
+use Rattle.store.proofs.Laws.{added-in}
+use Rattle.store.proofs.Lent.{added-carries, added-each, added-worked}
+use Rattle.problem.specs.Table.{Lawful}
+use Rattle.ground.specs.Instance.{Instance, groundIn}
+use Rattle.relevancy_node.specs.contracts.Node.{TrueOpening, TrueStarted, TrueSeeded}
+use Rattle.walk.specs.contracts.Path.{Room, nextAt, markAt, Passed, siteAt, altsAt, entryAt, pathIn}
+use Rattle.walk.specs.contracts.Place.{Parted}
+use Rattle.walk.proofs.PathLaws.{path-deep, path-entered}
+use Rattle.walk.proofs.PlaceLaws.{entered-kept}
+use Rattle.relevancy_walk.specs.contracts.Place.{TrueAtSplit, relevancyWalker, TrueFresh}
+use Rattle.relevancy_walk.proofs.SoundLaws.{sound}
+
+module _ (tb : List ℕ) (h : Lawful tb) (facts path : List ℕ) (depth : ℕ) (node : Parted (relevancyWalker tb) facts path depth)
+    (some-left : nextAt path depth < length (altsAt (relevancyWalker tb) path depth)) where
+  abbrev mark : ℕ
+  mark = markAt path depth
+
+  abbrev atom : ℕ
+  atom = getD (altsAt (relevancyWalker tb) path depth) (nextAt path depth) 0
+
+  abbrev l : List ℕ
+  l = entered (pathIn (relevancyWalker tb) path depth)
+
+  rests : TrueAtSplit tb (siteAt (relevancyWalker tb) path depth) l (logged facts 2050 mark)
+  rests = node .at-split .rests
+
+  pub next-small : getD (altsAt (relevancyWalker tb) path depth) (nextAt path depth) 0 < (groundIn tb) .atoms
+  next-small = (sound tb h) .small (entryAt (relevancyWalker tb) path depth) (pathIn (relevancyWalker tb) path depth) (node .at-split .enters (nextAt path depth) some-left)
+
+  inside : (c : List ℕ) → Closed (hornRules (groundIn tb)) (In natKey c) → All (In natKey c) l → All (In natKey c) (logged facts 2050 mark)
+  unfolding trueSet
+  inside c closed held =
+      all-has natKey (In natKey c) (logged facts 2050 mark) (λ x t. least-ind natKey (hornRules (groundIn tb)) l (In natKey c) closed held x (subst T (rests .stands x) t))
+
+  -- the next alternative is put into the set
+  module _ (left : List ℕ) (n : ℕ) (put : Added 2050 facts (markAt path depth) (getD (altsAt (relevancyWalker tb) path depth) (nextAt path depth) 0) left n) where
+    added-seeded : TrueSeeded tb (atom ∷ l) left n
+    added-seeded =
+        record {
+          seeds = (
+            added-in put,
+            all-map (In natKey (logged facts 2050 mark)) (In natKey (logged left 2050 n)) (added-carries 2050 facts mark atom left n put) l
+                ((sound tb h) .has-entered (siteAt (relevancyWalker tb) path depth) l (logged facts 2050 mark) rests),
+          );
+          inside = λ c closed held. added-each 2050 facts mark atom left n put (In natKey c) (held .0) (inside c closed (held .1));
+        }
+
+    added-opening : TrueOpening tb left n mark
+    added-opening =
+        record {
+          store = put .store;
+          truths = added-each 2050 facts mark atom left n put (λ x. x ≤ (groundIn tb) .atoms) (omega (arith, next-small)) (rests .truths);
+          part = put .grows;
+          worked = added-worked 2050 facts mark atom left n put (hornRules (groundIn tb)) (rests .worked);
+        }
+
+    pub entered-fresh : (went : List ℕ) → length went ≡ 9225 → Passed path depth went → TrueFresh tb left went (depth + 1) n (markAt path depth)
+    entered-fresh went size p =
+        let kept = entered-kept (relevancyWalker tb) facts path depth 0 some-left went p node in
+        record {
+          room = record { size = size; deep = path-deep (relevancyWalker tb) (sound tb h) went (depth + 1) kept };
+          kept = kept;
+          opening = added-opening;
+          seeded = subst (λ (bs : List (Branch Instance)). TrueSeeded tb (entered bs) left n) (sym (path-entered (relevancyWalker tb) path went depth p)) added-seeded;
+        }
+
+-- the root, once the goals of the instances without conditions are in
+pub root-fresh : (tb facts path : List ℕ) (left : List ℕ) (n : ℕ) → Room path 0 → TrueStarted tb facts left n → TrueFresh tb left path 0 n 0
+unfolding logged pathIn
+root-fresh tb facts path left n room started =
+    record {
+      room = room;
+      kept = tt;
+      opening = record { store = started .grew .store; truths = started .truths; part = omega arith; worked = started .worked };
+      seeded = record { seeds = tt; inside = λ c closed held. started .grew .just c closed tt };
+    }

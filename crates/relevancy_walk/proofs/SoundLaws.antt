@@ -1,0 +1,44 @@
+-- What the relevancy engine shows of its walker.
+use Prim.Native.Nat.{ℕ, _≤_}
+use mathlib.Core.List.{List, _∷_}
+use mathlib.Core.Path.{sym, subst}
+use native.Mathlib.Omega.{arith}
+use lib.Dec.{T}
+use lib.ListN.{length, length-map}
+use Rattle.lists.specs.Key.{natKey}
+use Rattle.lists.specs.Member.{In}
+use Rattle.lists.proofs.Member.{all-map}
+use Rattle.search.specs.Relevancy.{trueSet}
+use Rattle.search.proofs.Relevancy.{true-entered}
+use Rattle.search.proofs.Walk.{path-small, path-short}
+use Rattle.problem.specs.Layout.{problemIn}
+use Rattle.problem.specs.Table.{Lawful}
+use Rattle.ground.specs.Instance.{number, clauseOf, groundOf, groundIn}
+use Rattle.ground.proofs.AtomLaws.{clause-fits}
+use Rattle.ground.proofs.Instances.{atoms-few, ground-proper}
+use Rattle.relevancy_node.specs.contracts.Node.{ListedInstance}
+use Rattle.walk.specs.contracts.Walker.{Site, Sound}
+use Rattle.walk.proofs.PathLaws.{genuine-enters}
+use Rattle.relevancy_walk.specs.contracts.Place.{instanceOf, instanceAlts, relevancyWalker}
+
+-- a clause has at most four alternatives
+site-four : (tb : List ℕ) → Lawful tb → (s : Site) → ListedInstance (problemIn tb) (instanceOf s) → length (instanceAlts tb s) ≤ 4
+unfolding groundOf
+site-four tb h s listed =
+    let q = problemIn tb in
+    omega (arith, length-map ((clauseOf q (s .number)) .alts) (number (q .constants) (q .arities) (s .values)), (clause-fits tb h (s .number) (listed .known)) .few-alts)
+
+pub sound : (tb : List ℕ) → Lawful tb → Sound (relevancyWalker tb)
+sound tb h =
+    let p = groundIn tb in
+    let proper = ground-proper (problemIn tb) (h .fits) in
+    record {
+      few = atoms-few (problemIn tb) (h .fits);
+      short = λ bs g. path-short p proper bs g;
+      small = λ b bs g. (path-small p proper (b ∷ bs) g) .1 .0;
+      four = λ s listed. site-four tb h s listed;
+      enters = λ bs s g e. genuine-enters (relevancyWalker tb .find) bs (instanceOf s) (instanceAlts tb s) g e;
+      has-entered = λ s l facts r.
+          all-map (In natKey (trueSet p l)) (In natKey facts) (λ x t. subst T (sym (r .stands x)) t) l (true-entered p l);
+      untrue = λ s l facts r. r .untrue;
+    }

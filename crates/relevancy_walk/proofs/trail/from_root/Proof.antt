@@ -1,0 +1,24 @@
+-- `relevancy_walk::trail::from_root` meets its contract.
+use mathlib.Core.Path.{refl}
+use native.Mathlib.Omega.{arith}
+use borrow.Author.Needs.{needs}
+use Rattle.walk.proofs.WalkLaws.{start-visiting, root-walks}
+use Rattle.relevancy_walk.specs.contracts.Place.{relevancyWalker}
+use Rattle.relevancy_walk.proofs.trail.from_root.Statement.{statement}
+use Rattle.relevancy_walk.proofs.trail.from_root.Tie as tie
+
+pub from-root-spec : {M : Type 1} → statement M
+from-root-spec =
+    tie.close
+    (tie.spec
+    (λ c κs. search needs)  -- root-requires
+    (λ c κs.
+    let s = c .before .before .before .before .before .before .before .before .before .before .before .before in
+    let r = c .before .before .before .before .before .before .root in
+    (s .pre .0, (s .pre .1 .0, (r .ensures .reached, (start-visiting (relevancyWalker (s .args .table .now)) (r .last .1 .1 .1 .0) (r .last .1 .1 .1 .1 .0) (r .result) refl (r .ensures), omega arith, s .pre .1 .1 .2)))))  -- visit-requires
+    (λ c. search needs)  -- same-length
+    (λ c. search needs)  -- same-length-2
+    (λ c.
+    let r = c .before .before .before .before .before .before .before .before .before .before .before .root in
+    let v = c .before .before .before .before .visit in
+    root-walks (relevancyWalker ((c .before .before .before .before .before .before .before .before .before .before .before .before .before .before .before .before .before) .args .table .now)) (r .last .1 .1 .1 .0) (r .last .1 .1 .1 .1 .0) (v .result) (v .last .1 .1 .1 .0) (v .last .1 .1 .1 .1 .0) (v .ensures)))  -- returns

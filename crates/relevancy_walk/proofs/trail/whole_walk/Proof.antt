@@ -1,0 +1,36 @@
+-- `relevancy_walk::trail::whole_walk` meets its contract.
+use Prim.Native.Nat.{ℕ}
+use mathlib.Core.Path.{_∙_}
+use native.Mathlib.Omega.{arith}
+use lib.ListN.{length, length-replicate}
+use borrow.Author.Needs.{needs}
+use Rattle.ground.proofs.AtomLaws.{table-size}
+use Rattle.ground.proofs.VerdictLaws.{limit-of}
+use Rattle.walk.proofs.WalkLaws.{blank-store, walks-tell}
+use Rattle.relevancy_walk.specs.contracts.Place.{relevancyWalker}
+use Rattle.relevancy_walk.proofs.trail.whole_walk.Statement.{statement}
+use Rattle.relevancy_walk.proofs.trail.whole_walk.Tie as tie
+
+pub whole-walk-spec : {M : Type 1} → statement M
+whole-walk-spec =
+    tie.close
+    (tie.spec
+    (λ c κs. search needs)  -- build-requires
+    (λ c κs. search needs)  -- build-requires-2
+    (λ c κs. search needs)  -- zero-requires
+    (λ c κs. let s = c .before .before .before .before .before .before .before .before in table-size (s .args .table .now) (s .pre .0))  -- limit-in-requires
+    (λ c. search needs)  -- slice-aggregate-from-root
+    (λ c κs.
+    let s = c .before .before .before .before .before .before .before .before .before .before .before .before .before in
+    let z = c .before .before .before .before .before .before .before .zero in
+    let l = c .before .before .before .before .limit-in in (
+      s .pre .0,
+      (
+        ((c .before .before .before .before .before .before .before .before .before .before) .build .ensures, (c .before .before .before .before .before .before .before .before .before) .build2 .ensures),
+        (blank-store 2050 (z .last .0) (length (s .args .facts .now)) (s .pre .1) (z .ensures), record { size = length-replicate {A = ℕ} 9225 0; deep = omega arith }, l .ensures ∙ limit-of (s .args .table .now)),
+      ),
+    ))  -- from-root-requires
+    (λ c. search needs)  -- same-length
+    (λ c.
+    let f = c .before .before .before .from-root in
+    record { path = f .last .1 .1 .1 .1 .0; walks = f .ensures; tells = walks-tell (relevancyWalker ((c .before .before .before .before .before .before .before .before .before .before .before .before .before .before .before .before .before) .args .table .now)) (f .result) (f .last .1 .1 .1 .0) (f .last .1 .1 .1 .1 .0) (f .ensures) }))  -- returns

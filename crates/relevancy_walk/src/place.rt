@@ -1,0 +1,116 @@
+// A place of the walk: making the next one, from the path and the next alternative at each node.
+use ground::atom::number_at;
+use relevancy_node::close::start;
+use relevancy_node::node::Node;
+use relevancy_node::node::settle;
+use store::add;
+use walk::answer::Found;
+use walk::node::mark;
+use walk::node::next;
+use walk::node::note;
+use walk::node::number;
+use walk::node::pass;
+use walk::node::values;
+ghost use mathlib.Core.Bool.{true, false};
+ghost use mathlib.Core.Path.{_≡_};
+ghost use Prim.Native.Nat.{_<_};
+ghost use lib.ListN.{length, getD};
+ghost use Rattle.store.specs.contracts.Store.{Store};
+ghost use Rattle.problem.specs.Table.{Lawful};
+ghost use Rattle.relevancy_node.specs.contracts.Index.{ClausesIndexed};
+ghost use Rattle.walk.specs.contracts.Path.{Room, nextAt, siteAt, altsAt};
+ghost use Rattle.walk.specs.contracts.Place.{Parted, Trying, Finding, Making, Beginning};
+ghost use Rattle.relevancy_walk.specs.contracts.Place.{relevancyWalker, TrueFresh};
+
+// How many alternatives the split node at `depth` has.
+pub fn alternatives(table: &[u8], path: &[u8], depth: usize) -> u8
+    requires { ⌜ Lawful (now table) ⌝ }
+    requires { ⌜ Room (now path) depth × (relevancyWalker (now table)) .Named (siteAt (relevancyWalker (now table)) (now path) depth) ⌝ }
+    ensures { λ r. ⌜ r ≡ length (altsAt (relevancyWalker (now (table .entry))) (now (path .entry)) depth) ⌝ }
+{
+    table[144 + 56 * number(path, depth) + 1]
+}
+
+// The number of its next alternative.
+fn alternative(table: &[u8], path: &[u8], depth: usize) -> usize
+    requires { ⌜ Lawful (now table) ⌝ }
+    requires { ⌜ Room (now path) depth × (relevancyWalker (now table)) .Named (siteAt (relevancyWalker (now table)) (now path) depth) ⌝ }
+    requires { ⌜ nextAt (now path) depth < length (altsAt (relevancyWalker (now table)) (now path) depth) ⌝ }
+    ensures { λ r. ⌜ r ≡ getD (altsAt (relevancyWalker (now (table .entry))) (now (path .entry)) depth) (nextAt (now (path .entry)) depth) 0 ⌝ }
+{
+    let four = values(path, depth);
+    let first = 144 + 56 * number(path, depth) + 32;
+    number_at(table, first + 6 * (next(path, depth) as usize), &four)
+}
+
+// Finds the place at `depth`, whose truths begin with n facts, of which `done` are worked off.
+fn find(
+    table: &[u8],
+    conds: &[u16; 384],
+    alts: &[u16; 384],
+    facts: &mut [u8],
+    path: &mut [u8],
+    depth: usize,
+    n: usize,
+    done: usize,
+) -> Found
+    requires { ⌜ Lawful (now table) ⌝ }
+    requires { ⌜ ClausesIndexed (now table) false (now conds) × ClausesIndexed (now table) true (now alts) ⌝ }
+    requires { ⌜ TrueFresh (now table) (now facts) (now path) depth n done ⌝ }
+    ensures { λ x. ⌜ Finding (relevancyWalker (now (table .entry))) (now (facts .entry)) (now (path .entry)) depth n done x (now (facts .exit)) (now (path .exit)) ⌝ }
+{
+    let node = settle(table, conds, alts, facts, n, done);
+    match node {
+        Node::Split(m, own, k, a, b, c, d) => {
+            note(path, depth, k as usize, a, b, c, d, own);
+            return Found::Split(m);
+        }
+        Node::Closed(m) => {
+            return Found::Closed(m);
+        }
+        Node::Open(m) => {
+            return Found::Open(m);
+        }
+    }
+}
+
+// Makes the next place, entry `count` + 1 of the walk, where the limit allows one: enters the next alternative of the split node at `depth`.
+pub fn place(
+    table: &[u8],
+    conds: &[u16; 384],
+    alts: &[u16; 384],
+    facts: &mut [u8],
+    path: &mut [u8],
+    depth: usize,
+    count: u32,
+) -> Found
+    requires { ⌜ Lawful (now table) ⌝ }
+    requires { ⌜ ClausesIndexed (now table) false (now conds) × ClausesIndexed (now table) true (now alts) ⌝ }
+    requires { ⌜ Parted (relevancyWalker (now table)) (now facts) (now path) depth ⌝ }
+    requires { ⌜ nextAt (now path) depth < length (altsAt (relevancyWalker (now table)) (now path) depth) ⌝ }
+    requires { ⌜ Trying (relevancyWalker (now table)) (now path) depth count × (count < (relevancyWalker (now table)) .limit) ⌝ }
+    ensures { λ x. ⌜ Making (relevancyWalker (now (table .entry))) (now (facts .entry)) (now (path .entry)) depth count x (now (facts .exit)) (now (path .exit)) ⌝ }
+{
+    let a = alternative(table, path, depth);
+    let own = mark(path, depth);
+    pass(path, depth);
+    let n = add(facts, 2050, own, a);
+    find(table, conds, alts, facts, path, depth + 1, n, own)
+}
+
+// Makes the root, in a set without facts.
+pub fn root(
+    table: &[u8],
+    conds: &[u16; 384],
+    alts: &[u16; 384],
+    facts: &mut [u8],
+    path: &mut [u8],
+) -> Found
+    requires { ⌜ Lawful (now table) ⌝ }
+    requires { ⌜ ClausesIndexed (now table) false (now conds) × ClausesIndexed (now table) true (now alts) ⌝ }
+    requires { ⌜ Store 2050 (now facts) 0 × Room (now path) 0 ⌝ }
+    ensures { λ x. ⌜ Beginning (relevancyWalker (now (table .entry))) x (now (facts .exit)) (now (path .exit)) ⌝ }
+{
+    let n = start(table, facts);
+    find(table, conds, alts, facts, path, 0, n, 0)
+}

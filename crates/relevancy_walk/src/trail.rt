@@ -1,0 +1,142 @@
+// The walk: visiting a node, which calls the trying of alternatives, which calls visiting.
+use crate::place::alternatives;
+use crate::place::place;
+use crate::place::root;
+use ground::verdict::limit_in;
+use relevancy_node::index::build;
+use store::undo;
+use walk::answer::Found;
+use walk::answer::Walked;
+use walk::node::mark;
+use walk::node::next;
+ghost use mathlib.Core.Bool.{true, false};
+ghost use mathlib.Core.Path.{_≡_};
+ghost use Prim.Native.Nat.{_≤_};
+ghost use lib.ListN.{length};
+ghost use Rattle.store.specs.contracts.Store.{Store};
+ghost use Rattle.problem.specs.Table.{Lawful};
+ghost use Rattle.relevancy_node.specs.contracts.Index.{ClausesIndexed};
+ghost use Rattle.walk.specs.contracts.Path.{Room, markAt};
+ghost use Rattle.walk.specs.contracts.Place.{Parted, Reached, Visiting, Trying};
+ghost use Rattle.walk.specs.contracts.Walk.{Ended, Walks, WalkMade};
+ghost use Rattle.relevancy_walk.specs.contracts.Place.{relevancyWalker};
+
+// Visits the node at `depth`, which is entry `count` and found so; its facts are taken back to the first `done` where all is closed.
+pub fn visit(
+    table: &[u8],
+    conds: &[u16; 384],
+    alts: &[u16; 384],
+    facts: &mut [u8],
+    path: &mut [u8],
+    depth: usize,
+    done: usize,
+    found: Found,
+    count: u32,
+    limit: u32,
+) -> Walked
+    requires { ⌜ Lawful (now table) ⌝ }
+    requires { ⌜ ClausesIndexed (now table) false (now conds) × ClausesIndexed (now table) true (now alts) ⌝ }
+    requires { ⌜ Reached (relevancyWalker (now table)) (now facts) (now path) depth done found ⌝ }
+    requires { ⌜ Visiting (relevancyWalker (now table)) (now facts) (now path) depth found count × (count ≤ limit) × (limit ≡ (relevancyWalker (now table)) .limit) ⌝ }
+    ensures { λ x. ⌜ Ended (relevancyWalker (now (table .entry))) (now (facts .entry)) (now (path .entry)) depth done count x (now (facts .exit)) (now (path .exit)) ⌝ }
+{
+    match found {
+        Found::Split(n) => {
+            let own = mark(path, depth);
+            undo(facts, 2050, n, own);
+            let walked = try_next(table, conds, alts, facts, path, depth, count, limit);
+            match walked {
+                Walked::Shut(shut) => {
+                    undo(facts, 2050, own, done);
+                    return Walked::Shut(shut);
+                }
+                _ => {}
+            }
+            return walked;
+        }
+        Found::Closed(n) => {
+            undo(facts, 2050, n, done);
+            return Walked::Shut(count);
+        }
+        _ => {}
+    }
+    Walked::Opened(count, depth)
+}
+
+// Tries the alternatives left at the split node at `depth`, after `count` entries.
+fn try_next(
+    table: &[u8],
+    conds: &[u16; 384],
+    alts: &[u16; 384],
+    facts: &mut [u8],
+    path: &mut [u8],
+    depth: usize,
+    count: u32,
+    limit: u32,
+) -> Walked
+    requires { ⌜ Lawful (now table) ⌝ }
+    requires { ⌜ ClausesIndexed (now table) false (now conds) × ClausesIndexed (now table) true (now alts) ⌝ }
+    requires { ⌜ Parted (relevancyWalker (now table)) (now facts) (now path) depth ⌝ }
+    requires { ⌜ Trying (relevancyWalker (now table)) (now path) depth count × (count ≤ limit) × (limit ≡ (relevancyWalker (now table)) .limit) ⌝ }
+    ensures { λ x. ⌜ Ended (relevancyWalker (now (table .entry))) (now (facts .entry)) (now (path .entry)) depth (markAt (now (path .entry)) depth) count x (now (facts .exit)) (now (path .exit)) ⌝ }
+{
+    if next(path, depth) >= alternatives(table, path, depth) {
+        return Walked::Shut(count);
+    }
+    if count == limit {
+        return Walked::Exhausted(depth);
+    }
+    let own = mark(path, depth);
+    let found = place(table, conds, alts, facts, path, depth, count);
+    let walked = visit(
+        table,
+        conds,
+        alts,
+        facts,
+        path,
+        depth + 1,
+        own,
+        found,
+        count + 1,
+        limit,
+    );
+    match walked {
+        Walked::Shut(shut) => {
+            return try_next(table, conds, alts, facts, path, depth, shut, limit);
+        }
+        _ => {}
+    }
+    walked
+}
+
+// The whole walk, from the root on, in a set without facts.
+pub fn from_root(
+    table: &[u8],
+    conds: &[u16; 384],
+    alts: &[u16; 384],
+    facts: &mut [u8],
+    path: &mut [u8],
+    limit: u32,
+) -> Walked
+    requires { ⌜ Lawful (now table) ⌝ }
+    requires { ⌜ ClausesIndexed (now table) false (now conds) × ClausesIndexed (now table) true (now alts) ⌝ }
+    requires { ⌜ Store 2050 (now facts) 0 × Room (now path) 0 × (limit ≡ (relevancyWalker (now table)) .limit) ⌝ }
+    ensures { λ x. ⌜ Walks (relevancyWalker (now (table .entry))) x (now (facts .exit)) (now (path .exit)) ⌝ }
+{
+    let found = root(table, conds, alts, facts, path);
+    visit(table, conds, alts, facts, path, 0, 0, found, 0, limit)
+}
+
+// Walks a table under its limit, in a buffer for facts with any bytes.
+pub fn whole_walk(table: &[u8], facts: &mut [u8]) -> Walked
+    requires { ⌜ Lawful (now table) ⌝ }
+    requires { ⌜ length (now facts) ≡ 6150 ⌝ }
+    ensures { λ x. ⌜ WalkMade (relevancyWalker (now (table .entry))) x (now (facts .exit)) ⌝ }
+{
+    let conds = build(table, false);
+    let alts = build(table, true);
+    lists::zero(facts);
+    let mut path = [0u8; 9225];
+    let limit = limit_in(table);
+    from_root(table, &conds, &alts, facts, &mut path, limit)
+}

@@ -1,0 +1,6 @@
+pub mod NodeRecord
+pub mod PathLaws
+pub mod TrailLaws
+pub mod PlaceLaws
+pub mod WalkLaws
+pub mod TriedLaws

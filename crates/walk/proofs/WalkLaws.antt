@@ -1,0 +1,315 @@
+-- The walk's steps: what visiting and trying say of the entries made, and what falls.
+use Prim.Native.Nat.{ℕ, zero, suc, _+_, _-_, _*_, _≤_, _<_}
+use mathlib.Core.Bool.{Bool, true, false, cond}
+use mathlib.Core.List.{List, [], _∷_}
+use mathlib.Core.Logic.{inl, inr}
+use mathlib.Core.Option.{some}
+use mathlib.Core.Path.{_≡_, refl, sym, ap, subst, _∙_}
+use native.Mathlib.Omega.{arith}
+use denote.Enum.Declared.{tagOf}
+use lib.Dec.{T, ltb}
+use borrow.Author.Tests.{ltb-true, ltb-false}
+use lib.ListN.{length, drop, getD, replicate, drop-of-length-le, length-replicate, getD-replicate}
+use Rattle.lists.specs.Key.{natKey}
+use Rattle.lists.specs.Member.{All, has, In}
+use Rattle.search.specs.Ground.{Found, closed, opened, split}
+use Rattle.search.specs.Machine.{Branch, entered, enter, back, placed, root}
+use types.Run.{OneOf}
+use Rattle.store.specs.contracts.Store.{Store, Undone, logged}
+use Rattle.store.proofs.Laws.{logged-grows}
+use Rattle.walk.specs.contracts.Trail.{AtEntry}
+use Rattle.walk.specs.contracts.Walker.{Site, Walker, Sound}
+use Rattle.walk.specs.contracts.Path.{nextAt, markAt, Passed, siteAt, altsAt, entryAt, pathIn, nextIn}
+use Rattle.walk.specs.contracts.Place.{bitsIn, placeIn, Parted, Reached, Visiting, Trying, Making, Beginning}
+use Rattle.walk.specs.contracts.Walk.{untrue, triesLeft, visitsLeft, AllShut, Ended, Walks, Tells}
+use Rattle.walk.specs.declared.answer.Found.{Found as Told}
+use Rattle.walk.specs.declared.answer.Found.the-variants.{Closed as ToldClosed, Open as ToldOpen, Split as ToldSplit}
+use Rattle.walk.specs.declared.answer.Walked.{Walked}
+use Rattle.walk.specs.declared.answer.Walked.the-variants.{Shut, Opened, Exhausted as LimitMet}
+use Rattle.walk.proofs.answer.Found.{the-type as found-type}
+use Rattle.walk.proofs.answer.Walked.{the-type as walked-type}
+use Rattle.walk.proofs.PathLaws.{site-same, path-same, passed-still, next-some}
+use Rattle.walk.proofs.TrailLaws.{at-start, next-of, next-as, all-made, open-over, answer-open, answer-shut, answer-due}
+use Rattle.walk.proofs.PlaceLaws.{split-same}
+
+-- ---- the answers that a match tells apart
+
+pub found-open : (x : Told) → tagOf found-type x ≡ 1 → (n : ℕ) × (x ≡ ToldOpen n)
+found-open (ToldClosed n) t = let z : _≡_ {A = ℕ} 0 1 = t in absurd (omega arith)
+found-open (ToldOpen n) t = (n, refl)
+found-open (ToldSplit n) t = let z : _≡_ {A = ℕ} 2 1 = t in absurd (omega arith)
+
+-- ---- a place that is closed or split is not open
+
+closed-unopened : {I : Type 0} (bits : List Bool) → _≡_ {A = Found I} closed (opened bits) → ⊥
+closed-unopened bits e = let z : _≡_ {A = ℕ} 0 1 = cc in omega arith
+
+split-unopened : {I : Type 0} (i : I) (ds : List ℕ) (bits : List Bool) → split i ds ≡ opened bits → ⊥
+split-unopened i ds bits e = let z : _≡_ {A = ℕ} 0 1 = cc in omega arith
+
+-- ---- untrue atoms
+
+fewer : (b c : Bool) (u v : ℕ) → (T b → T c) → v ≤ u → cond c v (suc v) ≤ cond b u (suc u)
+fewer true true u v h l = l
+fewer true false u v h l = absurd (h tt)
+fewer false true u v h l = omega arith
+fewer false false u v h l = omega arith
+
+less : (b c : Bool) (u v : ℕ) → (T b → T c) → v < u → cond c v (suc v) < cond b u (suc u)
+less true true u v h l = l
+less true false u v h l = absurd (h tt)
+less false true u v h l = omega arith
+less false false u v h l = omega arith
+
+one-less : (b c : Bool) (u v : ℕ) → b ≡ false → T c → v ≤ u → cond c v (suc v) < cond b u (suc u)
+one-less true c u v e t l = absurd (subst T e tt)
+one-less false true u v e t l = omega arith
+one-less false false u v e t l = absurd t
+
+module _ (facts more : List ℕ) (grows : (x : ℕ) → In natKey facts x → In natKey more x) where
+  untrue-le : (n : ℕ) → untrue more n ≤ untrue facts n
+  unfolding untrue
+  untrue-le zero = omega arith
+  untrue-le (suc n) = fewer (has natKey facts n) (has natKey more n) (untrue facts n) (untrue more n) (grows n) (untrue-le n)
+
+  untrue-falls : (a : ℕ) → has natKey facts a ≡ false → In natKey more a → (n : ℕ) → a < n → untrue more n < untrue facts n
+  unfolding untrue
+  untrue-falls a out t zero l = absurd (omega arith)
+  untrue-falls a out t (suc n) l = go (ltb a n) refl (λ k. untrue-falls a out t n k)
+    where
+      go : (b : Bool) → ltb a n ≡ b → (a < n → untrue more n < untrue facts n) → untrue more (suc n) < untrue facts (suc n)
+      go true e f = less (has natKey facts n) (has natKey more n) (untrue facts n) (untrue more n) (grows n) (f (ltb-true a n e))
+      go false e f =
+          let same : a ≡ n = omega (arith, ltb-false a n e) in
+          one-less (has natKey facts n) (has natKey more n) (untrue facts n) (untrue more n) (subst (λ (x : ℕ). has natKey facts x ≡ false) same out) (subst (In natKey more) same t) (untrue-le n)
+
+-- ---- visiting
+
+module _ {I : Type 0} (w : Walker I) (facts path : List ℕ) (depth done count : ℕ) (within : count ≤ w .limit) where
+  pub visit-open : (n : ℕ) → Reached w facts path depth done (ToldOpen n) → Visiting w facts path depth (ToldOpen n) count
+      → Ended w facts path depth done count (Opened count depth) facts path
+  visit-open n at here = record { facts-count = n; done = done; trail = here; within = within; reached = at }
+
+  pub visit-closed : (n : ℕ) → Visiting w facts path depth (ToldClosed n) count → (left : List ℕ) → Undone (w .capacity) facts done left
+      → Ended w facts path depth done count (Shut count) left path
+  visit-closed n here left undone =
+      record {
+        trail = next-of (w .find) (w .start) (w .base) count (placeIn w facts path depth (ToldClosed n)) closed-unopened here;
+        grows = omega arith;
+        within = within;
+        undone = undone;
+        before = λ i l. refl;
+      }
+
+  -- the node is split: visiting it is trying all its alternatives
+  module _ (n : ℕ) where
+    pub split-tries : Visiting w facts path depth (ToldSplit n) count → Trying w path depth count
+    split-tries here =
+        next-of (w .find) (w .start) (w .base) count (placeIn w facts path depth (ToldSplit n))
+        (split-unopened (w .instance (siteAt w path depth)) (drop (nextAt path depth) (altsAt w path depth))) here
+
+    -- they are all shut, and the facts go back
+    pub split-shut : Reached w facts path depth done (ToldSplit n) → (own : List ℕ) → Undone (w .capacity) facts (markAt path depth) own
+        → (c : ℕ) (tried-facts tried : List ℕ) → AllShut w own path depth (markAt path depth) count c tried-facts tried
+        → (left : List ℕ) → Undone (w .capacity) tried-facts done left
+        → Ended w facts path depth done count (Shut c) left tried
+    split-shut at own first c tried-facts tried shut left undone =
+        record {
+          trail = shut .trail;
+          grows = shut .grows;
+          within = shut .within;
+          undone =
+              record {
+                store = undone .store;
+                kept = λ i l. undone .kept i l ∙ shut .undone .kept i (omega (arith, at .ready .0)) ∙ first .kept i (omega (arith, at .ready .0));
+              };
+          before = shut .before;
+        }
+
+-- what is open or due below is so above
+pub passes : {I : Type 0} (w : Walker I) (facts path : List ℕ) (depth done count : ℕ) (above-facts above : List ℕ) (high base before : ℕ) (x : Walked) → OneOf (1 ∷ 2 ∷ []) (tagOf walked-type x)
+    → (left-facts left : List ℕ) → Ended w facts path depth done count x left-facts left → Ended w above-facts above high base before x left-facts left
+passes w facts path depth done count above-facts above high base before (Shut c) t left-facts left e = absurd (not-shut t)
+  where
+    not-shut : OneOf (1 ∷ 2 ∷ []) 0 → ⊥
+    not-shut (inl z) = let y : _≡_ {A = ℕ} 0 1 = z in omega arith
+    not-shut (inr z) = let y : _≡_ {A = ℕ} 0 2 = z in omega arith
+passes w facts path depth done count above-facts above high base before (Opened c d) t left-facts left e = e
+passes w facts path depth done count above-facts above high base before (LimitMet d) t left-facts left e = e
+
+-- ---- trying
+
+module _ {I : Type 0} (w : Walker I) (facts path : List ℕ) (depth count : ℕ) (node : Parted w facts path depth) (within : count ≤ w .limit) where
+  -- none is left
+  pub tried-none : length (altsAt w path depth) ≤ nextAt path depth → Trying w path depth count
+      → Ended w facts path depth (markAt path depth) count (Shut count) facts path
+  tried-none all due =
+      record {
+        trail =
+            next-as (w .find) (w .start) (w .base) count (nextIn w path depth) (back (pathIn w path depth))
+            (ap (λ (ds : List ℕ). enter (w .instance (siteAt w path depth)) ds (pathIn w path depth) (back (pathIn w path depth))) (drop-of-length-le (altsAt w path depth) all)) due;
+        grows = omega arith;
+        within = within;
+        undone = record { store = node .store; kept = λ i l. refl };
+        before = λ i l. refl;
+      }
+
+  -- one is left, and the limit is met
+  pub tried-due : nextAt path depth < length (altsAt w path depth) → count ≡ w .limit → Trying w path depth count
+      → Ended w facts path depth (markAt path depth) count (LimitMet depth) facts path
+  tried-due some-left e due = record { trail = subst (Trying w path depth) e due; left-over = some-left; node = node }
+
+  -- one is entered, and it is shut: the next one is tried
+  module _ (x : Told) (made-facts made : List ℕ) (went : Making w facts path depth count x made-facts made)
+      (c : ℕ) (after-facts after : List ℕ) (size : length after ≡ 9225) (shut : AllShut w made-facts made (depth + 1) (markAt path depth) (count + 1) c after-facts after) where
+    after-passed : Passed path depth after
+    after-passed = passed-still path made after depth (went .passed) (shut .before)
+
+    after-next : nextAt after depth ≡ nextAt path depth + 1
+    after-next = after-passed .next
+
+    after-site : siteAt w after depth ≡ siteAt w path depth
+    after-site = site-same w path after depth (after-passed .number-is) (after-passed .four)
+
+    after-path : pathIn w after depth ≡ pathIn w path depth
+    after-path = path-same w path after depth (after-passed .before)
+
+    after-logs : (i : ℕ) → i ≤ markAt path depth → logged after-facts (w .capacity) i ≡ logged facts (w .capacity) i
+    after-logs i l = shut .undone .kept i l ∙ went .logs i l
+
+    after-log : logged facts (w .capacity) (markAt path depth) ≡ logged after-facts (w .capacity) (markAt after depth)
+    after-log = sym (after-logs (markAt path depth) (omega arith)) ∙ ap (logged after-facts (w .capacity)) (sym (after-passed .mark-is))
+
+    pub after-parted : Parted w after-facts after depth
+    after-parted =
+        record {
+          room = record { size = size; deep = node .room .deep };
+          kept = subst (w .Kept) (sym after-path) (node .kept);
+          store = subst (Store (w .capacity) after-facts) (sym (after-passed .mark-is)) (shut .undone .store);
+          at-split =
+              split-same w path after depth (logged facts (w .capacity) (markAt path depth)) (logged after-facts (w .capacity) (markAt after depth)) after-site after-path after-log (node .at-split);
+        }
+
+    -- the walk is to go on behind the path with the entry, which is the next alternative
+    pub after-tries : Trying w after depth c
+    after-tries =
+        let one : suc (nextAt path depth) ≡ nextAt after depth = omega (arith, after-next) in
+        let here : back (pathIn w made (depth + 1)) ≡ nextIn w after depth =
+        ap back (went .path-is) ∙ rw (altsAt, after-site, after-path, one) in
+        next-as (w .find) (w .start) (w .base) c (back (pathIn w made (depth + 1))) (nextIn w after depth) here (shut .trail)
+
+    -- and what it ends in, all end in
+    pub after-ended : (y : Walked) (last-facts last : List ℕ) → Ended w after-facts after depth (markAt after depth) c y last-facts last
+        → Ended w facts path depth (markAt path depth) count y last-facts last
+    after-ended (Shut d) last-facts last e =
+        record {
+          trail = next-as (w .find) (w .start) (w .base) d (back (pathIn w after depth)) (back (pathIn w path depth)) (ap back after-path) (e .trail);
+          grows = omega (arith, e .grows, shut .grows);
+          within = e .within;
+          undone =
+              record {
+                store = subst (Store (w .capacity) last-facts) (after-passed .mark-is) (e .undone .store);
+                kept = λ i l. e .undone .kept i (omega (arith, after-passed .mark-is)) ∙ after-logs i l;
+              };
+          before = λ i l. e .before i l ∙ after-passed .before i l;
+        }
+    after-ended (Opened d f) last-facts last e = e
+    after-ended (LimitMet f) last-facts last e = e
+
+    -- one alternative less is left
+    pub after-falls : nextAt path depth < length (altsAt w path depth) → triesLeft w after-facts after depth < triesLeft w facts path depth
+    after-falls some-left =
+        let same : untrue (logged after-facts (w .capacity) (markAt after depth)) (w .atoms) ≡ untrue (logged facts (w .capacity) (markAt path depth)) (w .atoms) =
+        ap (λ (log : List ℕ). untrue log (w .atoms)) (sym after-log) in
+        let alts : length (altsAt w after depth) ≡ length (altsAt w path depth) = ap (λ (s : Site). length (w .alts s)) after-site in
+        omega (arith, after-next)
+
+-- an end, by another name of the facts kept and of the answer
+pub ended-as : {I : Type 0} (w : Walker I) (facts path : List ℕ) (depth done begun-done count : ℕ) (x y : Walked) (left-facts left : List ℕ)
+    → done ≡ begun-done → x ≡ y → Ended w facts path depth done count x left-facts left → Ended w facts path depth begun-done count y left-facts left
+ended-as w facts path depth done begun-done count x y left-facts left d e h =
+    subst (λ (z : Walked). Ended w facts path depth begun-done count z left-facts left) e
+    (subst (λ (m : ℕ). Ended w facts path depth m count x left-facts left) d h)
+
+-- ---- what falls
+
+module _ {I : Type 0} (w : Walker I) (sound : Sound w) (facts path : List ℕ) (depth count : ℕ) (node : Parted w facts path depth)
+    (some-left : nextAt path depth < length (altsAt w path depth)) where
+  -- the place made has an atom more that is true
+  pub visit-falls : (x : Told) (made-facts made : List ℕ) → Making w facts path depth count x made-facts made → visitsLeft w made-facts made (depth + 1) x < triesLeft w facts path depth
+  visit-falls (ToldClosed n) made-facts made went = omega arith
+  visit-falls (ToldOpen n) made-facts made went = omega arith
+  visit-falls (ToldSplit n) made-facts made went =
+      let a : ℕ = getD (altsAt w path depth) (nextAt path depth) 0 in
+      let at = went .reached .ready .3 in
+      let log : List ℕ = logged made-facts (w .capacity) (markAt made (depth + 1)) in
+      let grows : (y : ℕ) → In natKey (logged facts (w .capacity) (markAt path depth)) y → In natKey log y =
+      λ y t.
+      logged-grows made-facts (w .capacity) (markAt path depth) (markAt made (depth + 1)) (went .reached .ready .0) y
+      (subst (λ (l : List ℕ). In natKey l y) (sym (went .logs (markAt path depth) (omega arith))) t) in
+      let entered-in : In natKey log a =
+      (subst (λ (bs : List (Branch I)). All (In natKey log) (entered bs)) (went .path-is) (sound .has-entered (siteAt w made (depth + 1)) (entered (pathIn w made (depth + 1))) log (at .rests))) .0 in
+      let out : has natKey (logged facts (w .capacity) (markAt path depth)) a ≡ false =
+      all-at (λ y. has natKey (logged facts (w .capacity) (markAt path depth)) y ≡ false) (altsAt w path depth) (nextAt path depth) some-left
+      (sound .untrue (siteAt w path depth) (entered (pathIn w path depth)) (logged facts (w .capacity) (markAt path depth)) (node .at-split .rests)) in
+      let small : a < w .atoms = sound .small (entryAt w path depth) (pathIn w path depth) (node .at-split .enters (nextAt path depth) some-left) in
+      let falls : untrue log (w .atoms) < untrue (logged facts (w .capacity) (markAt path depth)) (w .atoms) =
+      untrue-falls (logged facts (w .capacity) (markAt path depth)) log grows a out entered-in (w .atoms) small in
+      omega arith
+    where
+      all-at : (P : ℕ → Type 0) (xs : List ℕ) (j : ℕ) → j < length xs → All P xs → P (getD xs j 0)
+      all-at P [] j l h = absurd (omega arith)
+      all-at P (y ∷ ys) zero l h = h .0
+      all-at P (y ∷ ys) (suc j) l h = all-at P ys j (omega arith) (h .1)
+
+-- trying at a split node lies below visiting it
+pub tries-fall : {I : Type 0} (w : Walker I) → Sound w → (facts path : List ℕ) (depth done n : ℕ) → Reached w facts path depth done (ToldSplit n) → (own : List ℕ) → Undone (w .capacity) facts (markAt path depth) own
+    → triesLeft w own path depth < visitsLeft w facts path depth (ToldSplit n)
+tries-fall w sound facts path depth done n at own undone =
+    let same : untrue (logged own (w .capacity) (markAt path depth)) (w .atoms) ≡ untrue (logged facts (w .capacity) (markAt path depth)) (w .atoms) =
+    ap (λ (log : List ℕ). untrue log (w .atoms)) (undone .kept (markAt path depth) (omega arith)) in
+    omega (arith, sound .four (siteAt w path depth) (at .ready .3 .listed))
+
+-- what is left of visiting, by another name of the answer
+pub left-as : {I : Type 0} (w : Walker I) (facts path : List ℕ) (depth : ℕ) (x y : Told) → x ≡ y → visitsLeft w facts path depth y ≡ visitsLeft w facts path depth x
+left-as w facts path depth x y e = ap (visitsLeft w facts path depth) (sym e)
+
+-- ---- the whole walk
+
+-- zeros are an empty set
+pub blank-store : (size : ℕ) (r : List ℕ) (n : ℕ) → n ≡ 3 * size → r ≡ replicate n 0 → Store size r 0
+unfolding logged
+blank-store size r n e z =
+    record {
+      room = ap length z ∙ length-replicate n 0 ∙ e;
+      small = tt;
+      distinct = tt;
+      flags = λ a l. ap (λ (x : List ℕ). getD x a 0) z ∙ getD-replicate n a 0 0 (omega arith);
+    }
+
+-- a place that has just been made at the start is the walk's first
+pub start-visiting : {I : Type 0} (w : Walker I) (facts path : List ℕ) (x : Told) → w .start ≡ root (w .find) → Beginning w x facts path → Visiting w facts path 0 x (w .base)
+start-visiting w facts path x s begun =
+    subst (AtEntry (w .find) (w .start) (w .base) (w .base)) (s ∙ begun .made) (at-start (w .find) (w .start) (w .base))
+
+-- visiting the root is the whole walk
+pub root-walks : {I : Type 0} (w : Walker I) (facts path : List ℕ) (y : Walked) (left-facts left : List ℕ) → Ended w facts path 0 0 (w .base) y left-facts left → Walks w y left-facts left
+unfolding pathIn
+root-walks w facts path (Shut c) left-facts left e =
+    let t = e .trail in
+    (all-made (w .find) (w .start) (w .base) (w .limit) c (t .latest) (t .at-latest) (e .within) (ap (placed (w .find)) (t .next)), t, e .within)
+root-walks w facts path (Opened c d) left-facts left e = (
+  all-made (w .find) (w .start) (w .base) (w .limit) c (placeIn w left-facts left d (ToldOpen (e .facts-count))) (e .trail) (e .within)
+      (open-over (w .find) (w .start) (w .base) (w .limit) (placeIn w left-facts left d (ToldOpen (e .facts-count))) (bitsIn w left-facts) refl),
+  e,
+)
+root-walks w facts path (LimitMet d) left-facts left e = e
+
+-- and it tells the outcome
+pub walks-tell : {I : Type 0} (w : Walker I) (y : Walked) (facts path : List ℕ) → Walks w y facts path → Tells w y facts
+walks-tell w (Shut c) facts path h = answer-shut (w .find) (w .start) (w .base) (w .limit) c (h .1) (h .2)
+walks-tell w (Opened c d) facts path h =
+    answer-open (w .find) (w .start) (w .base) (w .limit) c (placeIn w facts path d (ToldOpen (h .1 .facts-count))) (bitsIn w facts) (h .1 .trail) (h .1 .within) refl
+walks-tell w (LimitMet d) facts path h =
+    answer-due (w .find) (w .start) (w .base) (w .limit) (entryAt w path d ∷ pathIn w path d)
+    (next-as (w .find) (w .start) (w .base) (w .limit) (nextIn w path d) (some (entryAt w path d ∷ pathIn w path d)) (next-some w path d (h .left-over)) (h .trail))

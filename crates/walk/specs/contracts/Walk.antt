@@ -1,0 +1,89 @@
+-- What visiting a node and trying its alternatives say, and the whole walk.
+use Prim.Native.Nat.{ℕ, zero, suc, _+_, _-_, _*_, _≤_, _<_}
+use mathlib.Core.Bool.{cond}
+use mathlib.Core.List.{List}
+use mathlib.Core.Option.{none}
+use mathlib.Core.Path.{_≡_}
+use lib.ListN.{length}
+use Rattle.lists.specs.Key.{natKey}
+use Rattle.lists.specs.Member.{has}
+use Rattle.search.specs.Machine.{Satisfied, Refuted, Exhausted, back, entries, proceed}
+use Rattle.store.specs.contracts.Store.{Undone, logged}
+use Rattle.walk.specs.contracts.Trail.{NextEntry}
+use Rattle.walk.specs.contracts.Walker.{Walker}
+use Rattle.walk.specs.contracts.Path.{nextAt, markAt, PathKept, altsAt, pathIn}
+use Rattle.walk.specs.contracts.Place.{bitsIn, Visiting, Trying, Parted, Reached}
+use Rattle.walk.specs.declared.answer.Found.{Found as Told}
+use Rattle.walk.specs.declared.answer.Found.the-variants.{Closed, Open, Split}
+use Rattle.walk.specs.declared.answer.Walked.{Walked}
+use Rattle.walk.specs.declared.answer.Walked.the-variants.{Shut, Opened, Exhausted as LimitMet}
+
+-- ---- what falls: untrue atoms and alternatives left
+
+-- how many of the atoms below n are not among the facts
+unfoldable pub untrue : List ℕ → ℕ → ℕ
+untrue facts zero = 0
+untrue facts (suc n) = cond (has natKey facts n) (untrue facts n) (suc (untrue facts n))
+
+module _ {I : Type 0} (w : Walker I) where
+  -- with 6 for each untrue atom, trying at a node lies below visiting it and above visiting its children
+  abbrev pub triesLeft : List ℕ → List ℕ → ℕ → ℕ
+  triesLeft facts path depth = untrue (logged facts (w .capacity) (markAt path depth)) (w .atoms) * 6 + (length (altsAt w path depth) - nextAt path depth)
+
+  abbrev pub visitsLeft : List ℕ → List ℕ → ℕ → Told → ℕ
+  visitsLeft facts path depth (Closed n) = 0
+  visitsLeft facts path depth (Open n) = 0
+  visitsLeft facts path depth (Split n) = untrue (logged facts (w .capacity) (markAt path depth)) (w .atoms) * 6 + 5
+
+  -- ---- how a part of the walk ends that began after `count` entries
+
+  -- all is closed after c entries: the walk is to go on behind the path, and the set is back to its first `done` facts
+  pub record AllShut (facts path : List ℕ) (depth done count c : ℕ) (left-facts left : List ℕ) : Type 0 where
+    pub trail : NextEntry (w .find) (w .start) (w .base) c (back (pathIn w path depth))
+    pub grows : count ≤ c
+    pub within : c ≤ w .limit
+    pub undone : Undone (w .capacity) facts done left-facts
+    pub before : PathKept path depth left
+
+  -- entry c is open: it is the place that stands in the buffers at a depth
+  pub record OneOpen (c depth : ℕ) (left-facts left : List ℕ) : Type 0 where
+    pub facts-count : ℕ
+    pub done : ℕ
+    pub trail : Visiting w left-facts left depth (Open facts-count) c
+    pub within : c ≤ w .limit
+    pub reached : Reached w left-facts left depth done (Open facts-count)
+
+  -- as many entries are made as the limit allows, and one more is due: the next alternative of the node that stands in the buffers at a depth
+  pub record OneDue (depth : ℕ) (left-facts left : List ℕ) : Type 0 where
+    pub trail : Trying w left depth (w .limit)
+    pub left-over : nextAt left depth < length (altsAt w left depth)
+    pub node : Parted w left-facts left depth
+
+  abbrev pub Ended : List ℕ → List ℕ → ℕ → ℕ → ℕ → Walked → List ℕ → List ℕ → Type 0
+  Ended facts path depth done count (Shut c) left-facts left = AllShut facts path depth done count c left-facts left
+  Ended facts path depth done count (Opened c e) left-facts left = OneOpen c e left-facts left
+  Ended facts path depth done count (LimitMet e) left-facts left = OneDue e left-facts left
+
+  -- ---- the whole walk, from its start on
+
+  -- the entries made are all that the limit allows: c of them, those before the start counted
+  abbrev pub AllMade : ℕ → Type 0
+  AllMade c = entries (w .find) (w .limit - w .base) (w .start) ≡ entries (w .find) (c - w .base) (w .start)
+
+  -- how it ends, and the last place made, which stands in the buffers where it is open or another is due
+  abbrev pub Walks : Walked → List ℕ → List ℕ → Type 0
+  Walks (Shut c) facts path = AllMade c × NextEntry (w .find) (w .start) (w .base) c none × (c ≤ w .limit)
+  Walks (Opened c e) facts path = AllMade c × OneOpen c e facts path
+  Walks (LimitMet e) facts path = OneDue e facts path
+
+  -- an answer tells the outcome of running on from the start; where it is open the facts left give the model
+  abbrev pub Tells : Walked → List ℕ → Type 0
+  Tells (Shut c) facts = proceed (w .find) (w .limit - w .base) (w .base) (w .start) ≡ Refuted c
+  Tells (Opened c e) facts = proceed (w .find) (w .limit - w .base) (w .base) (w .start) ≡ Satisfied c (bitsIn w facts)
+  Tells (LimitMet e) facts = proceed (w .find) (w .limit - w .base) (w .base) (w .start) ≡ Exhausted (w .limit)
+
+  -- the whole walk has been made, in some buffer for its path, and its answer tells the outcome
+  pub record WalkMade (x : Walked) (facts : List ℕ) : Type 0 where
+    pub path : List ℕ
+    pub walks : Walks x facts path
+    pub tells : Tells x facts

@@ -1,0 +1,4 @@
+// What the walks of all engines share: the path in a buffer of its own, and the answers about a place and about a part of the walk. The walk's contracts are
+// said in specs/contracts/ over a record of what differs between engines.
+pub mod answer;
+pub mod node;

@@ -1,0 +1,3 @@
+// Writing a table out as text, and whether a table is valid.
+pub mod lent;
+pub mod write;
