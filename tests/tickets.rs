@@ -116,6 +116,20 @@ pub fn deep(constants: u8, predicates: usize, limit: u32) -> Ticket {
     Ticket { constants, limit: limit.to_be_bytes(), arities: vec![2, 0][..predicates].to_vec(), clauses }
 }
 
+/// As `deep` with two predicates, but each node has three alternatives before the one that goes on, which a denial closes at once.
+#[allow(dead_code)]
+pub fn late(constants: u8, limit: u32) -> Ticket {
+    let atom = |x: u8, y: u8| Atom::new(0, &[x, y]);
+    let closed = || Atom::new(2, &[]);
+    let last = |a: Atom| [closed(), closed(), closed(), a];
+    let (variable, another) = (0x80, 0x81);
+    let mut clauses: Vec<Clause> = (0..constants).map(|k| Clause::new(&[], &last(atom(k, 0)))).collect();
+    clauses.extend((1..constants).map(|k| Clause::new(&[atom(variable, 0)], &last(atom(variable, k)))));
+    clauses.push(Clause::new(&[atom(variable, another), Atom::new(1, &[])], &[]));
+    clauses.push(Clause::new(&[closed()], &[]));
+    Ticket { constants, limit: limit.to_be_bytes(), arities: vec![2, 0, 0], clauses }
+}
+
 fn empty(random: &mut Random, constants: u8, arities: Vec<u8>) -> Ticket {
     let mut limit = [0; 4];
     random.fill(&mut limit);
