@@ -16,4 +16,4 @@ use Rattle.ground.specs.Cases.{CasesHold}
 
 pub cases-hold : CasesHold
 unfolding flatMap grow least entries proceed rewriting heldSet findM hornRules trueSet relevantRules relevantSet findR digitOf isDigit hexByte hexLine run lineAt byteAt frameAt judgeSizes judgeHeading judgeArity judgeVariable judgeArg judgeArgs judgeAtom judgeAtoms judgeEnd judgeBody judgeClause judgeClosing parseEnd parseClosing parseClauses parseArities parse groundOf report refusal relevancy magic printed
-cases-hold = record { relevancy-prints = refl; magic-prints = refl }
+cases-hold = refl

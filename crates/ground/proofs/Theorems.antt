@@ -2,6 +2,7 @@
 use Rattle.ground.specs.Claims.{Theorems}
 use Rattle.ground.proofs.Instances.{ground-proper, number-apart, number-onto, instances-count}
 use Rattle.ground.proofs.AtomLaws.{lead-all, all-lead}
+use Rattle.ground.proofs.Cases.{cases-hold}
 
 pub theorems : Theorems
 theorems =
@@ -11,4 +12,5 @@ theorems =
       instances = instances-count;
       proper = ground-proper;
       leads = λ t atoms. (lead-all t atoms, all-lead t atoms);
+      cases-hold = cases-hold;
     }

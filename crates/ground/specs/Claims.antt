@@ -9,6 +9,7 @@ use lib.ListN.{length}
 use Rattle.lists.specs.Member.{All, lead}
 use Rattle.search.specs.Ground.{Proper}
 use Rattle.problem.specs.Problem.{Problem, Fits, atomCount}
+use Rattle.ground.specs.Cases.{CasesHold}
 use Rattle.ground.specs.Instance.{GroundAtom, AtomOf, groundNumber, clauseOf, instancesOf, groundOf}
 
 pub record Theorems : Type 0 where
@@ -22,3 +23,5 @@ pub record Theorems : Type 0 where
   pub proper : (q : Problem) → Fits q → Proper (groundOf q)
   -- as many hold from the left as there are, exactly if all hold
   pub leads : (t : ℕ → Bool) (atoms : List ℕ) → (lead t atoms ≡ length atoms) ↔ All (λ a. T (t a)) atoms
+  -- K1 to K9, from the text to the printed lines, by both walks
+  pub cases-hold : CasesHold
