@@ -1,10 +1,10 @@
--- Tests as types: what `&&`, `||`, `not`, a decided test and the test of equality give.
-use Prim.Native.Nat.{ℕ}
+-- Tests as types: what `&&`, `||`, `not`, a decided test and the tests of two numbers give.
+use Prim.Native.Nat.{ℕ, _≤_, _<_}
 use mathlib.Core.Bool.{Bool, true, false, not, _&&_, _||_}
 use mathlib.Core.Logic.{_⊎_, inl, inr}
 use mathlib.Core.Path.{_≡_, refl}
-use borrow.Author.Tests.{eqb-true, eqb-false}
-use lib.Dec.{T, eqb}
+use borrow.Author.Tests.{eqb-true, eqb-false, ltb-true, ltb-false}
+use lib.Dec.{T, eqb, ltb}
 
 pub and-T : (a b : Bool) → T a → T b → T (a && b)
 and-T true b p q = q
@@ -42,6 +42,14 @@ same-or-other a b = go (eqb a b) refl
     go : (t : Bool) → eqb a b ≡ t → (a ≡ b) ⊎ (a ≡ b → ⊥)
     go true e = inl (eqb-true a b e)
     go false e = inr (eqb-false a b e)
+
+-- a number is below another or not
+pub lt-or-le : (a b : ℕ) → (a < b) ⊎ (b ≤ a)
+lt-or-le a b = go (ltb a b) refl
+  where
+    go : (t : Bool) → ltb a b ≡ t → (a < b) ⊎ (b ≤ a)
+    go true e = inl (ltb-true a b e)
+    go false e = inr (ltb-false a b e)
 
 pub T-true : (b : Bool) → T b → b ≡ true
 T-true true p = refl
