@@ -3,6 +3,7 @@ pub mod Closure
 pub mod Machine
 pub mod Path
 pub mod Refuted
+pub mod Sound
 pub mod Relevancy
 pub mod Found
 pub mod Walk

@@ -1,40 +1,26 @@
--- The magic walk's paths are the relevancy walk's: they hold distinct atoms below A. A node is split at two alternatives or more.
-use Prim.Native.Nat.{ℕ, _≤_}
+-- The magic walk: it is sound, and a node is split at two alternatives or more.
+use Prim.Native.Nat.{ℕ}
 use mathlib.Core.Bool.{Bool, true, false, not, _&&_}
 use mathlib.Core.List.{List, [], _∷_}
 use mathlib.Core.Option.{Option, none, some, Option·none-ne-some}
-use mathlib.Core.Path.{_≡_, refl, sym, subst, _∙_}
+use mathlib.Core.Path.{_≡_, refl, subst}
 use native.Mathlib.Omega.{arith}
 use lib.Dec.{T}
-use lib.ListN.{length}
 use Rattle.lists.specs.Key.{Key}
 use Rattle.lists.specs.Member.{All, every, first}
 use Rattle.lists.proofs.Test.{T-left}
 use Rattle.lists.proofs.Member.{first-some}
-use Rattle.search.specs.Ground.{Ground, Proper, Found, split, disjunctive}
+use Rattle.search.specs.Ground.{Ground, Proper, split, disjunctive}
 use Rattle.search.specs.Relevancy.{foundAs, modelBits, findR}
 use Rattle.search.specs.Magic.{Magic, tru, rel, MagicRule, headsOf, rewriting, holds, ready, withHeads, findM}
-use Rattle.search.specs.Machine.{Branch, entered, Genuine}
-use Rattle.search.proofs.Walk.{Small, path-small, path-short, path-relevant}
-use Rattle.search.proofs.OneTrail.{find-same}
+use Rattle.search.specs.Sound.{SoundFind}
+use Rattle.search.proofs.Sound.{sound-same}
+use Rattle.search.proofs.Model.{relevancy-sound}
+use Rattle.search.proofs.OneTrail.{magic-same}
 
--- where g agrees with f on f's genuine paths, g's genuine paths are f's
-pub genuine-same : {I : Type 0} (f g : List ℕ → Found I) → ((bs : List (Branch I)) → Genuine f bs → g (entered bs) ≡ f (entered bs))
-    → (bs : List (Branch I)) → Genuine g bs → Genuine f bs
-genuine-same f g same [] w = tt
-genuine-same f g same (b ∷ bs) w =
-    let rest : Genuine f bs = genuine-same f g same bs (w .1) in
-    ((w .0 .0, sym (same bs rest) ∙ w .0 .1), rest)
-
-module _ {I : Type 0} (k : Key I) (p : Ground I) where
-  pub magic-genuine : (bs : List (Branch I)) → Genuine (findM k (p .atoms) (rewriting p)) bs → Genuine (findR p) bs
-  magic-genuine = genuine-same (findR p) (findM k (p .atoms) (rewriting p)) (λ bs g. find-same k p (entered bs) (path-relevant p bs g))
-
-  pub magic-small : Proper p → (bs : List (Branch I)) → Genuine (findM k (p .atoms) (rewriting p)) bs → Small p (entered bs)
-  magic-small proper bs g = path-small p proper bs (magic-genuine bs g)
-
-  pub magic-short : Proper p → (bs : List (Branch I)) → Genuine (findM k (p .atoms) (rewriting p)) bs → length bs ≤ p .atoms
-  magic-short proper bs g = path-short p proper bs (magic-genuine bs g)
+-- the magic walk finds a node as the relevancy walk on that walk's paths, so it is sound
+pub magic-sound : {I : Type 0} (k : Key I) (p : Ground I) → Proper p → SoundFind p (findM k (p .atoms) (rewriting p))
+magic-sound k p proper = sound-same p (findR p) (findM k (p .atoms) (rewriting p)) (magic-same k p) (relevancy-sound p proper)
 
 -- ---- the alternatives of a split
 

@@ -1,4 +1,4 @@
--- Models and the relevancy walk: a closed place bars every model, a split continues each, and an open place's bits are one.
+-- Models and the relevancy walk: a closed place bars every model, a split continues each, and an open place's bits are one. So the walk is sound.
 use Prim.Native.Nat.{ℕ, _<_}
 use mathlib.Core.Bool.{Bool, true, false, not, cond, _&&_, _||_}
 use mathlib.Core.HLevel.{⊥-prop}
@@ -8,17 +8,20 @@ use mathlib.Core.Option.{none}
 use mathlib.Core.Path.{_≡_, refl, sym, ap, subst, _∙_}
 use native.Mathlib.Omega.{arith}
 use lib.Dec.{T, T-not}
-use lib.ListN.{getD}
+use lib.ListN.{length, getD}
 use Rattle.lists.specs.Key.{natKey}
 use Rattle.lists.specs.Member.{All, Any, every, first, In}
 use Rattle.lists.proofs.Test.{and-T, decided, not-not}
 use Rattle.lists.proofs.Member.{all-map, all-zip, any-zip, every-all, all-every, some-fails, first-none}
-use Rattle.lists.proofs.Tabulate.{tabulate-at}
+use Rattle.lists.proofs.Tabulate.{tabulate-at, tabulate-length}
 use Rattle.search.specs.Ground.{Ground, Proper, Model, Marked, closed, opened, split, goals, orFalse, disjunctive}
 use Rattle.search.specs.Relevancy.{trueSet, relevantSet, isTrue, isRelevant, asked, splittable, modelBits, findR}
+use Rattle.search.specs.Machine.{Branch, entered, Genuine}
+use Rattle.search.specs.Sound.{SoundFind}
 use Rattle.search.proofs.Relevancy.{HornClosed, true-closed, true-ind, relevant-false, relevant-closed}
 use Rattle.search.proofs.Found.{findR-closed, findR-opened, findR-split}
-use Rattle.search.proofs.Walk.{Splits, split-splits, at-split}
+use Rattle.search.proofs.Sound.{Fresh, path-small}
+use Rattle.search.proofs.Walk.{Splits, split-splits, at-split, alts-fresh}
 
 -- finitely many truncated facts are one
 merely : (M : ℕ → Type 0) (cs : List ℕ) → All (λ a. ∥ M a ∥₁) cs → ∥ All M cs ∥₁
@@ -58,11 +61,11 @@ module _ {I : Type 0} (p : Ground I) (proper : Proper p) (M : ℕ → Type 0) (m
       model)
       (all-zip M (λ a. a < p .atoms) Kept (λ a m b. (∣ m ∣₁, λ q. let c : a < p .atoms = b in omega arith)) l held small)
 
-  pub closed-bars : findR p l ≡ closed → ⊥
+  closed-bars : findR p l ≡ closed → ⊥
   unfolding Kept
   closed-bars e = (true-kept (p .atoms) (findR-closed p l e)) .1 refl
 
-  pub split-continues : (i : I) (ds : List ℕ) → findR p l ≡ split i ds → ∥ Any M ds ∥₁
+  split-continues : (i : I) (ds : List ℕ) → findR p l ≡ split i ds → ∥ Any M ds ∥₁
   unfolding Kept
   split-continues i ds e =
       let m : All M (p .conds i) → ∥ Any M (p .alts i) ∥₁ = at-split p l (λ j. All M (p .conds j) → ∥ Any M (p .alts j) ∥₁) (all-map (λ j. All M (p .conds j) → ∥ Any M (p .alts j) ∥₁) (λ j. Splits p (isTrue p l) (isRelevant p l) j → All M (p .conds j) → ∥ Any M (p .alts j) ∥₁) (λ j f q. f) (p .instances) model) i ds e in
@@ -120,7 +123,7 @@ module _ {I : Type 0} (p : Ground I) (proper : Proper p) (l : List ℕ) where
   unfolding chosen
   bit-chosen bits e a h = ap (λ (b : List Bool). getD b a false) (sym e) ∙ tabulate-at (λ x. isTrue p l x || not (isRelevant p l x)) false (p .atoms) a h
 
-  pub opened-model : (bits : List Bool) → findR p l ≡ opened bits → Model p (Marked bits)
+  opened-model : (bits : List Bool) → findR p l ≡ opened bits → Model p (Marked bits)
   unfolding chosen
   opened-model bits e =
       all-zip
@@ -160,3 +163,19 @@ module _ {I : Type 0} (p : Ground I) (proper : Proper p) (l : List ℕ) where
           go (inl n) = absurd (instance-met (p .conds i) (p .alts i) (o .0) h q s cs (every-all (λ a. not (chosen a)) (p .alts i) n))
           go (inr n) =
               ∣ any-zip (λ a. T (not (not (chosen a)))) (λ a. a < p .atoms) (Marked bits) (λ a u m. unmarked a m u) (p .alts i) (some-fails (λ a. not (chosen a)) (p .alts i) n) (b .1) ∣₁
+
+pub relevancy-sound : {I : Type 0} (p : Ground I) → Proper p → SoundFind p (findR p)
+relevancy-sound {I} p proper =
+    record {
+      closed-refutes = λ bs g e M m. closed-bars p proper M (m .model) (entered bs) (below bs g) (m .holds) e;
+      split-covers = λ bs g i ds e M m. split-continues p proper M (m .model) (entered bs) (below bs g) (m .holds) i ds e;
+      split-fresh = fresh;
+      opened-model = λ bs g bits e.
+          (ap length (sym ((findR-opened p (entered bs) bits e) .2)) ∙ tabulate-length _ (p .atoms), opened-model p proper (entered bs) bits e);
+    }
+  where
+    fresh : (bs : List (Branch I)) → Genuine (findR p) bs → (i : I) (ds : List ℕ) → findR p (entered bs) ≡ split i ds → All (Fresh p (entered bs)) ds
+    fresh bs g = alts-fresh p proper (entered bs)
+
+    below : (bs : List (Branch I)) → Genuine (findR p) bs → All (λ a. a < p .atoms) (entered bs)
+    below bs g = (path-small p (findR p) fresh bs g) .1

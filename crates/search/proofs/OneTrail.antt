@@ -18,7 +18,7 @@ use Rattle.search.specs.Machine.{Branch, Place, entered, nextPath, answe
 use Rattle.search.proofs.Machine.{entries-zero, entries-none, entries-some}
 use Rattle.search.proofs.Path.{next-genuine}
 use Rattle.search.proofs.Relevancy.{relevant-false}
-use Rattle.search.proofs.Walk.{AllRelevant}
+use Rattle.search.proofs.Walk.{AllRelevant, path-relevant}
 use Rattle.search.proofs.Magic.{lastAsks, same-relevant, same-true, last-from, last-to}
 
 -- of an instance's rules only the last can split
@@ -154,12 +154,16 @@ module _ {I : Type 0} (k : Key I) (p : Ground I) (l : List ℕ) (relevant : AllR
       go false true = refl
       go false false = refl
 
-  pub find-same : findM k (p .atoms) (rewriting p) l ≡ findR p l
+  find-same : findM k (p .atoms) (rewriting p) l ≡ findR p l
   unfolding findM findR rewriting h t r LastHeld
   find-same =
       ap {B = Found I} (λ b. foundAs b (withHeads k (first (ready k h) (rewriting p))) (modelBits (p .atoms) (λ a. h (tru a)) (λ a. h (rel a)))) closed-same
       ∙ ap {B = Found I} (λ o. foundAs (t (p .atoms)) o (modelBits (p .atoms) (λ a. h (tru a)) (λ a. h (rel a)))) (splits-same (p .instances) (last-to k p l relevant))
       ∙ ap {B = Found I} (λ f. foundAs (t (p .atoms)) (withAlts p (first (splittable p t r) (p .instances))) (tabulate f (p .atoms))) (fun-ext bit-same)
+
+-- every atom entered on the relevancy walk is relevant, so the magic walk finds its places alike
+pub magic-same : {I : Type 0} (k : Key I) (p : Ground I) (bs : List (Branch I)) → Genuine (findR p) bs → findM k (p .atoms) (rewriting p) (entered bs) ≡ findR p (entered bs)
+magic-same k p bs g = find-same k p (entered bs) (path-relevant p bs g)
 
 -- two ways of finding that agree on the genuine paths of one make the same entries
 module _ {I : Type 0} (f g : List ℕ → Found I) (same : (bs : List (Branch I)) → Genuine f bs → g (entered bs) ≡ f (entered bs)) where

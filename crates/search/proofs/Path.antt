@@ -1,15 +1,17 @@
 -- What the walk's paths keep, for any way of finding a node; and the walk ends where its paths are short.
 use Prim.Native.Nat.{ℕ, zero, suc, _+_, _≤_, _<_}
+use mathlib.Core.Bool.{Bool}
 use mathlib.Core.List.{List, [], _∷_, _++_, append-assoc}
 use mathlib.Core.Option.{Option, none, some, Option·none-ne-some}
-use mathlib.Core.Path.{_≡_, refl, ap, subst}
+use mathlib.Core.Path.{_≡_, refl, sym, ap, subst, _∙_}
 use native.Mathlib.Omega.{arith}
 use lib.ListN.{length}
 use Rattle.lists.specs.Member.{All}
 use Rattle.lists.proofs.Member.{append-right}
 use Rattle.search.specs.Ground.{Found, closed, opened, split}
-use Rattle.search.specs.Machine.{Branch, Place, entered, enter, back, after, nextPath, place, placed, advance, root, entries, Whole, Genuine}
-use Rattle.search.proofs.Machine.{entries-zero, entries-none, entries-some}
+use Rattle.search.specs.Machine.{Branch, Place, entered, enter, back, after, nextPath, Satisfied, place, placed, advance, root, entries, trail, proceed, outcome, Whole, FullWalk, Genuine}
+use Rattle.search.specs.Claims.{lastPlace}
+use Rattle.search.proofs.Machine.{entries-zero, entries-none, entries-some, last-all, answer-satisfied}
 
 module _ {I : Type 0} (find : List ℕ → Found I) where
   -- entries stay on genuine paths
@@ -42,7 +44,7 @@ module _ {I : Type 0} (find : List ℕ → Found I) where
       go none u w = absurd (Option·none-ne-some t w)
       go (some cs) u w = let same : place find cs ≡ t = cc in subst Reached same (next-genuine bs cs g u, refl)
 
-  pub entries-reached : (n : ℕ) (s : Place I) → Reached s → All Reached (entries find n s)
+  entries-reached : (n : ℕ) (s : Place I) → Reached s → All Reached (entries find n s)
   entries-reached zero s h = rw (entries-zero find) tt
   entries-reached (suc n) s h = go (advance find s) refl (entries-reached n)
     where
@@ -52,8 +54,18 @@ module _ {I : Type 0} (find : List ℕ → Found I) where
           let r : Reached t = advance-reached (s .path) (h .0) t (subst (λ (x : Place I). advance find x ≡ some t) (h .1) e) in
           rw (entries-some find n s t e) (r, f t r)
 
-  pub root-reached : Reached (root find)
-  root-reached = (tt, refl)
+  pub trail-reached : (limit : ℕ) → All Reached (trail find limit)
+  trail-reached limit = ((tt, refl), entries-reached limit (root find) (tt, refl))
+
+  -- a satisfied walk stands at an open place
+  pub last-opened : (limit n : ℕ) (bits : List Bool) → outcome find limit ≡ Satisfied n bits
+      → Genuine find ((lastPlace find limit) .path) × (find (entered ((lastPlace find limit) .path)) ≡ opened bits)
+  unfolding proceed
+  last-opened limit n bits e =
+      let s = lastPlace find limit in
+      let all = trail-reached limit in
+      let r : Reached s = last-all Reached (root find) (entries find limit (root find)) (all .0) (all .1) in
+      (r .0, ap (λ (x : Place I). x .found) (sym (r .1)) ∙ answer-satisfied s _ n bits e)
 
   -- what holds of the empty list, and of each alternative of a split found under a list of which it holds, holds on every genuine path
   pub genuine-ind {ℓ} : (Q : List ℕ → Type ℓ) → Q [] → ((l : List ℕ) (i : I) (ds : List ℕ) → Q l → find l ≡ split i ds → All (λ a. Q (a ∷ l)) ds)
@@ -97,6 +109,6 @@ module _ {I : Type 0} (find : List ℕ → Found I) where
         go (opened b) e k = tt
         go (split i ds) e k = tries r bs k g h d i [] ds e
 
-    pub walk-ends : (es : List (Place I)) × Whole find (root find) es
+    pub walk-ends : (es : List (Place I)) × FullWalk find es
     unfolding Done Resumes
     walk-ends = settle (suc n) [] tt (omega arith) tt

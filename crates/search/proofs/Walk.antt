@@ -1,22 +1,20 @@
--- The relevancy walk: its paths hold distinct atoms below A that are relevant; closed places bar every model, splits continue each, and an open
--- place has one.
-use Prim.Native.Nat.{ℕ, _≤_, _<_}
+-- The relevancy walk: what an instance that it splits has, and that the atoms entered are relevant and new.
+use Prim.Native.Nat.{ℕ, _<_}
 use mathlib.Core.Bool.{Bool, not, _&&_}
 use mathlib.Core.List.{List, [], _∷_}
 use mathlib.Core.Path.{_≡_, sym, subst}
 use lib.Dec.{T, T-not}
-use lib.ListN.{length, length-map}
 use Rattle.lists.specs.Key.{natKey}
-use Rattle.lists.specs.Member.{All, every, In, Distinct}
+use Rattle.lists.specs.Member.{All, every, In}
 use Rattle.lists.proofs.Test.{T-left, T-right}
 use Rattle.lists.proofs.Member.{all-map, all-zip, every-all, first-some, has-all}
-use Rattle.lists.proofs.Pigeonhole.{pigeonhole}
 use Rattle.search.specs.Ground.{Ground, Proper, split, disjunctive}
 use Rattle.search.specs.Relevancy.{trueSet, relevantSet, isTrue, isRelevant, splittable, findR}
 use Rattle.search.specs.Machine.{Branch, entered, Genuine}
 use Rattle.search.proofs.Relevancy.{true-entered, true-grows, relevant-grows}
 use Rattle.search.proofs.Found.{findR-split}
 use Rattle.search.proofs.Path.{genuine-ind}
+use Rattle.search.proofs.Sound.{Fresh}
 
 -- the parts of `splittable`
 pub record Splits {I : Type 0} (p : Ground I) (t r : ℕ → Bool) (i : I) : Type 0 where
@@ -59,29 +57,18 @@ module _ {I : Type 0} (p : Ground I) where
       all-of′ [] = tt
       all-of′ (j ∷ js) = (λ s. s, all-of′ js)
 
-  -- distinct atoms below A
-  abbrev pub Small : List ℕ → Type 0
-  Small l = Distinct natKey l × All (λ a. a < p .atoms) l
+  untrue-fresh : (l : List ℕ) (a : ℕ) → T (not (isTrue p l a)) → In natKey l a → ⊥
+  untrue-fresh l a t h = T-not (isTrue p l a) t (has-all natKey (In natKey (trueSet p l)) l (true-entered p l) a h)
 
-  fresh : (l : List ℕ) (a : ℕ) → T (not (isTrue p l a)) → In natKey l a → ⊥
-  fresh l a t h = T-not (isTrue p l a) t (has-all natKey (In natKey (trueSet p l)) l (true-entered p l) a h)
-
-  pub path-small : Proper p → (bs : List (Branch I)) → Genuine (findR p) bs → Small (entered bs)
-  path-small proper = genuine-ind (findR p) Small (tt, tt) step
-    where
-      step : (l : List ℕ) (i : I) (ds : List ℕ) → Small l → findR p l ≡ split i ds → All (λ a. Small (a ∷ l)) ds
-      step l i ds s e =
-          let below : All (λ a. a < p .atoms) (p .alts i) = at-split l (λ j. All (λ a. a < p .atoms) (p .alts j)) (all-map (λ j. All (λ a. a < p .atoms) (p .conds j) × All (λ a. a < p .atoms) (p .alts j)) (λ j. Splits p (isTrue p l) (isRelevant p l) j → All (λ a. a < p .atoms) (p .alts j)) (λ j h q. h .1) (p .instances) proper) i ds e in
-          let untrue = (split-splits l i ds e) .alts-untrue in
-          subst
-          (All (λ a. Small (a ∷ l)))
-          (sym ((findR-split p l i ds e) .1))
-          (all-zip (λ a. a < p .atoms) (λ a. T (not (isTrue p l a))) (λ a. Small (a ∷ l)) (λ a b u. ((fresh l a u, s .0), (b, s .1))) (p .alts i) below untrue)
-
-  pub path-short : Proper p → (bs : List (Branch I)) → Genuine (findR p) bs → length bs ≤ p .atoms
-  path-short proper bs g =
-      let s = path-small proper bs g in
-      rw (← (length-map bs (λ b. b .atom))) (pigeonhole (p .atoms) (entered bs) (s .0) (s .1))
+  -- the alternatives of a split are atoms that are not entered
+  pub alts-fresh : Proper p → (l : List ℕ) (i : I) (ds : List ℕ) → findR p l ≡ split i ds → All (Fresh p l) ds
+  alts-fresh proper l i ds e =
+      let below : All (λ a. a < p .atoms) (p .alts i) = at-split l (λ j. All (λ a. a < p .atoms) (p .alts j)) (all-map (λ j. All (λ a. a < p .atoms) (p .conds j) × All (λ a. a < p .atoms) (p .alts j)) (λ j. Splits p (isTrue p l) (isRelevant p l) j → All (λ a. a < p .atoms) (p .alts j)) (λ j h q. h .1) (p .instances) proper) i ds e in
+      let untrue = (split-splits l i ds e) .alts-untrue in
+      subst
+      (All (Fresh p l))
+      (sym ((findR-split p l i ds e) .1))
+      (all-zip (λ a. a < p .atoms) (λ a. T (not (isTrue p l a))) (Fresh p l) (λ a b u. (b, untrue-fresh l a u)) (p .alts i) below untrue)
 
   -- every entered atom is relevant
   abbrev pub AllRelevant : List ℕ → Type 0

@@ -11,7 +11,8 @@ use Rattle.search.specs.Closure.{Rule, Closed, least}
 use Rattle.search.specs.Ground.{Ground, Proper, Model, Marked, Found}
 use Rattle.search.specs.Relevancy.{isTrue, isRelevant, modelBits, findR}
 use Rattle.search.specs.Magic.{tru, rel, rewriting, holds, findM}
-use Rattle.search.specs.Machine.{Place, entered, Satisfied, Refuted, Exhausted, answer, last, root, entries, trail, proceed, outcome, Whole}
+use Rattle.search.specs.Sound.{SoundFind}
+use Rattle.search.specs.Machine.{Place, entered, Satisfied, Refuted, Exhausted, answer, last, root, entries, trail, proceed, outcome, FullWalk}
 use Rattle.search.specs.Cases.{CasesHold}
 
 -- `least` is the smallest set that holds the seeds and is closed under the rules: it lies inside every such set, decidable or not
@@ -27,10 +28,10 @@ pub record AnyWalk {I : Type 0} (find : List ℕ → Found I) : Type 0 where
   pub runs-on : (m n count : ℕ) (s : Place I)
       → proceed find (m + n) count s ≡ proceed find n (count + length (entries find m s)) (last s (entries find m s))
   -- there is one walk without a limit at most, and it does not end as spent
-  pub whole-one : (es fs : List (Place I)) → Whole find (root find) es → Whole find (root find) fs → es ≡ fs
-  pub whole-settled : (es : List (Place I)) → Whole find (root find) es → (n : ℕ) → answer (last (root find) es) (length es) ≡ Exhausted n → ⊥
+  pub whole-one : (es fs : List (Place I)) → FullWalk find es → FullWalk find fs → es ≡ fs
+  pub whole-settled : (es : List (Place I)) → FullWalk find es → (n : ℕ) → answer (last (root find) es) (length es) ≡ Exhausted n → ⊥
   -- Exhausted exactly where that walk makes more than L entries, and the count is then L; else verdict, count and model are that walk's
-  pub limited : (es : List (Place I)) → Whole find (root find) es → (limit : ℕ)
+  pub limited : (es : List (Place I)) → FullWalk find es → (limit : ℕ)
       → outcome find limit ≡ cond (ltb limit (length es)) (Exhausted limit) (answer (last (root find) es) (length es))
 
 -- a path holds distinct atoms below A, so never more than A
@@ -39,20 +40,23 @@ pub record PathFits {I : Type 0} (p : Ground I) (s : Place I) : Type 0 where
   pub below : All (λ a. a < p .atoms) (entered (s .path))
   pub short : length (s .path) ≤ p .atoms
 
--- the bits given are those of every atom that is true and every atom that is not relevant, at the last place; and they are a model
-pub record ModelGiven {I : Type 0} (p : Ground I) (s : Place I) (bits : List Bool) : Type 0 where
-  pub true-or-not-relevant : bits ≡ modelBits (p .atoms) (isTrue p (entered (s .path))) (isRelevant p (entered (s .path)))
-  pub model : Model p (Marked bits)
-
--- Of the walk of a ground problem
-pub record RelevancyWalk {I : Type 0} (p : Ground I) : Type 1 where
-  pub paths-fit : (limit : ℕ) → All (PathFits p) (trail (findR p) limit)
+-- Of the walk by any sound way of finding a node
+pub record SoundWalk {I : Type 0} (p : Ground I) (find : List ℕ → Found I) : Type 1 where
+  pub paths-fit : (limit : ℕ) → All (PathFits p) (trail find limit)
   -- the walk without a limit ends
-  pub ends : (es : List (Place I)) × Whole (findR p) (root (findR p)) es
+  pub ends : (es : List (Place I)) × FullWalk find es
   -- none only where no set of atoms at all is a model
-  pub refuted : (limit n : ℕ) → outcome (findR p) limit ≡ Refuted n → (M : ℕ → Type 0) → Model p M → ⊥
-  pub satisfied : (limit n : ℕ) (bits : List Bool) → outcome (findR p) limit ≡ Satisfied n bits
-      → ModelGiven p (last (root (findR p)) (entries (findR p) limit (root (findR p)))) bits
+  pub refuted : (limit n : ℕ) → outcome find limit ≡ Refuted n → (M : ℕ → Type 0) → Model p M → ⊥
+  -- fits comes with the bits of a model, one for each atom
+  pub satisfied : (limit n : ℕ) (bits : List Bool) → outcome find limit ≡ Satisfied n bits → (length bits ≡ p .atoms) × Model p (Marked bits)
+
+-- the place at which the walk under a limit stands at its end
+abbrev pub lastPlace : {I : Type 0} → (List ℕ → Found I) → ℕ → Place I
+lastPlace find limit = last (root find) (entries find limit (root find))
+
+-- every atom that is true, and every atom that is not relevant, at a place
+abbrev pub modelAt : {I : Type 0} → Ground I → Place I → List Bool
+modelAt p s = modelBits (p .atoms) (isTrue p (entered (s .path))) (isRelevant p (entered (s .path)))
 
 -- at a place, for every atom and "false": held relevant = relevant, and held true = true and relevant
 pub record SameFacts {I : Type 0} (k : Key I) (p : Ground I) (s : Place I) (x : ℕ) : Type 0 where
@@ -69,6 +73,11 @@ pub record OneTrail {I : Type 0} (k : Key I) (p : Ground I) (limit : ℕ) : Type
 pub record Theorems : Type 1 where
   pub smallest : {F : Type 0} (k : Key F) (rs : List (Rule F)) (seeds : List F) → Smallest k rs seeds
   pub any-walk : {I : Type 0} (find : List ℕ → Found I) → AnyWalk find
-  pub relevancy-walk : {I : Type 0} (p : Ground I) → Proper p → RelevancyWalk p
+  pub sound-walk : {I : Type 0} (p : Ground I) (find : List ℕ → Found I) → SoundFind p find → SoundWalk p find
+  -- both walks of a ground problem are sound
+  pub relevancy-sound : {I : Type 0} (p : Ground I) → Proper p → SoundFind p (findR p)
+  pub magic-sound : {I : Type 0} (k : Key I) (p : Ground I) → Proper p → SoundFind p (findM k (p .atoms) (rewriting p))
+  -- the model that the relevancy walk gives is that of its open place; by `one-trail` so is the magic walk's
+  pub model-given : {I : Type 0} (p : Ground I) (limit n : ℕ) (bits : List Bool) → outcome (findR p) limit ≡ Satisfied n bits → bits ≡ modelAt p (lastPlace (findR p) limit)
   pub one-trail : {I : Type 0} (k : Key I) (p : Ground I) (limit : ℕ) → OneTrail k p limit
   pub cases-hold : CasesHold

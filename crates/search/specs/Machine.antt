@@ -102,6 +102,10 @@ module _ {I : Type 0} (find : List ℕ → Found I) where
   Whole s [] = advance s ≡ none
   Whole s (t ∷ ts) = (advance s ≡ some t) × Whole t ts
 
+  -- those of the whole walk
+  abbrev pub FullWalk : List (Place I) → Type 0
+  FullWalk es = Whole root es
+
   -- each entry of the path is an alternative of the split found there, just before those left
   abbrev pub Genuine : List (Branch I) → Type 0
   Genuine [] = Unit
