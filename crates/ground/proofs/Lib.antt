@@ -12,3 +12,4 @@ pub mod Theorems
 pub mod Visits
 pub mod Rows
 pub mod VerdictLaws
+pub mod AnswerLaws

@@ -1,6 +1,7 @@
 -- The claims of `specs/Claims.antt`, proved.
 use Rattle.judging.specs.Claims.{Theorems}
 use Rattle.judging.proofs.CheckLaws.{violated-from, violated-to, checked-model, model-checked, violated-first}
+use Rattle.judging.proofs.Demand2.{demand-2}
 
 pub theorems : Theorems
 theorems =
@@ -8,4 +9,5 @@ theorems =
       violated = λ q answer i. (violated-from q answer i, violated-to q answer i);
       model = λ q answer. (checked-model q answer, model-checked q answer);
       first-named = violated-first;
+      demand-2 = demand-2;
     }

@@ -1,18 +1,23 @@
 -- What is claimed of the model check, whatever the code. `proofs/Theorems.antt` proves `Theorems`.
-use Prim.Native.Nat.{ℕ}
+use Prim.Native.Nat.{ℕ, _≤_}
 use mathlib.Core.Bool.{not}
 use mathlib.Core.List.{List, _∷_, _++_}
 use mathlib.Core.Logic.{_↔_}
 use mathlib.Core.Path.{_≡_}
 use lib.Dec.{T}
-use lib.ListN.{getD}
+use lib.ListN.{length, take, getD}
 use Rattle.lists.specs.Member.{All}
-use Rattle.search.specs.Ground.{Model}
+use Rattle.search.specs.Ground.{Model, Found}
+use Rattle.search.specs.Machine.{outcome}
+use Rattle.search.specs.Sound.{SoundFind}
 use Rattle.problem.specs.Problem.{Problem}
+use Rattle.problem.specs.Table.{Valid}
 use Rattle.judging.specs.declared.judge.Judging.the-variants.{Model as IsModel, Violated}
 use Rattle.ground.specs.Instance.{Instance, groundOf}
 use Rattle.lists.specs.Bytes.{isSet}
+use Rattle.ground.specs.Verdict.{verdictOf, answerOf}
 use Rattle.judging.specs.ModelCheck.{violates, checkOf}
+use Rattle.judging.specs.Demand2.{groundLent, Demand2}
 
 -- clause k with the values a, b, c, d, 0 for a variable that it lacks, is the first violated instance
 pub record FirstViolated (q : Problem) (answer : List ℕ) (k a b c d : ℕ) : Type 0 where
@@ -28,7 +33,7 @@ pub record FirstViolated (q : Problem) (answer : List ℕ) (k a b c d : ℕ) : T
   pub value-82 : getD (found .values) 2 0 ≡ c
   pub value-83 : getD (found .values) 3 0 ≡ d
 
-pub record Theorems : Type 0 where
+pub record Theorems : Type 1 where
   -- violated: all conditions in the set, and no alternative
   pub violated : (q : Problem) (answer : List ℕ) (i : Instance)
       → T (violates q answer i) ↔ (All (λ a. T (isSet answer a)) ((groundOf q) .conds i) × All (λ a. T (not (isSet answer a))) ((groundOf q) .alts i))
@@ -36,3 +41,6 @@ pub record Theorems : Type 0 where
   pub model : (q : Problem) (answer : List ℕ) → (checkOf q answer ≡ IsModel) ↔ Model (groundOf q) (λ a. T (isSet answer a))
   -- and what is named otherwise is the first violated instance
   pub first-named : (q : Problem) (answer : List ℕ) (k a b c d : ℕ) → checkOf q answer ≡ Violated k a b c d → FirstViolated q answer k a b c d
+  -- demand 2 of every engine that finds its nodes soundly, and whose verdict and answer are those of its walk under a limit
+  pub demand-2 : (find : List ℕ → Found Instance) (limit : ℕ) (tb answer : List ℕ) → 4096 ≤ length tb → 1024 ≤ length answer → Valid (take 4096 tb) → SoundFind (groundLent tb) find
+      → Demand2 find (groundLent tb) limit tb (verdictOf (outcome find limit)) (answerOf (outcome find limit) answer)

@@ -1,2 +1,3 @@
 pub mod ModelCheck
+pub mod Demand2
 pub mod Claims

@@ -8,9 +8,10 @@ use lib.ListN.{length, length-map}
 use Rattle.lists.specs.Key.{natKey}
 use Rattle.lists.specs.Member.{In}
 use Rattle.lists.proofs.Member.{all-map}
-use Rattle.search.specs.Relevancy.{trueSet}
+use Rattle.search.specs.Relevancy.{trueSet, findR}
 use Rattle.search.proofs.Relevancy.{true-entered}
-use Rattle.search.proofs.Walk.{path-small, path-short}
+use Rattle.search.proofs.Sound.{path-small, path-short}
+use Rattle.search.proofs.Model.{relevancy-sound}
 use Rattle.problem.specs.Layout.{problemIn}
 use Rattle.problem.specs.Table.{Lawful}
 use Rattle.ground.specs.Instance.{number, clauseOf, groundOf, groundIn}
@@ -31,11 +32,11 @@ site-four tb h s listed =
 pub sound : (tb : List ℕ) → Lawful tb → Sound (relevancyWalker tb)
 sound tb h =
     let p = groundIn tb in
-    let proper = ground-proper (problemIn tb) (h .fits) in
+    let fresh = relevancy-sound p (ground-proper (problemIn tb) (h .fits)) .split-fresh in
     record {
       few = atoms-few (problemIn tb) (h .fits);
-      short = λ bs g. path-short p proper bs g;
-      small = λ b bs g. (path-small p proper (b ∷ bs) g) .1 .0;
+      short = path-short p (findR p) fresh;
+      small = λ b bs g. (path-small p (findR p) fresh (b ∷ bs) g) .1 .0;
       four = λ s listed. site-four tb h s listed;
       enters = λ bs s g e. genuine-enters (relevancyWalker tb .find) bs (instanceOf s) (instanceAlts tb s) g e;
       has-entered = λ s l facts r.

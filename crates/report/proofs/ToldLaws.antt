@@ -11,7 +11,7 @@ use Rattle.problem.specs.Problem.{Problem, atomCount}
 use Rattle.ground.specs.Report.{verdictLine, report, refusal}
 use Rattle.ground.specs.declared.verdict.Verdict.the-variants.{Refused, Satisfied as IsSatisfied, Refuted as IsRefuted, Exhausted as IsExhausted}
 use Rattle.ground.specs.Verdict.{verdictOf, answerOf}
-use Rattle.relevancy.proofs.Theorems.{given-set}
+use Rattle.ground.proofs.AnswerLaws.{given-set}
 use Rattle.report.specs.Told.{answerBits, modelLines, told}
 
 module _ (q : Problem) (answer : List ℕ) where
