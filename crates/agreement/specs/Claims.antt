@@ -9,22 +9,25 @@ use Rattle.lists.specs.Member.{All}
 use Rattle.search.specs.Relevancy.{isTrue, isRelevant, findR}
 use Rattle.search.specs.Magic.{tru, rel, holds}
 use Rattle.search.specs.Machine.{Place, entered, trail, outcome}
-use Rattle.problem.specs.Table.{Valid}
-use Rattle.ground.specs.Instance.{Instance}
+use Rattle.problem.specs.Problem.{limitOf}
+use Rattle.problem.specs.Layout.{problemIn}
+use Rattle.problem.specs.Print.{TextOfProblem}
+use Rattle.reading.specs.declared.read.Reading.the-variants.{Accepted}
+use Rattle.reading.specs.Read.{readResult, readLeaves}
+use Rattle.ground.specs.Instance.{Instance, groundOf}
 use Rattle.ground.specs.Names.{instanceKey}
 use Rattle.ground.specs.Verdict.{verdictOf, answerOf}
-use Rattle.relevancy.specs.Claims.{groundLent, limitLent}
+use Rattle.judging.specs.Demand2.{groundLent, limitLent, Demand2}
+use Rattle.relevancy.specs.Claims.{Taken}
 use Rattle.relevancy.specs.Engine.{fitResult, fitAnswer}
 use Rattle.rewriting.specs.Facts.{falseIn, magicIn, findIn}
+use Rattle.magic.specs.Claims.{MagicTaken}
 use Rattle.magic.specs.Engine.{magicResult, magicRules, magicAnswer}
 
--- both operations take the call: the buffers lent to each are long enough, and some accepted text reads to the table
+-- both operations take the call
 pub record BothTaken (tb rules answer work₁ work₂ : List ℕ) : Type 0 where
-  pub table-long : 4096 ≤ length tb
-  pub rules-long : 16384 ≤ length rules
-  pub answer-long : 1024 ≤ length answer
-  pub work-long : (65536 ≤ length work₁) × (65536 ≤ length work₂)
-  pub valid : Valid (take 4096 tb)
+  pub by-relevancy : Taken tb answer work₁
+  pub by-magic : MagicTaken tb rules answer work₂
 
 -- at a place, for every atom and "false": what the magic engine's rules hold relevant is relevant, and what they hold true is true and relevant
 pub record SameFacts (tb bs : List ℕ) (s : Place Instance) (x : ℕ) : Type 0 where
@@ -47,6 +50,17 @@ pub record OneWalk (tb rules answer work₁ work₂ bs : List ℕ) : Type 0 wher
   pub verdicts : magicResult tb rules answer work₂ ≡ fitResult tb answer work₁
   pub answers : magicAnswer tb rules answer work₂ ≡ fitAnswer tb answer work₁
 
-pub record Theorems : Type 0 where
+-- the table that a text was read into, fitted by both engines: demands 2 and 3, of the problem that has this text
+pub record TextFitted (x tb rules answer work₁ work₂ : List ℕ) : Type 1 where
+  pub read : TextOfProblem x
+  pub table : problemIn (take 4096 tb) ≡ read .problem
+  pub by-relevancy : Demand2 (findR (groundOf (read .problem))) (groundOf (read .problem)) (limitOf (read .problem .limit)) tb (fitResult tb answer work₁) (fitAnswer tb answer work₁)
+  pub by-magic : Demand2 (findIn (magicRules tb rules answer work₂)) (groundOf (read .problem)) (limitOf (read .problem .limit)) tb (magicResult tb rules answer work₂) (magicAnswer tb rules answer work₂)
+  pub one-walk : OneWalk tb rules answer work₁ work₂ (magicRules tb rules answer work₂)
+
+pub record Theorems : Type 1 where
+  pub text-to-verdict : (x tb rules answer work₁ work₂ : List ℕ) → readResult x tb ≡ Accepted
+      → 16384 ≤ length rules → 1024 ≤ length answer → 65536 ≤ length work₁ → 65536 ≤ length work₂
+      → TextFitted x (readLeaves x tb) rules answer work₁ work₂
   pub demand-3 : (tb rules answer work₁ work₂ : List ℕ) → BothTaken tb rules answer work₁ work₂
       → OneWalk tb rules answer work₁ work₂ (magicRules tb rules answer work₂)

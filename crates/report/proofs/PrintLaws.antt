@@ -7,9 +7,9 @@ use native.Mathlib.Omega.{arith}
 use borrow.Author.Tests.{le-ltb}
 use lib.ListN.{length, take, drop, length-append, drop-of-length-le}
 use lib.Seq.{take-all}
-use Rattle.lists.proofs.Tabulate.{tabulate-length}
 use Rattle.lists.proofs.Test.{T-true}
 use Rattle.search.specs.Ground.{Found}
+use Rattle.search.specs.Relevancy.{findR}
 use Rattle.search.specs.Machine.{Outcome, Satisfied, outcome}
 use Rattle.search.proofs.Theorems.{theorems}
 use Rattle.reading.specs.declared.read.Reading.the-variants.{Refused, Accepted}
@@ -17,7 +17,8 @@ use Rattle.problem.specs.Problem.{Problem, Fits, atomCount, limitOf}
 use Rattle.problem.specs.Parse.{Parsed, refused, parsed, parse}
 use Rattle.problem.specs.Layout.{layout, problemIn}
 use Rattle.problem.specs.Table.{Valid, Lawful, isValid}
-use Rattle.reading.specs.Read.{readingOf, tableOf, readResult, readLeaves}
+use Rattle.reading.specs.Read.{readingOf, readResult, readLeaves}
+use Rattle.reading.proofs.TextRead.{text-read}
 use Rattle.writing.specs.contracts.Printed.{Put}
 use Rattle.problem.proofs.Parse.{parse-fits}
 use Rattle.problem.proofs.TableLayout.{layout-length, problem-back}
@@ -64,14 +65,10 @@ module _ (x tb : List ℕ) (size : length tb ≡ 4096) where
       go (parsed q) s = let z : _≡_ {A = ℕ} 0 1 = cc in absurd (omega arith)
 
   pub text-taken : (left : List ℕ) → Accepted ≡ readResult x tb → left ≡ readLeaves x tb → ReadInto x left
-  unfolding readResult readLeaves
-  text-taken left r l = go (parse x) refl (r ∙ rw (le-ltb (length tb) 4096 (omega arith))) (l ∙ rw (le-ltb (length tb) 4096 (omega arith)))
-    where
-      go : (what : Parsed) → parse x ≡ what → Accepted ≡ readingOf what → left ≡ tableOf what tb → ReadInto x left
-      go (refused d l) e s t = let z : _≡_ {A = ℕ} 0 1 = cc in absurd (omega arith)
-      go (parsed q) e s t =
-          let short : length tb ≤ 4096 = omega arith in
-          record { problem = q; accepted = e; bytes = t ∙ rw (drop-of-length-le tb short) (append-nil (layout q)) }
+  text-taken left r l =
+      let t = text-read x tb (sym r) in
+      let short : length tb ≤ 4096 = omega arith in
+      record { problem = t .problem; accepted = t .accepted; bytes = l ∙ t .left ∙ rw (drop-of-length-le tb short) (append-nil (layout (t .problem))) }
 
 -- ---- a table that a text was read into
 
@@ -109,8 +106,8 @@ module _ (x tb : List ℕ) (t : ReadInto x tb) where
   bits-all : (n : ℕ) (bits : List Bool) → outcomeIn tb ≡ Satisfied n bits → length bits ≡ atomCount ((problemIn tb) .constants) ((problemIn tb) .arities)
   unfolding outcomeIn groundOf
   bits-all n bits o =
-      let walk = theorems .relevancy-walk (groundOf (problemIn tb)) (ground-proper (problemIn tb) (taken-lawful .fits)) in
-      ap length ((walk .satisfied limit n bits o) .true-or-not-relevant) ∙ tabulate-length _ _
+      let p = groundOf (problemIn tb) in
+      theorems .sound-walk p (findR p) (theorems .relevancy-sound p (ground-proper (problemIn tb) (taken-lawful .fits))) .satisfied limit n bits o .0
 
   -- the outcome of a walk that is one with the relevancy walk
   outcome-printed : (walk : Walk) (o : Outcome) → o ≡ outcome (walk (problemIn tb)) limit → o ≡ outcomeIn tb
