@@ -1,7 +1,6 @@
 -- The claims of `specs/Claims.antt`, proved.
 use Rattle.ground.specs.Claims.{Theorems}
 use Rattle.ground.proofs.Instances.{ground-proper, number-apart, number-onto, instances-count}
-use Rattle.ground.proofs.AtomLaws.{lead-all, all-lead}
 use Rattle.ground.proofs.Cases.{cases-hold}
 
 pub theorems : Theorems
@@ -11,6 +10,5 @@ theorems =
       onto = number-onto;
       instances = instances-count;
       proper = ground-proper;
-      leads = λ t atoms. (lead-all t atoms, all-lead t atoms);
       cases-hold = cases-hold;
     }

@@ -1,12 +1,8 @@
 -- What is claimed of the ground problem, whatever the code. `proofs/Theorems.antt` proves `Theorems`.
 use Prim.Native.Nat.{ℕ, _^_, _<_}
-use mathlib.Core.Bool.{Bool}
 use mathlib.Core.List.{List}
-use mathlib.Core.Logic.{_↔_}
 use mathlib.Core.Path.{_≡_}
-use lib.Dec.{T}
 use lib.ListN.{length}
-use Rattle.lists.specs.Member.{All, lead}
 use Rattle.search.specs.Ground.{Proper}
 use Rattle.problem.specs.Problem.{Problem, Fits, atomCount}
 use Rattle.ground.specs.Cases.{CasesHold}
@@ -21,7 +17,5 @@ pub record Theorems : Type 0 where
   pub instances : (q : Problem) (k : ℕ) → length (instancesOf q k) ≡ q .constants ^ (clauseOf q k) .vars
   -- every condition and alternative of an instance is a ground atom
   pub proper : (q : Problem) → Fits q → Proper (groundOf q)
-  -- as many hold from the left as there are, exactly if all hold
-  pub leads : (t : ℕ → Bool) (atoms : List ℕ) → (lead t atoms ≡ length atoms) ↔ All (λ a. T (t a)) atoms
   -- K1 to K9, from the text to the printed lines, by both walks
   pub cases-hold : CasesHold
