@@ -79,3 +79,14 @@ module _ (h l : ℕ) (p : T (isDigit h)) (q : T (isDigit l)) where
       let high : (16 * digitOf h + digitOf l) / 16 ≡ digitOf h = omega arith in
       let low : (16 * digitOf h + digitOf l) % 16 ≡ digitOf l = omega arith in
       rw (high, low, digit-back h p, digit-back l q)
+
+-- the pair of digits of a byte stands for it
+abbrev spelled : ℕ → Bool
+spelled b =
+    let h = getD (hexByte b) 0 0 in
+    let l = getD (hexByte b) 1 0 in
+    isDigit h && isDigit l && eqb (16 * digitOf h + digitOf l) b
+
+pub hex-spelled : (b : ℕ) → b < 256 → T (spelled b)
+unfolding digitOf isDigit hexByte
+hex-spelled b h = passes-at spelled 256 tt b h
