@@ -27,6 +27,14 @@ pub passed : {R : Type 0} (b : Bool) (r missing t : R) → (missing ≡ t → �
 passed true r missing t f e = (tt, e)
 passed false r missing t f e = absurd (f e)
 
+-- by either way of a test
+tested : {R S : Type 0} (a b : ℕ) (r other t : R) → cond (ltb a b) r other ≡ t → (a < b → r ≡ t → S) → (b ≤ a → other ≡ t → S) → S
+tested {R} {S} a b r other t e f g = go (ltb a b) (ltb→lt a b) (nltb→le a b) e
+  where
+    go : (d : Bool) → (T d → a < b) → (T (not d) → b ≤ a) → cond d r other ≡ t → S
+    go true l m q = f (l tt) q
+    go false l m q = g (m tt) q
+
 pub wrong-sizes : (e c p : ℕ) → _≡_ {A = Heading} (Wrong e) (Sizes c p) → ⊥
 wrong-sizes e c p q = let z : _≡_ {A = ℕ} 0 1 = cc in omega arith
 
@@ -111,7 +119,7 @@ pub record ArgJudged (c v w b : ℕ) : Type 0 where
 
 pub arg-found : (c v b w : ℕ) → judgeArg c v b ≡ Found w → ArgJudged c v w b
 unfolding judgeArg judgeVariable
-arg-found c v b w e = go (ltb b 32) (ltb→lt b 32) e
+arg-found c v b w e = tested b _ _ _ _ e (λ l q. constant (omega arith) q) (λ l q. variable q)
   where
     old : v ≡ w → ArgFits c v b → ArgJudged c v w b
     old same fit =
@@ -138,22 +146,15 @@ arg-found c v b w e = go (ltb b 32) (ltb→lt b 32) e
         let found : _≡_ {A = Judged} (Found (suc v)) (Found w) = p .1 in
         new low high (eqb→eq (b - 128) v (p .0)) (cc)
 
-    seen : 128 ≤ b → b < 132 → (t : Bool) → (T t → b - 128 < v)
-        → cond t (Found v) (cond (eqb (b - 128) v) (Found (suc v)) (Fault 7)) ≡ Found w → ArgJudged c v w b
-    seen low high true f q = let l : b - 128 < v = f tt in old (cc) (inr (low, omega arith))
-    seen low high false f q = next low high q
+    seen : 128 ≤ b → b < 132 → b - 128 < v → _≡_ {A = Judged} (Found v) (Found w) → ArgJudged c v w b
+    seen low high l q = old (cc) (inr (low, omega arith))
 
-    go : (t : Bool) → (T t → b < 32)
-        → cond t
-        (cond (ltb b c) (Found v) (Fault 6))
-        (cond (leb 128 b && ltb b 132) (cond (ltb (b - 128) v) (Found v) (cond (eqb (b - 128) v) (Found (suc v)) (Fault 7))) (Fault 6))
-        ≡ Found w → ArgJudged c v w b
-    go true f q = constant (f tt) q
-    go false f q =
+    variable : cond (leb 128 b && ltb b 132) (cond (ltb (b - 128) v) (Found v) (cond (eqb (b - 128) v) (Found (suc v)) (Fault 7))) (Fault 6) ≡ Found w → ArgJudged c v w b
+    variable q =
         let p = passed (leb 128 b && ltb b 132) _ _ _ (fault-found 6 w) q in
         let low : 128 ≤ b = leb→le 128 b (T-left (leb 128 b) (ltb b 132) (p .0)) in
         let high : b < 132 = ltb→lt b 132 (T-right (leb 128 b) (ltb b 132) (p .0)) in
-        seen low high (ltb (b - 128) v) (ltb→lt (b - 128) v) (p .1)
+        tested (b - 128) v _ _ _ (p .1) (λ l s. seen low high l s) (λ l s. next low high s)
 
 -- a variable that is judged is at most the next one
 arg-ordered : (c v w b : ℕ) → ArgJudged c v w b → InOrderFrom v (b ∷ [])

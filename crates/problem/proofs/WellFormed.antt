@@ -1,6 +1,6 @@
 -- The judges accept the frames of a well-formed problem.
 use Prim.Native.Nat.{ℕ, suc, _+_, _-_, _*_, _^_, _≤_, _<_}
-use mathlib.Core.Bool.{not}
+use mathlib.Core.Bool.{not, cond}
 use mathlib.Core.List.{List, [], _∷_, _++_, append-assoc, append-nil, flatMap}
 use mathlib.Core.Logic.{_⊎_, inl, inr}
 use mathlib.Core.Path.{_≡_, refl, sym, ap, _∙_}
@@ -27,6 +27,14 @@ use Rattle.problem.proofs.Judges.{argumentsIn, atoms-reached}
 use Rattle.problem.proofs.TableLayout.{fits-short}
 use Rattle.problem.proofs.Variables.{Stands, Seen, seen-none, seen-not, seen-old, seen-new, seen-same}
 
+-- the way of a test
+module _ {R : Type 0} (a b : ℕ) (r other : R) where
+  below : a < b → cond (ltb a b) r other ≡ r
+  below l = rw (lt-ltb a b l)
+
+  above : b ≤ a → cond (ltb a b) r other ≡ other
+  above l = rw (le-ltb a b l)
+
 -- an argument after others is judged, and counted
 record ArgTaken (c v b : ℕ) (front : List ℕ) : Type 0 where
   count : ℕ
@@ -37,15 +45,18 @@ module _ (c vars : ℕ) (few : vars ≤ 4) where
   arg-taken : (v b : ℕ) (front : List ℕ) → Seen front v → ((x : ℕ) → b ≡ 128 + x → (y : ℕ) → y < x → Stands y front) → ArgFits c vars b → ArgTaken c v b front
   unfolding judgeArg judgeVariable
   arg-taken v b front s before (inl p) =
-      record { count = v; judged = rw (lt-ltb b 32 (p .0), lt-ltb b c (p .1)); seen = seen-old front v s b (omega arith) }
+      record { count = v; judged = below b _ _ _ (omega arith) ∙ below b c _ _ (p .1); seen = seen-old front v s b (omega arith) }
   arg-taken v b front s before (inr p) = go (decided (ltb (b - 128) v)) (decided (ltb v (b - 128)))
     where
+      variable : judgeArg c v b ≡ judgeVariable v (b - 128)
+      variable = above b _ _ _ (omega arith) ∙ rw (le-leb 128 b (p .0), lt-ltb b 132 (omega arith))
+
       go : T (ltb (b - 128) v) ⊎ T (not (ltb (b - 128) v)) → T (ltb v (b - 128)) ⊎ T (not (ltb v (b - 128))) → ArgTaken c v b front
       go (inl t) d =
           let old = ltb→lt (b - 128) v t in
           record {
             count = v;
-            judged = rw (le-ltb b 32 (omega arith), le-leb 128 b (p .0), lt-ltb b 132 (omega arith), lt-ltb (b - 128) v old);
+            judged = variable ∙ below (b - 128) v _ _ old;
             seen = seen-old front v s b (omega arith);
           }
       go (inr t) (inl u) = absurd (seen-not front v s (before (b - 128) (omega arith) v (ltb→lt v (b - 128) u)))
@@ -54,7 +65,7 @@ module _ (c vars : ℕ) (few : vars ≤ 4) where
           let high = nltb→le v (b - 128) u in
           record {
             count = suc v;
-            judged = rw (le-ltb b 32 (omega arith), le-leb 128 b (p .0), lt-ltb b 132 (omega arith), le-ltb (b - 128) v low, eq-eqb (b - 128) v (omega arith));
+            judged = variable ∙ rw (le-ltb (b - 128) v low, eq-eqb (b - 128) v (omega arith));
             seen = seen-new front v s b (omega arith);
           }
 
