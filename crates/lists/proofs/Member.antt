@@ -71,6 +71,20 @@ module _ {ℓ} {A B : Type 0} where
   flat-all f P (x ∷ xs) a = (append-left P (f x) (flatMap f xs) a, flat-all f P xs (append-right P (f x) (flatMap f xs) a))
 
 module _ {A : Type 0} where
+  pub any-left : (P : A → Type 0) (xs ys : List A) → Any P xs → Any P (xs ++ ys)
+  any-left P (x ∷ xs) ys (inl p) = inl p
+  any-left P (x ∷ xs) ys (inr p) = inr (any-left P xs ys p)
+
+  pub any-right : (P : A → Type 0) (xs ys : List A) → Any P ys → Any P (xs ++ ys)
+  any-right P [] ys p = p
+  any-right P (x ∷ xs) ys p = inr (any-right P xs ys p)
+
+pub any-flat : {A B : Type 0} (f : A → List B) (P : B → Type 0) (xs : List A) → Any (λ x. Any P (f x)) xs → Any P (flatMap f xs)
+unfolding flatMap
+any-flat f P (x ∷ xs) (inl p) = any-left P (f x) (flatMap f xs) p
+any-flat f P (x ∷ xs) (inr p) = any-right P (f x) (flatMap f xs) (any-flat f P xs p)
+
+module _ {A : Type 0} where
   -- a member with a property, where every member has another
   pub any-zip {ℓ} : (P : A → Type 0) (Q : A → Type ℓ) (R : A → Type 0) → ((x : A) → P x → Q x → R x) → (xs : List A) → Any P xs → All Q xs → Any R xs
   any-zip P Q R f (x ∷ xs) (inl p) a = inl (f x p (a .0))
