@@ -2,16 +2,16 @@
 -- numbers and stand in their order, and the next list stands for the next number.
 use Prim.Native.Nat.{ℕ, zero, suc, _+_, _-_, _*_, _^_, _/_, _%_, _≤_, _<_}
 use mathlib.Core.List.{List, [], _∷_, _++_, map, flatMap}
-use mathlib.Core.Path.{_≡_, refl, sym, ap, _∙_}
+use mathlib.Core.Path.{_≡_, refl, sym, ap, subst, _∙_}
 use native.Mathlib.Nat.{add-zero, zero-add, add-assoc, mul-one, mul-assoc, add-mul, suc-mul, zero-mul, pow-zero, pow-succ', one-le-pow, mod-one, mod-lt, mod-eq-of-lt, mul-add-div-right, mul-add-mod-self-right}
 use native.Mathlib.Omega.{arith}
 use lib.Arith.{digits-lt, digits-div, mod-mul}
 use lib.ListN.{length, replicate, length-replicate}
 use Rattle.lists.specs.Digits.{hornerFrom, horner, digitsOf, tuples}
-use Rattle.lists.specs.Member.{All}
+use Rattle.lists.specs.Member.{All, Any}
 use Rattle.lists.specs.Tabulate.{tabulate}
 use Rattle.lists.proofs.Member.{all-flat, all-mapped, all-map, flat-snoc}
-use Rattle.lists.proofs.Tabulate.{tabulate-length, tabulate-same, tabulate-add, tabulate-map, all-tabulate}
+use Rattle.lists.proofs.Tabulate.{tabulate-length, tabulate-same, tabulate-add, tabulate-map, all-tabulate, any-tabulate}
 
 -- ---- the number that digits stand for
 
@@ -155,3 +155,10 @@ tuples-each c (suc w) =
     before each a h =
         all-mapped (λ t. a ∷ t) (Tuple c (suc w)) (tuples c w)
         (all-map (Tuple c w) (λ t. Tuple c (suc w) (a ∷ t)) (λ t p. (ap suc (p .0), (h, p .1))) (tuples c w) each)
+
+-- and each such list is among them
+pub tuples-any : (c w : ℕ) (P : List ℕ → Type 0) (t : List ℕ) → Tuple c w t → P t → Any P (tuples c w)
+tuples-any c w P t each p =
+    let small : horner c t < c ^ w = subst (λ (k : ℕ). horner c t < c ^ k) (each .0) (horner-below c t (each .1)) in
+    let back : t ≡ digitsOf c w (horner c t) = sym (digits-horner c t (each .1)) ∙ ap (λ (k : ℕ). digitsOf c k (horner c t)) (each .0) in
+    subst (λ (ts : List (List ℕ)). Any P ts) (sym (tuples-at c w)) (any-tabulate P (digitsOf c w) (c ^ w) (horner c t) small (subst P back p))

@@ -5,3 +5,4 @@ pub mod Digits
 pub mod Bytes
 pub mod Pigeonhole
 pub mod Loops
+pub mod Rising

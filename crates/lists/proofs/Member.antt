@@ -68,6 +68,20 @@ module _ {ℓ} {A B : Type 0} where
   flat-all f P (x ∷ xs) a = (append-left P (f x) (flatMap f xs) a, flat-all f P xs (append-right P (f x) (flatMap f xs) a))
 
 module _ {A : Type 0} where
+  pub any-left : (P : A → Type 0) (xs ys : List A) → Any P xs → Any P (xs ++ ys)
+  any-left P (x ∷ xs) ys (inl p) = inl p
+  any-left P (x ∷ xs) ys (inr p) = inr (any-left P xs ys p)
+
+  pub any-right : (P : A → Type 0) (xs ys : List A) → Any P ys → Any P (xs ++ ys)
+  any-right P [] ys p = p
+  any-right P (x ∷ xs) ys p = inr (any-right P xs ys p)
+
+pub any-flat : {A B : Type 0} (f : A → List B) (P : B → Type 0) (xs : List A) → Any (λ x. Any P (f x)) xs → Any P (flatMap f xs)
+unfolding flatMap
+any-flat f P (x ∷ xs) (inl p) = any-left P (f x) (flatMap f xs) p
+any-flat f P (x ∷ xs) (inr p) = any-right P (f x) (flatMap f xs) (any-flat f P xs p)
+
+module _ {A : Type 0} where
   -- a member with a property, where every member has another
   pub any-zip {ℓ} : (P : A → Type 0) (Q : A → Type ℓ) (R : A → Type 0) → ((x : A) → P x → Q x → R x) → (xs : List A) → Any P xs → All Q xs → Any R xs
   any-zip P Q R f (x ∷ xs) (inl p) a = inl (f x p (a .0))
@@ -137,6 +151,15 @@ module _ {A : Type 0} where
   pub every-same : (p q : A → Bool) (xs : List A) → All (λ x. p x ≡ q x) xs → every p xs ≡ every q xs
   every-same p q [] a = refl
   every-same p q (x ∷ xs) a = rw (a .0, every-same p q xs (a .1))
+
+pub any-mapped : {A B : Type 0} (f : A → B) (P : B → Type 0) (xs : List A) → Any (λ x. P (f x)) xs → Any P (map f xs)
+any-mapped f P (x ∷ xs) (inl p) = inl p
+any-mapped f P (x ∷ xs) (inr p) = inr (any-mapped f P xs p)
+
+-- what holds of every member holds of a member
+pub member-has {ℓ} : {A : Type 0} (P : A → Type ℓ) (xs : List A) (y : A) → All P xs → Any (λ x. x ≡ y) xs → P y
+member-has P (x ∷ xs) y a (inl e) = subst P e (a .0)
+member-has P (x ∷ xs) y a (inr m) = member-has P xs y (a .1) m
 
 module _ {K : Type 0} (k : Key K) where
   pub has-here : (x : K) (s : List K) → In k (x ∷ s) x
