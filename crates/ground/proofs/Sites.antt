@@ -14,7 +14,7 @@ use Rattle.lists.specs.Digits.{horner, digitsOf, tuples}
 use Rattle.lists.specs.Member.{All, first}
 use Rattle.lists.specs.Tabulate.{tabulate}
 use Rattle.lists.proofs.Bytes.{at-zeros}
-use Rattle.lists.proofs.Digits.{horner-digits, digits-horner, digits-fit, tuples-at, tuples-count}
+use Rattle.lists.proofs.Digits.{horner-digits, digits-first, digits-horner, digits-fit, tuples-at, tuples-count}
 use Rattle.lists.proofs.Tabulate.{tabulate-length, tabulate-at, tabulate-map}
 use Rattle.ground.specs.contracts.Placed.{Stepped}
 use Rattle.lists.proofs.Member.{first-past, first-front}
@@ -23,7 +23,7 @@ use Rattle.lists.proofs.Member.{first-past, first-front}
 
 digits-zero : (c w : ℕ) → digitsOf c w 0 ≡ replicate w 0
 digits-zero c zero = refl
-digits-zero c (suc w) = rw (zero-div (c ^ w), zero-mod c, digits-zero c w)
+digits-zero c (suc w) = digits-first c w 0 ∙ rw (zero-div (c ^ w), zero-mod c, digits-zero c w)
 
 take-zeros : (v n : ℕ) → v ≤ n → take v (replicate {A = ℕ} n 0) ≡ replicate v 0
 take-zeros zero n h = refl

@@ -2,7 +2,6 @@
 use Rattle.ground.specs.Claims.{Theorems}
 use Rattle.ground.proofs.Instances.{ground-proper, number-apart, number-onto}
 use Rattle.ground.proofs.Order.{atoms-listed, atoms-in-order, atoms-all, instances-all, instances-in-order}
-use Rattle.ground.proofs.AtomLaws.{lead-all, all-lead}
 use Rattle.ground.proofs.Cases.{cases-hold}
 
 pub theorems : Theorems
@@ -16,6 +15,5 @@ theorems =
       instances-all = instances-all;
       instances-in-order = instances-in-order;
       proper = ground-proper;
-      leads = λ t atoms. (lead-all t atoms, all-lead t atoms);
       cases-hold = cases-hold;
     }

@@ -1,13 +1,14 @@
 -- The steps of giving a model, and the limit's bytes.
-use Prim.Native.Nat.{ℕ, suc, _+_, _*_, _<_}
+use Prim.Native.Nat.{ℕ, suc, _+_, _*_, _≤_, _<_}
 use mathlib.Core.Bool.{Bool, not, _||_}
 use mathlib.Core.List.{List, [], _∷_, _++_, map, append-assoc}
 use mathlib.Core.Path.{_≡_, refl, sym, ap, _∙_}
+use native.Mathlib.Nat.{zero-add}
 use native.Mathlib.Numerals.{add-one}
-use native.Mathlib.Omega.{arith}
 use lib.ListN.{length, take, drop, getD, set, length-map}
-use lib.Seq.{drop-cons, set-at, getD-take, getD-drop}
+use lib.Seq.{drop-cons, set-at}
 use Rattle.lists.specs.Tabulate.{tabulate}
+use Rattle.lists.proofs.Bytes.{tabulate-part}
 use Rattle.lists.proofs.Tabulate.{tabulate-length}
 use Rattle.search.specs.Relevancy.{modelBits}
 use Rattle.search.specs.Machine.{Outcome, Satisfied, Refuted, Exhausted}
@@ -18,10 +19,8 @@ use Rattle.ground.specs.declared.verdict.Verdict.the-variants.{Satisfied
 use Rattle.ground.specs.Verdict.{verdictOf, answerOf}
 
 -- the limit's bytes
-pub limit-bytes : (tb : List ℕ) → limitOf (take 4 (drop 4 tb)) ≡ ((getD tb 4 0 * 256 + getD tb 5 0) * 256 + getD tb 6 0) * 256 + getD tb 7 0
-limit-bytes tb =
-    let byte : (i : ℕ) → i < 4 → getD (take 4 (drop 4 tb)) i 0 ≡ getD tb (4 + i) 0 = λ i h. getD-take 4 (drop 4 tb) i 0 h ∙ getD-drop 4 tb i 0 in
-    rw (byte 0 (omega arith), byte 1 (omega arith), byte 2 (omega arith), byte 3 (omega arith))
+pub limit-bytes : (tb : List ℕ) → 8 ≤ length tb → limitOf (take 4 (drop 4 tb)) ≡ ((getD tb 4 0 * 256 + getD tb 5 0) * 256 + getD tb 6 0) * 256 + getD tb 7 0
+limit-bytes tb h = rw (← tabulate-part tb 4 4 h, zero-add)
 
 pub limit-of : (tb : List ℕ) → limitOf (take 4 (drop 4 tb)) ≡ limitOf ((problemIn tb) .limit)
 unfolding problemIn

@@ -1,13 +1,11 @@
 -- What is claimed of the ground problem, whatever the code. `proofs/Theorems.antt` proves `Theorems`.
 use Prim.Native.Nat.{ℕ, _<_}
-use mathlib.Core.Bool.{Bool}
 use mathlib.Core.List.{List, [], _∷_, _++_, map}
 use mathlib.Core.Logic.{_↔_, _⊎_}
 use mathlib.Core.Path.{_≡_}
-use lib.Dec.{T}
 use lib.ListN.{length}
 use Rattle.lists.specs.Digits.{horner}
-use Rattle.lists.specs.Member.{All, Any, lead}
+use Rattle.lists.specs.Member.{All, Any}
 use Rattle.lists.specs.Tabulate.{tabulate}
 use Rattle.search.specs.Ground.{Proper}
 use Rattle.problem.specs.Problem.{Problem, Fits, atomCount}
@@ -46,7 +44,5 @@ pub record Theorems : Type 0 where
       → (i .clause < j .clause) ⊎ ((i .clause ≡ j .clause) × (horner (q .constants) (i .values) < horner (q .constants) (j .values)))
   -- every condition and alternative of an instance is a ground atom
   pub proper : (q : Problem) → Fits q → Proper (groundOf q)
-  -- as many hold from the left as there are, exactly if all hold
-  pub leads : (t : ℕ → Bool) (atoms : List ℕ) → (lead t atoms ≡ length atoms) ↔ All (λ a. T (t a)) atoms
   -- K1 to K9, from the text to the printed lines, by both walks
   pub cases-hold : CasesHold

@@ -11,14 +11,13 @@ use borrow.Author.Tests.{eq-eqb}
 use lib.Dec.{T, T-not, eqb, eqb→eq}
 use lib.ListN.{length, getD, length-map}
 use Rattle.lists.specs.Member.{All, Any, every, first, lead}
-use Rattle.lists.proofs.Member.{all-map, every-all, all-every, some-fails, first-none, none-first}
+use Rattle.lists.proofs.Member.{all-map, every-all, all-every, some-fails, first-none, none-first, lead-all, all-lead}
 use Rattle.lists.proofs.Test.{and-T, T-left, T-right, decided, fails, not-not}
 use Rattle.search.specs.Ground.{Model}
 use Rattle.problem.specs.Problem.{Problem}
 use Rattle.judging.specs.declared.judge.Judging.the-variants.{Model as IsModel, Violated}
 use Rattle.ground.specs.Instance.{Instance, number, clauseOf, groundAtoms, groundOf}
 use Rattle.lists.specs.Bytes.{isSet}
-use Rattle.ground.proofs.AtomLaws.{lead-all, all-lead}
 use Rattle.judging.specs.ModelCheck.{violates, named, checkOf}
 use Rattle.judging.specs.Claims.{FirstViolated}
 

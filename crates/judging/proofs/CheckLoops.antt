@@ -18,9 +18,10 @@ use Rattle.problem.proofs.Theorems.{valid-table}
 use Rattle.judging.specs.declared.judge.Judging.the-variants.{Unjudged, Model as IsModel, Violated}
 use Rattle.ground.specs.Instance.{Instance, number, clauseOf, instancesOf, groundAtoms}
 use Rattle.lists.specs.Bytes.{isSet}
+use Rattle.lists.proofs.Member.{lead-le}
 use Rattle.judging.specs.ModelCheck.{violatedBy, violates, named, clauseCheck, checkOf, judgeResult}
 use Rattle.ground.proofs.Turns.{numbers-take, Turn, Undecided, instance, turn-value, turn-stops, turn-ends, clauses-on, clauses-stop, clauses-end}
-use Rattle.ground.proofs.AtomLaws.{atoms-bytes, lead-le}
+use Rattle.ground.proofs.AtomLaws.{atoms-bytes}
 use Rattle.judging.proofs.CheckLaws.{named-violated}
 
 -- ---- the answer's bytes

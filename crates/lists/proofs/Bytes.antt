@@ -1,5 +1,5 @@
--- Laws of `pad`, `bytes2`, `sameList` and `spliced`, of bytes set and of parts lent, and of records laid one after another.
-use Prim.Native.Nat.{ℕ, zero, suc, _+_, _-_, _*_, _/_, _%_, _≤_, _<_}
+-- Laws of `pad`, `sameList` and `spliced`, of bytes set and of parts lent, and of records laid one after another.
+use Prim.Native.Nat.{ℕ, zero, suc, _+_, _-_, _*_, _≤_, _<_}
 use mathlib.Core.List.{List, [], _∷_, _++_, append-assoc, append-nil}
 use mathlib.Core.Path.{_≡_, refl, sym, ap, _∙_}
 use native.Mathlib.Nat.{add-zero, zero-add, suc-add, add-assoc, mul-zero, mul-suc, add-sub-of-le}
@@ -160,11 +160,6 @@ splice-then a bs cs e h =
     ∙ ap (λ (n : ℕ). drop n e) whole
     in
     rw (start, rest, append-assoc (take a e) bs cs)
-
--- ---- numbers of two bytes
-
-pub bytes2-back : (n : ℕ) → n < 65536 → n % 256 + 256 * (n / 256 % 256) ≡ n
-bytes2-back n h = omega arith
 
 -- ---- equality
 

@@ -1,16 +1,19 @@
 -- Laws of digits, to any base and of any width: digits and the number that they stand for determine each other, the lists of digits are as many as the
--- numbers and stand in their order, and the next list stands for the next number.
+-- numbers and stand in their order, and the next list stands for the next number. Numbers are read where their bytes stand.
 use Prim.Native.Nat.{ℕ, zero, suc, _+_, _-_, _*_, _^_, _/_, _%_, _≤_, _<_}
-use mathlib.Core.List.{List, [], _∷_, _++_, map, flatMap}
+use mathlib.Core.List.{List, [], _∷_, _++_, map, flatMap, reverse-reverse}
 use mathlib.Core.Path.{_≡_, refl, sym, ap, subst, _∙_}
-use native.Mathlib.Nat.{add-zero, zero-add, add-assoc, mul-one, mul-assoc, add-mul, suc-mul, zero-mul, pow-zero, pow-succ', one-le-pow, mod-one, mod-lt, mod-eq-of-lt, mul-add-div-right, mul-add-mod-self-right}
+use native.Mathlib.Nat.{add-zero, zero-add, add-comm, add-assoc, mul-one, mul-comm, mul-assoc, add-mul, suc-mul, zero-mul, pow-zero, pow-succ', one-le-pow, div-one, div-div-eq-div-mul, div-lt-iff-lt-mul, mod-one, mod-lt, mod-eq-of-lt, mul-add-div-right, mul-add-mod-self-right}
+use native.Mathlib.Numerals.{add-one}
 use native.Mathlib.Omega.{arith}
 use lib.Arith.{digits-lt, digits-div, mod-mul}
-use lib.ListN.{length, replicate, length-replicate}
-use Rattle.lists.specs.Digits.{hornerFrom, horner, digitsOf, tuples}
+use lib.ListN.{length, getD, replicate, length-append, length-replicate, length-reverse, List·getD-append}
+use lib.Seq.{getD-append-add}
+use Rattle.lists.specs.Digits.{hornerFrom, horner, digitsOf, bytesOf, lowBytes, lowNumber, tuples}
 use Rattle.lists.specs.Member.{All, Any}
 use Rattle.lists.specs.Tabulate.{tabulate}
-use Rattle.lists.proofs.Member.{all-flat, all-mapped, all-map, flat-snoc}
+use Rattle.lists.proofs.Bytes.{tabulate-of}
+use Rattle.lists.proofs.Member.{all-append, all-flat, all-mapped, all-map, flat-snoc}
 use Rattle.lists.proofs.Tabulate.{tabulate-length, tabulate-same, tabulate-add, tabulate-map, all-tabulate, any-tabulate}
 
 -- ---- the number that digits stand for
@@ -37,6 +40,9 @@ horner-snoc c d ds = from 0 ds
     from n [] = refl
     from n (e ∷ ds) = from (n * c + e) ds
 
+pub horner-two : (c d e : ℕ) → horner c (d ∷ e ∷ []) ≡ c * d + e
+horner-two c d e = rw (zero-mul, zero-add, mul-comm d)
+
 pub horner-below : (c : ℕ) (ds : List ℕ) → All (λ d. d < c) ds → horner c ds < c ^ length ds
 horner-below c [] a = rw pow-zero (omega arith)
 horner-below c (d ∷ ds) a = rw (zero-mul, zero-add, horner-from c d ds, pow-succ') (digits-lt (a .0) (horner-below c ds (a .1)))
@@ -45,27 +51,35 @@ horner-below c (d ∷ ds) a = rw (zero-mul, zero-add, horner-from c d ds, pow-su
 
 pub digits-length : (c w n : ℕ) → length (digitsOf c w n) ≡ w
 digits-length c zero n = refl
-digits-length c (suc w) n = ap suc (digits-length c w n)
+digits-length c (suc w) n = length-append (digitsOf c w (n / c)) (n % c ∷ []) ∙ rw (digits-length c w (n / c), add-one)
+
+-- the first of w + 1 digits
+pub digits-first : (c w n : ℕ) → digitsOf c (suc w) n ≡ n / c ^ w % c ∷ digitsOf c w n
+digits-first c zero n = rw (pow-zero, div-one)
+digits-first c (suc w) n = rw (digits-first c w (n / c), div-div-eq-div-mul, pow-succ')
+
+-- of a number that fits it is the quotient itself
+pub digits-top : (c w n : ℕ) → n < c ^ suc w → n / c ^ w % c ≡ n / c ^ w
+digits-top zero w n h = let z : n < 0 = rw (pow-succ', zero-mul) at h in absurd (omega arith)
+digits-top (suc c) w n h = mod-eq-of-lt (div-lt-iff-lt-mul (one-le-pow w (suc c) (omega arith)) .1 (rw pow-succ' at h))
 
 pub digits-below : (c w n : ℕ) → 0 < c → All (λ d. d < c) (digitsOf c w n)
 digits-below c zero n h = tt
-digits-below c (suc w) n h = (mod-lt (n / c ^ w) h, digits-below c w n h)
+digits-below c (suc w) n h = all-append (λ d. d < c) (digitsOf c w (n / c)) (n % c ∷ []) (digits-below c w (n / c) h) (mod-lt n h, tt)
 
 -- the last w digits do not depend on what stands before them
 pub digits-skip : (c w q r : ℕ) → 0 < c → digitsOf c w (q * c ^ w + r) ≡ digitsOf c w r
 digits-skip c zero q r h = refl
-digits-skip c (suc w) q r h =
-    rw (pow-succ', ← mul-assoc, mul-add-div-right (one-le-pow w c h) (q * c) r, mul-add-mod-self-right, digits-skip c w (q * c) r h)
+digits-skip c (suc w) q r h = rw (pow-succ', mul-comm c, ← mul-assoc, mul-add-div-right h (q * c ^ w) r, mul-add-mod-self-right, digits-skip c w q (r / c) h)
 
 -- the digits of a digit before others
 pub digits-cons : (c w d r : ℕ) → d < c → r < c ^ w → digitsOf c (suc w) (d * c ^ w + r) ≡ d ∷ digitsOf c w r
-digits-cons c w d r hd hr = rw (digits-div d hr, mod-eq-of-lt hd, digits-skip c w d r (omega arith))
+digits-cons c w d r hd hr = digits-first c w (d * c ^ w + r) ∙ rw (digits-div d hr, mod-eq-of-lt hd, digits-skip c w d r (omega arith))
 
 pub horner-mod : (c w n : ℕ) → 0 < c → horner c (digitsOf c w n) ≡ n % c ^ w
 horner-mod c zero n h = rw (pow-zero, mod-one)
 horner-mod c (suc w) n h =
-    horner-cons c (n / c ^ w % c) (digitsOf c w n)
-    ∙ rw (digits-length, horner-mod c w n h, pow-succ', mod-mul n h (one-le-pow w c h))
+    horner-snoc c (n % c) (digitsOf c w (n / c)) ∙ rw (horner-mod c w (n / c) h, pow-succ', mul-comm c, mod-mul n (one-le-pow w c h) h)
 
 pub horner-digits : (c w n : ℕ) → n < c ^ w → horner c (digitsOf c w n) ≡ n
 horner-digits c zero n h = let z : n < 1 = rw pow-zero at h in omega arith
@@ -87,6 +101,31 @@ digits-horner c (d ∷ ds) a =
 
 pub horner-apart : (c : ℕ) (ds es : List ℕ) → length ds ≡ length es → All (λ d. d < c) ds → All (λ d. d < c) es → horner c ds ≡ horner c es → ds ≡ es
 horner-apart c ds es l a b e = sym (digits-horner c ds a) ∙ rw (l, e) (digits-horner c es b)
+
+-- ---- bytes, the low byte first
+
+pub low-length : (w n : ℕ) → length (lowBytes w n) ≡ w
+low-length w n = length-reverse (bytesOf w n) ∙ digits-length 256 w n
+
+-- a number is read where its bytes stand
+pub low-held : (w n : ℕ) (bs : List ℕ) (at : ℕ) → n < 256 ^ w → ((j : ℕ) → j < w → getD bs (at + j) 0 ≡ getD (lowBytes w n) j 0) → lowNumber w bs at ≡ n
+low-held w n bs at h same =
+    let long : length (lowBytes w n) ≡ w = low-length w n in
+    rw (tabulate-of (λ j. getD bs (at + j) 0) 0 (lowBytes w n) w (sym long) (λ j l. same j (omega arith)), reverse-reverse) (horner-digits 256 w n h)
+
+pub low-back : (w n : ℕ) (front back : List ℕ) → n < 256 ^ w → lowNumber w (front ++ lowBytes w n ++ back) (length front) ≡ n
+low-back w n front back h =
+    let long : length (lowBytes w n) ≡ w = low-length w n in
+    low-held w n (front ++ lowBytes w n ++ back) (length front) h
+    (λ j l.
+    List·getD-append (front ++ lowBytes w n) back 0 (length front + j) (rw length-append (omega arith)) ∙ getD-append-add front (lowBytes w n) j 0)
+
+-- two bytes
+pub low-two : (bs : List ℕ) (at : ℕ) → lowNumber 2 bs at ≡ getD bs at 0 + 256 * getD bs (at + 1) 0
+low-two bs at = rw add-zero (horner-two 256 (getD bs (at + 1) 0) (getD bs at 0) ∙ add-comm (256 * getD bs (at + 1) 0) (getD bs at 0))
+
+pub two-back : (n : ℕ) → n < 65536 → n % 256 + 256 * (n / 256 % 256) ≡ n
+two-back n h = sym (low-two (lowBytes 2 n) 0) ∙ low-back 2 n [] [] h
 
 -- ---- the digits that an odometer turns
 

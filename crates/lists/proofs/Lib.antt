@@ -6,3 +6,4 @@ pub mod Bytes
 pub mod Pigeonhole
 pub mod Loops
 pub mod Rising
+pub mod Theorems

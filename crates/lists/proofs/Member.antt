@@ -1,13 +1,16 @@
--- Laws of `flatMap`, `All`, `Any`, `every`, `first` and `has`.
+-- Laws of `flatMap`, `All`, `Any`, `every`, `first`, `has` and `lead`.
+use Prim.Native.Nat.{ℕ, suc, _≤_}
 use mathlib.Core.Bool.{Bool, true, false, not, cond, _&&_}
 use mathlib.Core.List.{List, [], _∷_, _++_, map, flatMap, append-assoc, append-nil}
 use mathlib.Core.Logic.{_⊎_, inl, inr}
 use mathlib.Core.Option.{none, some, Option·none-ne-some}
-use mathlib.Core.Path.{_≡_, refl, sym, subst, _∙_}
+use mathlib.Core.Path.{_≡_, refl, sym, ap, subst, _∙_}
+use native.Mathlib.Omega.{arith}
 use lib.Dec.{T}
+use lib.ListN.{length}
 use Rattle.lists.specs.Key.{Key}
-use Rattle.lists.specs.Member.{All, Any, every, first, has, In}
-use Rattle.lists.proofs.Test.{and-T, T-left, T-right, T-false, or-left, or-right, T-or}
+use Rattle.lists.specs.Member.{All, Any, every, first, has, In, lead}
+use Rattle.lists.proofs.Test.{and-T, T-left, T-right, T-true, T-false, or-left, or-right, T-or}
 
 pub flat-append : {A B : Type 0} (f : A → List B) (xs ys : List A) → flatMap f (xs ++ ys) ≡ flatMap f xs ++ flatMap f ys
 unfolding flatMap
@@ -193,3 +196,27 @@ module _ {K : Type 0} (k : Key K) where
 
   pub all-grow : (y : K) (s xs : List K) → All (In k s) xs → All (In k (y ∷ s)) xs
   all-grow y s xs a = all-map (In k s) (In k (y ∷ s)) (has-there y s) xs a
+
+-- ---- how many hold from the left
+
+module _ (t : ℕ → Bool) where
+  pub lead-le : (atoms : List ℕ) → lead t atoms ≤ length atoms
+  lead-le [] = omega arith
+  lead-le (a ∷ atoms) = go (t a) (lead-le atoms)
+    where
+      go : (b : Bool) → lead t atoms ≤ length atoms → cond b (suc (lead t atoms)) 0 ≤ suc (length atoms)
+      go true h = omega arith
+      go false h = omega arith
+
+  pub lead-all : (atoms : List ℕ) → lead t atoms ≡ length atoms → All (λ a. T (t a)) atoms
+  lead-all [] e = tt
+  lead-all (a ∷ atoms) e = go (t a) (lead-all atoms) e
+    where
+      go : (b : Bool) → (lead t atoms ≡ length atoms → All (λ x. T (t x)) atoms) → cond b (suc (lead t atoms)) 0 ≡ suc (length atoms)
+          → T b × All (λ x. T (t x)) atoms
+      go true f e = (tt, f (omega arith))
+      go false f e = absurd (omega arith)
+
+  pub all-lead : (atoms : List ℕ) → All (λ a. T (t a)) atoms → lead t atoms ≡ length atoms
+  all-lead [] a = refl
+  all-lead (x ∷ atoms) a = rw (T-true (t x) (a .0)) (ap suc (all-lead atoms (a .1)))

@@ -1,5 +1,5 @@
--- Lists of bytes: padding, numbers of two bytes, equality, bytes put over others, and flags.
-use Prim.Native.Nat.{ℕ, _+_, _-_, _/_, _%_}
+-- Lists of bytes: padding, equality, bytes put over others, and flags.
+use Prim.Native.Nat.{ℕ, _+_, _-_}
 use mathlib.Core.Bool.{Bool, true, false, _&&_}
 use mathlib.Core.List.{List, [], _∷_, _++_}
 use lib.Dec.{eqb}
@@ -8,10 +8,6 @@ use lib.ListN.{length, take, drop, getD, replicate}
 -- xs, and zeros after it to the length n
 abbrev pub pad : ℕ → List ℕ → List ℕ
 pad n xs = xs ++ replicate (n - length xs) 0
-
--- a number below 65,536 as two bytes, low byte first
-abbrev pub bytes2 : ℕ → List ℕ
-bytes2 n = n % 256 ∷ n / 256 % 256 ∷ []
 
 abbrev pub sameList : List ℕ → List ℕ → Bool
 sameList [] [] = true

@@ -3,3 +3,4 @@ pub mod Member
 pub mod Tabulate
 pub mod Bytes
 pub mod Digits
+pub mod Claims

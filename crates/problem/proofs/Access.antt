@@ -5,16 +5,18 @@ use mathlib.Core.Path.{_≡_, ap, _∙_}
 use native.Mathlib.Nat.{pow-zero, suc-mul}
 use native.Mathlib.Omega.{arith}
 use lib.ListN.{length, take, getD, replicate, length-append, List·getD-append}
-use Rattle.lists.specs.Bytes.{pad, bytes2}
+use Rattle.lists.specs.Bytes.{pad}
+use Rattle.lists.specs.Digits.{lowBytes}
 use Rattle.lists.specs.Member.{All, Any}
-use Rattle.lists.proofs.Bytes.{all-at, getD-skip, pad-length, bytes2-back, total-take, total-upto}
+use Rattle.lists.proofs.Bytes.{all-at, getD-skip, pad-length, total-take, total-upto}
+use Rattle.lists.proofs.Digits.{two-back}
 use Rattle.problem.specs.Problem.{Atom, Clause, Problem, AtomFits, ClauseFits, Fits, atomCount, firstAtom, weight, weights}
 use Rattle.problem.specs.Layout.{slot, slots, clauseRecord, layout}
 use Rattle.problem.proofs.TableLayout.{Short, atoms-total, weights-total, slot-argument, all-short, slots-at, at-start, regroup, heading-byte, predicate-byte, clause-byte, condition-byte, alternative-byte}
 
 -- two bytes that hold a number below 65,536 give it
-held2 : (tb : List ℕ) (low high n : ℕ) → n < 65536 → getD tb low 0 ≡ getD (bytes2 n) 0 0 → getD tb high 0 ≡ getD (bytes2 n) 1 0 → getD tb low 0 + 256 * getD tb high 0 ≡ n
-held2 tb low high n small l h = rw (l, h) (bytes2-back n small)
+held2 : (tb : List ℕ) (low high n : ℕ) → n < 65536 → getD tb low 0 ≡ getD (lowBytes 2 n) 0 0 → getD tb high 0 ≡ getD (lowBytes 2 n) 1 0 → getD tb low 0 + 256 * getD tb high 0 ≡ n
+held2 tb low high n small l h = rw (l, h) (two-back n small)
 
 -- ---- bounds
 
@@ -52,10 +54,10 @@ module _ (q : Problem) (f : Fits q) where
   pub clauses-in : getD (layout q) 2 0 ≡ length (q .clauses)
   clauses-in = heading-byte q f 2 (omega arith)
 
-  pub count-byte : (i : ℕ) → i < 2 → getD (layout q) (8 + i) 0 ≡ getD (bytes2 (atomCount (q .constants) (q .arities))) i 0
+  pub count-byte : (i : ℕ) → i < 2 → getD (layout q) (8 + i) 0 ≡ getD (lowBytes 2 (atomCount (q .constants) (q .arities))) i 0
   count-byte i h =
       let four : length (q .limit) ≡ 4 = f .limit-four in
-      let counts : List ℕ = bytes2 (atomCount (q .constants) (q .arities)) in
+      let counts : List ℕ = lowBytes 2 (atomCount (q .constants) (q .arities)) in
       let fore : List ℕ = q .constants ∷ length (q .arities) ∷ length (q .clauses) ∷ 0 ∷ q .limit in
       let eight : length fore ≡ 8 = omega arith in
       heading-byte q f (8 + i) (omega arith)
@@ -93,10 +95,10 @@ pub record AtomBytes (c : ℕ) (arities tb : List ℕ) (at : ℕ) (a : Atom) : T
   pub argument : (j : ℕ) → j < 3 → getD tb (at + 1 + j) 0 ≡ getD (a .args) j 0
   pub first : getD tb (at + 4) 0 + 256 * getD tb (at + 5) 0 ≡ firstAtom c arities (a .pred)
 
-slot-first : (c : ℕ) (arities : List ℕ) (a : Atom) → Short a → (i : ℕ) → getD (slot c arities a) (4 + i) 0 ≡ getD (bytes2 (firstAtom c arities (a .pred))) i 0
+slot-first : (c : ℕ) (arities : List ℕ) (a : Atom) → Short a → (i : ℕ) → getD (slot c arities a) (4 + i) 0 ≡ getD (lowBytes 2 (firstAtom c arities (a .pred))) i 0
 slot-first c arities a h i =
     let whole : length (a .pred ∷ pad 3 (a .args)) ≡ 4 = omega (arith, pad-length 3 (a .args) h) in
-    getD-skip (a .pred ∷ pad 3 (a .args)) (bytes2 (firstAtom c arities (a .pred))) 4 i whole
+    getD-skip (a .pred ∷ pad 3 (a .args)) (lowBytes 2 (firstAtom c arities (a .pred))) 4 i whole
 
 slot-bytes : (c : ℕ) (arities tb : List ℕ) (at : ℕ) (a : Atom) → atomCount c arities ≤ 1024 → Short a
     → ((j : ℕ) → j < 6 → getD tb (at + j) 0 ≡ getD (slot c arities a) j 0)

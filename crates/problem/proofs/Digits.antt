@@ -1,14 +1,17 @@
 -- Laws of digits: a digit's byte and its value determine each other, so do a byte and its pair of digits, and where a byte's value is looked for.
-use Prim.Native.Nat.{ℕ, zero, suc, _+_, _-_, _*_, _/_, _%_, _≤_, _<_}
+use Prim.Native.Nat.{ℕ, zero, suc, _-_, _≤_, _<_}
 use mathlib.Core.Bool.{Bool, true, false, not, cond, _&&_}
-use mathlib.Core.List.{List, [], _∷_}
+use mathlib.Core.List.{List, [], _∷_, map}
 use mathlib.Core.Logic.{_⊎_, inl, inr}
-use mathlib.Core.Path.{_≡_, subst}
+use mathlib.Core.Path.{_≡_, ap, subst, _∙_}
 use native.Mathlib.Nat.{eq-or-lt-of-le}
 use native.Mathlib.Omega.{arith}
 use borrow.Author.Tests.{le-ltb}
 use lib.Dec.{T, eqb, ltb, eqb→eq, ltb→lt, lt→ltb}
 use lib.ListN.{length, getD}
+use Rattle.lists.specs.Digits.{horner}
+use Rattle.lists.specs.Member.{All}
+use Rattle.lists.proofs.Digits.{horner-below, digits-horner}
 use Rattle.lists.proofs.Test.{T-left, T-right}
 use Rattle.problem.specs.Digit.{digits, placeOf, digitOf, isDigit, hexByte}
 
@@ -68,14 +71,14 @@ unfolding digitOf found
 digit-found b h = eqb→eq (digitOf b) (sought b) (passes-at found 256 tt b h)
 
 module _ (h l : ℕ) (p : T (isDigit h)) (q : T (isDigit l)) where
-  pub hex-small : 16 * digitOf h + digitOf l < 256
-  hex-small = omega (arith, digit-small h p, digit-small l q)
+  small-each : All (λ d. d < 16) (digitOf h ∷ digitOf l ∷ [])
+  small-each = (digit-small h p, (digit-small l q, tt))
+
+  pub hex-small : horner 16 (digitOf h ∷ digitOf l ∷ []) < 256
+  hex-small = horner-below 16 (digitOf h ∷ digitOf l ∷ []) small-each
 
   -- two digits are those of the byte that they stand for
-  pub hex-back : hexByte (16 * digitOf h + digitOf l) ≡ h ∷ l ∷ []
+  pub hex-back : hexByte (horner 16 (digitOf h ∷ digitOf l ∷ [])) ≡ h ∷ l ∷ []
   unfolding hexByte
   hex-back =
-      let small : digitOf l < 16 = digit-small l q in
-      let high : (16 * digitOf h + digitOf l) / 16 ≡ digitOf h = omega arith in
-      let low : (16 * digitOf h + digitOf l) % 16 ≡ digitOf l = omega arith in
-      rw (high, low, digit-back h p, digit-back l q)
+      ap (map (λ d. getD digits d 0)) (digits-horner 16 (digitOf h ∷ digitOf l ∷ []) small-each) ∙ rw (digit-back h p, digit-back l q)

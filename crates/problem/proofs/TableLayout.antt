@@ -6,7 +6,8 @@ use native.Mathlib.Nat.{add-zero, zero-add, add-assoc}
 use native.Mathlib.Omega.{arith}
 use lib.ListN.{length, take, drop, getD, replicate, length-append, length-replicate, List·getD-append}
 use lib.Seq.{take-at}
-use Rattle.lists.specs.Bytes.{pad, bytes2}
+use Rattle.lists.specs.Bytes.{pad}
+use Rattle.lists.specs.Digits.{lowBytes}
 use Rattle.lists.specs.Member.{All}
 use Rattle.lists.specs.Tabulate.{tabulate}
 use Rattle.lists.proofs.Bytes.{all-at, getD-skip, tabulate-of, at-zeros, pad-at, pad-length, total, records, total-snoc, records-snoc, records-length, records-at}
@@ -66,14 +67,14 @@ Short a = length (a .args) ≤ 3
 pub slot-length : (c : ℕ) (arities : List ℕ) (a : Atom) → Short a → length (slot c arities a) ≡ 6
 slot-length c arities a h =
     let padded : length (pad 3 (a .args)) ≡ 3 = pad-length 3 (a .args) h in
-    let whole : length (pad 3 (a .args) ++ bytes2 (firstAtom c arities (a .pred))) ≡ 5 = length-append (pad 3 (a .args)) (bytes2 (firstAtom c arities (a .pred))) ∙ rw padded in
+    let whole : length (pad 3 (a .args) ++ lowBytes 2 (firstAtom c arities (a .pred))) ≡ 5 = length-append (pad 3 (a .args)) (lowBytes 2 (firstAtom c arities (a .pred))) ∙ rw padded in
     ap suc whole
 
 -- an argument, and zero past the last one
 pub slot-argument : (c : ℕ) (arities : List ℕ) (a : Atom) → Short a → (j : ℕ) → j < 3 → getD (slot c arities a) (1 + j) 0 ≡ getD (a .args) j 0
 slot-argument c arities a h j hj =
-    getD-skip (a .pred ∷ []) (pad 3 (a .args) ++ bytes2 (firstAtom c arities (a .pred))) 1 j refl
-    ∙ List·getD-append (pad 3 (a .args)) (bytes2 (firstAtom c arities (a .pred))) 0 j (omega (arith, pad-length 3 (a .args) h))
+    getD-skip (a .pred ∷ []) (pad 3 (a .args) ++ lowBytes 2 (firstAtom c arities (a .pred))) 1 j refl
+    ∙ List·getD-append (pad 3 (a .args)) (lowBytes 2 (firstAtom c arities (a .pred))) 0 j (omega (arith, pad-length 3 (a .args) h))
     ∙ pad-at 3 (a .args) j
 
 slots-wide : (c : ℕ) (arities : List ℕ) (atoms : List Atom) → All Short atoms → All (λ a. (s : ℕ) → length (slot c arities a) ≡ 6) atoms
@@ -107,8 +108,8 @@ clauseRecords-length c arities before ks small f =
     rw (clauses-records c arities before ks) (records-length (clauseRecord c arities) (weight c) 56 before ks (clauses-wide c arities ks small f))
 
 -- the table's four parts
-pub sixteen : (c p n : ℕ) (limit : List ℕ) (atoms : ℕ) → length limit ≡ 4 → length (c ∷ p ∷ n ∷ 0 ∷ limit ++ bytes2 atoms ++ replicate 6 0) ≡ 16
-sixteen c p n limit atoms four = omega (arith, length-append (limit ++ bytes2 atoms) (replicate 6 0), length-append limit (bytes2 atoms))
+pub sixteen : (c p n : ℕ) (limit : List ℕ) (atoms : ℕ) → length limit ≡ 4 → length (c ∷ p ∷ n ∷ 0 ∷ limit ++ lowBytes 2 atoms ++ replicate 6 0) ≡ 16
+sixteen c p n limit atoms four = omega (arith, length-append (limit ++ lowBytes 2 atoms) (replicate 6 0), length-append limit (lowBytes 2 atoms))
 
 heading-length : (q : Problem) → Fits q → length (heading q) ≡ 16
 heading-length q f = sixteen (q .constants) (length (q .arities)) (length (q .clauses)) (q .limit) (atomCount (q .constants) (q .arities)) (f .limit-four)
@@ -281,7 +282,7 @@ clause-same v w x y z u e g h = rw (e, g, h)
 
 -- a clause's record: 8 bytes, and the slots of its conditions and of its alternatives
 fore : ℕ → ℕ → Clause → List ℕ
-fore c before k = length (k .conds) ∷ length (k .alts) ∷ k .vars ∷ 0 ∷ bytes2 (c ^ k .vars) ++ bytes2 before
+fore c before k = length (k .conds) ∷ length (k .alts) ∷ k .vars ∷ 0 ∷ lowBytes 2 (c ^ k .vars) ++ lowBytes 2 before
 
 module _ (c : ℕ) (arities : List ℕ) (small : All (λ n. n ≤ 3) arities) (before : ℕ) (k : Clause) (f : ClauseFits c arities k) where
   pub condition-byte : (x : ℕ) → x < 24 → getD (clauseRecord c arities before k) (8 + x) 0 ≡ getD (slots c arities (k .conds)) x 0
@@ -338,7 +339,7 @@ module _ (q : Problem) (f : Fits q) where
   limit-back : take 4 (drop 4 (layout q)) ≡ q .limit
   limit-back =
       rw (layout-parts q)
-      (first-of-six (q .limit) (bytes2 (atomCount (q .constants) (q .arities))) (replicate 6 0) (predicatePart q) (clausePart q) spare 4 (f .limit-four))
+      (first-of-six (q .limit) (lowBytes 2 (atomCount (q .constants) (q .arities))) (replicate 6 0) (predicatePart q) (clausePart q) spare 4 (f .limit-four))
 
   arities-back : aritiesIn (layout q) ≡ q .arities
   arities-back =

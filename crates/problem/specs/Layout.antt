@@ -8,12 +8,13 @@
 use Prim.Native.Nat.{ℕ, _+_, _*_, _^_, min}
 use mathlib.Core.List.{List, [], _∷_, _++_, flatMap}
 use lib.ListN.{length, take, drop, getD, replicate}
-use Rattle.lists.specs.Bytes.{pad, bytes2}
+use Rattle.lists.specs.Bytes.{pad}
+use Rattle.lists.specs.Digits.{lowBytes}
 use Rattle.lists.specs.Tabulate.{tabulate}
 use Rattle.problem.specs.Problem.{Atom, Clause, Problem, atomCount, firstAtom, weight}
 
 abbrev pub predicateRecord : ℕ → ℕ → List ℕ
-predicateRecord first a = a ∷ bytes2 first ++ (0 ∷ [])
+predicateRecord first a = a ∷ lowBytes 2 first ++ (0 ∷ [])
 
 -- the records of predicates with these arities, the first of whose atoms has this number
 abbrev pub predicateRecords : ℕ → ℕ → List ℕ → List ℕ
@@ -21,14 +22,14 @@ predicateRecords c first [] = []
 predicateRecords c first (a ∷ arities) = predicateRecord first a ++ predicateRecords c (first + c ^ a) arities
 
 abbrev pub slot : ℕ → List ℕ → Atom → List ℕ
-slot c arities a = a .pred ∷ pad 3 (a .args) ++ bytes2 (firstAtom c arities (a .pred))
+slot c arities a = a .pred ∷ pad 3 (a .args) ++ lowBytes 2 (firstAtom c arities (a .pred))
 
 abbrev pub slots : ℕ → List ℕ → List Atom → List ℕ
 slots c arities atoms = pad 24 (flatMap (slot c arities) atoms)
 
 abbrev pub clauseRecord : ℕ → List ℕ → ℕ → Clause → List ℕ
 clauseRecord c arities before k =
-    length (k .conds) ∷ length (k .alts) ∷ k .vars ∷ 0 ∷ bytes2 (c ^ k .vars) ++ bytes2 before ++ slots c arities (k .conds) ++ slots c arities (k .alts)
+    length (k .conds) ∷ length (k .alts) ∷ k .vars ∷ 0 ∷ lowBytes 2 (c ^ k .vars) ++ lowBytes 2 before ++ slots c arities (k .conds) ++ slots c arities (k .alts)
 
 abbrev pub clauseRecords : ℕ → List ℕ → ℕ → List Clause → List ℕ
 clauseRecords c arities before [] = []
@@ -36,7 +37,7 @@ clauseRecords c arities before (k ∷ ks) = clauseRecord c arities before k ++ c
 
 abbrev pub heading : Problem → List ℕ
 heading q =
-    q .constants ∷ length (q .arities) ∷ length (q .clauses) ∷ 0 ∷ q .limit ++ bytes2 (atomCount (q .constants) (q .arities)) ++ replicate 6 0
+    q .constants ∷ length (q .arities) ∷ length (q .clauses) ∷ 0 ∷ q .limit ++ lowBytes 2 (atomCount (q .constants) (q .arities)) ++ replicate 6 0
 
 unfoldable pub layout : Problem → List ℕ
 layout q =

@@ -2,9 +2,10 @@
 -- byte, or no 0A at the end".
 use Prim.Native.Nat.{ℕ, zero, suc, _+_, _*_, _/_, _%_}
 use mathlib.Core.Bool.{Bool, cond, _&&_}
-use mathlib.Core.List.{List}
+use mathlib.Core.List.{List, [], _∷_}
 use lib.Dec.{eqb, ltb}
 use lib.ListN.{length, getD}
+use Rattle.lists.specs.Digits.{horner}
 use Rattle.lists.specs.Tabulate.{tabulate}
 use Rattle.problem.specs.declared.line.Line.{Line}
 use Rattle.problem.specs.declared.line.Line.the-variants.{Absent, Bad, Holds}
@@ -28,7 +29,7 @@ lineAt x at = cond (ltb at (length x)) (lineOf x at (run x at 71)) Absent
 
 -- the byte that two digits from a place on stand for
 unfoldable pub byteAt : List ℕ → ℕ → ℕ
-byteAt x at = 16 * digitOf (getD x at 0) + digitOf (getD x (suc at) 0)
+byteAt x at = horner 16 (digitOf (getD x at 0) ∷ digitOf (getD x (suc at) 0) ∷ [])
 
 -- the n bytes of the line that starts at a place
 unfoldable pub frameAt : List ℕ → ℕ → ℕ → List ℕ

@@ -4,6 +4,7 @@ use mathlib.Core.List.{List, [], _∷_}
 use mathlib.Core.Logic.{_⊎_}
 use mathlib.Core.Path.{_≡_}
 use lib.ListN.{length, take, getD}
+use Rattle.lists.specs.Digits.{horner}
 use Rattle.lists.specs.Member.{All, Any}
 
 -- an argument is a constant, or 128 and the number of a variable
@@ -42,9 +43,9 @@ abbrev pub weights : ℕ → List Clause → ℕ
 weights c [] = 0
 weights c (k ∷ ks) = weight c k + weights c ks
 
--- the limit as a number
+-- the limit as a number: "4 bytes, high byte first"
 abbrev pub limitOf : List ℕ → ℕ
-limitOf bs = ((getD bs 0 0 * 256 + getD bs 1 0) * 256 + getD bs 2 0) * 256 + getD bs 3 0
+limitOf bs = horner 256 bs
 
 -- a constant below c, or one of the first v variables
 abbrev pub ArgFits : ℕ → ℕ → ℕ → Type 0

@@ -7,7 +7,7 @@ use native.Mathlib.Numerals.{add-one}
 use native.Mathlib.Omega.{arith}
 use lib.ListN.{length, take, drop, getD, set}
 use lib.Seq.{getD-set-same, getD-set-other, split-at, drop-cons}
-use Rattle.lists.proofs.Bytes.{bytes2-back}
+use Rattle.lists.proofs.Digits.{two-back}
 use Rattle.search.specs.Ground.{Found, split}
 use Rattle.search.specs.Machine.{Branch, entered, enter, back, Genuine}
 use Rattle.walk.specs.contracts.Walker.{Site, Walker, Sound}
@@ -63,10 +63,10 @@ module _ (path : List ℕ) (depth number a b c d mark : ℕ) (room : Room path d
       record {
         number-is =
             rw (stored-first path (nodeAt depth) (number % 256) (number / 256 % 256) a b c d 0 (mark % 256) (mark / 256 % 256) fits, byte 1 (omega arith))
-            (bytes2-back number few);
+            (two-back number few);
         four = rw (byte 2 (omega arith), byte 3 (omega arith), byte 4 (omega arith), byte 5 (omega arith));
         next = byte 6 (omega arith);
-        mark-is = rw (byte 7 (omega arith), byte 8 (omega arith)) (bytes2-back mark small);
+        mark-is = rw (byte 7 (omega arith), byte 8 (omega arith)) (two-back mark small);
         before = λ i l. stored-before path (nodeAt depth) (number % 256) (number / 256 % 256) a b c d 0 (mark % 256) (mark / 256 % 256) fits i l;
       }
 

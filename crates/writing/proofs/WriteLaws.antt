@@ -11,6 +11,7 @@ use lib.Seq.{take-at, set-split}
 use borrow.Author.Tests.{lt-ltb, le-ltb}
 use Rattle.lists.specs.Bytes.{sameList}
 use Rattle.lists.specs.Tabulate.{tabulate}
+use Rattle.lists.proofs.Digits.{digits-top}
 use Rattle.lists.proofs.Bytes.{tabulate-part, splice-none, splice-then}
 use Rattle.lists.proofs.Member.{flat-append, flat-snoc}
 use Rattle.lists.proofs.Tabulate.{tabulate-length}
@@ -60,13 +61,13 @@ put-one e a b h =
       leaves = set-split e a b h ∙ rw (add-one, append-assoc);
     }
 
-pub put-two : (e : List ℕ) (a b c d : ℕ) → a + 2 ≤ length e → c ≡ getD digits (b / 16) 0 → d ≡ getD digits (b % 16) 0
+pub put-two : (e : List ℕ) (a b c d : ℕ) → b < 256 → a + 2 ≤ length e → c ≡ getD digits (b / 16) 0 → d ≡ getD digits (b % 16) 0
     → Put e a (hexByte b) 2 (a + 2) (set (set e a c) (a + 1) d)
 unfolding hexByte
-put-two e a b c d h p q =
+put-two e a b c d small h p q =
     let two : a + 1 + 1 ≡ a + 2 = omega arith in
     let room : a + 1 + 1 ≤ length e = omega arith in
-    let bytes : _≡_ {A = List ℕ} (c ∷ d ∷ []) (hexByte b) = rw (p, q) in
+    let bytes : _≡_ {A = List ℕ} (c ∷ d ∷ []) (hexByte b) = rw (p, q, digits-top 16 1 b small) in
     subst
     (λ (n : ℕ). Put e a (hexByte b) 2 n (set (set e a c) (a + 1) d))
     two

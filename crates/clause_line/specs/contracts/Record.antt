@@ -3,7 +3,8 @@ use Prim.Native.Nat.{ℕ, _+_, _*_, _≤_, _<_}
 use mathlib.Core.List.{List, [], _∷_, _++_}
 use mathlib.Core.Path.{_≡_}
 use lib.ListN.{length, take, drop, getD}
-use Rattle.lists.specs.Bytes.{pad, bytes2}
+use Rattle.lists.specs.Bytes.{pad}
+use Rattle.lists.specs.Digits.{lowBytes}
 use Rattle.problem.specs.declared.judge.Judged.{Judged}
 use Rattle.problem.specs.declared.judge.Judged.the-variants.{Found}
 use Rattle.problem.specs.declared.judge.Span.{Span}
@@ -17,7 +18,7 @@ pub record Indexed (tb : List ℕ) : Type 0 where
   pub size : length tb ≡ 4096
   pub constants-fit : getD tb 0 0 ≤ 32
   pub predicates-fit : getD tb 1 0 ≤ 32
-  pub firsts : (j : ℕ) → j < getD tb 1 0 → getD tb (17 + 4 * j) 0 ∷ getD tb (18 + 4 * j) 0 ∷ [] ≡ bytes2 (firstAtom (getD tb 0 0) (aritiesIn tb) j)
+  pub firsts : (j : ℕ) → j < getD tb 1 0 → getD tb (17 + 4 * j) 0 ∷ getD tb (18 + 4 * j) 0 ∷ [] ≡ lowBytes 2 (firstAtom (getD tb 0 0) (aritiesIn tb) j)
 
 pub record ArgsFilled (c : ℕ) (f : List ℕ) (count j v : ℕ) (r : Span) (part : List ℕ) : Type 0 where
   pub span : r ≡ judgeArgs c f count j v
@@ -47,4 +48,4 @@ module _ (tb f : List ℕ) where
 
 -- a record with its first eight bytes
 abbrev pub recordHead : ℕ → ℕ → ℕ → ℕ → ℕ → List ℕ → List ℕ
-recordHead conds alts v instances before rec = conds ∷ alts ∷ v ∷ 0 ∷ bytes2 instances ++ bytes2 before ++ drop 8 rec
+recordHead conds alts v instances before rec = conds ∷ alts ∷ v ∷ 0 ∷ lowBytes 2 instances ++ lowBytes 2 before ++ drop 8 rec

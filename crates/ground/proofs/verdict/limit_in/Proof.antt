@@ -1,4 +1,5 @@
 -- `ground::verdict::limit_in` meets its contract.
+use native.Mathlib.Omega.{arith}
 use borrow.Author.Needs.{needs}
 use mathlib.Core.Path.{sym, _∙_}
 use Rattle.ground.proofs.VerdictLaws.{limit-bytes}
@@ -14,4 +15,4 @@ limit-in-spec =
     (λ c. search needs)
     (λ c. search needs)
     (λ c κs. search needs)
-    (λ c. c .number-of .ensures ∙ sym (limit-bytes (c .before .before .before .before .before .before .args .table .now))))  -- returns
+    (λ c. c .number-of .ensures ∙ sym (limit-bytes (c .before .before .before .before .before .before .args .table .now) (omega arith))))  -- returns

@@ -11,6 +11,7 @@ use Rattle.ground.proofs.Sites.{turning-below, turning-on}
 use Rattle.rewriting.specs.Facts.{theRule}
 use Rattle.magic_node.specs.contracts.Choosing.{readySite}
 use Rattle.magic_node.specs.contracts.Applied.{ownValues}
+use Rattle.magic_node.proofs.FactLaws.{pair-at}
 use Rattle.magic_node.proofs.RuledLaws.{RuleRead, rule-read}
 use Rattle.magic_node.proofs.ChooseLaws.{siteWith, RuleTurn, choose-never, choose-past, choose-from, choose-here, choose-none}
 use Rattle.magic_node.proofs.choose.choose_of.Statement.{statement}
@@ -30,7 +31,9 @@ read s = rule-read (s .args .rules .now) (s .pre .0) (s .args .q) (s .pre .1 .0 
 counted : (c : tie.After-pair-of Inv-loop μ-loop) → (
     let a = c .before .before .before .before .before .args in
     c .pair-of .result ≡ getD (a .rules .now) 0 0 ^ (theRule (a .rules .now) (a .q)) .vars)
-counted c = c .pair-of .ensures ∙ read (c .before .before .before .before .before) .instances
+counted c =
+    let s = c .before .before .before .before .before in
+    c .pair-of .ensures ∙ pair-at (s .args .rules .now) (s .args .q) 6 ∙ read s .instances
 
 below : (c : tie.In-loop Inv-loop μ-loop) → (
     let a = c .before .before .before .before .before .before .before .before .before .before .before .args in
@@ -64,7 +67,7 @@ choose-of-spec =
     sym (choose-past (s .args .rules .now) (s .pre .0) (s .args .r .now) (s .args .q) (s .args .rank) (s .pre .1 .0 .0) (s .pre .1 .1) (omega (arith, counted (c .before), c .if2 .taken))))  -- returns-2
     (λ c. omega (arith, read (c .before .before .before .before .before .before .before) .size))  -- shared-slice-read-c
     (λ c κs. let s = c .before .before .before .before .before .before .before in (s .pre .0, (s .pre .1 .0 .0, omega arith)))  -- byte-of-requires
-    (λ c κs. let s = c .before .before .before .before .before .before .before .before in (s .pre .0, (s .pre .1 .0 .0, omega (arith, c .before .before .if2 .left, c .before .before .before .pair-of .ensures))))  -- values-at-requires
+    (λ c κs. let s = c .before .before .before .before .before .before .before .before in (s .pre .0, (s .pre .1 .0 .0, omega (arith, c .before .before .if2 .left, c .before .before .before .pair-of .ensures ∙ pair-at (s .args .rules .now) (s .args .q) 6))))  -- values-at-requires
     (λ c.
     let s = c .before .before .before .before .before .before .before .before .before in
     choose-from (s .args .rules .now) (s .pre .0) (s .args .r .now) (s .args .q) (s .args .rank) (s .pre .1 .0 .0) (s .pre .1 .1) (omega (arith, c .before .before .before .if2 .left, counted (c .before .before .before .before))) (c .values-at .result) (c .values-at .ensures))  -- loop-holds

@@ -1,10 +1,11 @@
 -- `text_line::line::frame_byte` meets its contract.
 use Prim.Native.Nat.{_+_, _*_, _<_}
-use mathlib.Core.Path.{_≡_}
+use mathlib.Core.Path.{_≡_, sym}
 use native.Mathlib.Numerals.{add-one}
 use native.Mathlib.Omega.{arith}
 use borrow.Author.Needs.{needs}
 use lib.ListN.{length}
+use Rattle.lists.proofs.Digits.{horner-two}
 use Rattle.problem.specs.Line.{byteAt}
 use Rattle.problem.proofs.Digits.{digit-small}
 use Rattle.problem.proofs.Lines.{line-room, line-digits, frame-byte}
@@ -44,4 +45,5 @@ frame-byte-spec =
     (λ c. omega (arith, high (c .before .before), low c))  -- add-result
     (λ c.
     let s = c .before .before .before .before .before in
-    rw (frame-byte (s .args .text .now) (s .args .at) (s .args .n) (s .args .j) (s .pre .1), c .before .before .digit .ensures, c .digit2 .ensures, add-one)))  -- returns
+    rw (frame-byte (s .args .text .now) (s .args .at) (s .args .n) (s .args .j) (s .pre .1), c .before .before .digit .ensures, c .digit2 .ensures, add-one)
+    (sym (horner-two 16 _ _))))  -- returns

@@ -19,4 +19,4 @@ put-byte-spec =
     (λ c. search needs)  -- same-length
     (λ c.
     let s = c .before .before .before in
-    put-two (s .args .out .now) (s .args .at) (s .args .b) (c .before .digit-of .result) (c .digit-of2 .result) (s .pre) (c .before .digit-of .ensures) (c .digit-of2 .ensures)))  -- returns
+    put-two (s .args .out .now) (s .args .at) (s .args .b) (c .before .digit-of .result) (c .digit-of2 .result) (omega arith) (s .pre) (c .before .digit-of .ensures) (c .digit-of2 .ensures)))  -- returns

@@ -1,0 +1,25 @@
+-- The claims of `specs/Claims.antt`, proved.
+use mathlib.Core.Path.{refl}
+use native.Mathlib.Nat.{pow-zero, pow-succ'}
+use Rattle.lists.specs.Claims.{Theorems}
+use Rattle.lists.proofs.Digits.{horner-cons, digits-length, digits-fit, horner-digits, horner-below, digits-horner, horner-mod, tuples-at, digits-first, low-back}
+use Rattle.lists.proofs.Member.{lead-all, all-lead}
+
+pub theorems : Theorems
+theorems =
+    record {
+      no-power = pow-zero;
+      next-power = pow-succ';
+      no-digit = λ c. refl;
+      first-slowest = horner-cons;
+      digits-many = digits-length;
+      digits-below = digits-fit;
+      number-back = horner-digits;
+      number-below = horner-below;
+      digits-back = digits-horner;
+      kept = horner-mod;
+      listed = tuples-at;
+      first-digit = λ c w n h. digits-first c w n;
+      low-back = low-back;
+      leads = λ t atoms. (lead-all t atoms, all-lead t atoms);
+    }
