@@ -17,9 +17,9 @@ use Rattle.lists.proofs.Tabulate.{tabulate-length, tabulate-at, tabulate-same, 
 use Rattle.problem.specs.Problem.{Problem, atomCount, firstAtom}
 use Rattle.problem.proofs.Access.{atoms-upto}
 use Rattle.problem.proofs.TableLayout.{atomCount-snoc}
-use Rattle.ground.specs.Instance.{Instance, GroundAtom, groundNumber, clauseOf, instancesOf, groundOf}
+use Rattle.ground.specs.Instance.{Instance, GroundAtom, InstanceOf, groundNumber, clauseOf, instancesOf, groundOf}
 use Rattle.ground.specs.Report.{atomsInOrder}
-use Rattle.ground.specs.Claims.{Listed, listedNumber, InstanceOf}
+use Rattle.ground.specs.Claims.{Listed, listedNumber}
 use Rattle.ground.proofs.Instances.{number-apart}
 
 -- ---- the atoms

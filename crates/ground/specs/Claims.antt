@@ -3,14 +3,13 @@ use Prim.Native.Nat.{ℕ, _<_}
 use mathlib.Core.List.{List, [], _∷_, _++_, map}
 use mathlib.Core.Logic.{_↔_, _⊎_}
 use mathlib.Core.Path.{_≡_}
-use lib.ListN.{length}
 use Rattle.lists.specs.Digits.{horner}
 use Rattle.lists.specs.Member.{All, Any}
 use Rattle.lists.specs.Tabulate.{tabulate}
 use Rattle.search.specs.Ground.{Proper}
 use Rattle.problem.specs.Problem.{Problem, Fits, atomCount}
 use Rattle.ground.specs.Cases.{CasesHold}
-use Rattle.ground.specs.Instance.{Instance, GroundAtom, AtomOf, groundNumber, clauseOf, groundOf}
+use Rattle.ground.specs.Instance.{Instance, GroundAtom, AtomOf, InstanceOf, groundNumber, groundOf}
 use Rattle.ground.specs.Report.{atomsInOrder}
 
 -- an atom as it is printed, its predicate and then its arguments: a ground atom, and its number
@@ -21,12 +20,6 @@ Listed q (p ∷ args) = GroundAtom (q .constants) (q .arities) p args
 abbrev pub listedNumber : Problem → List ℕ → ℕ
 listedNumber q [] = 0
 listedNumber q (p ∷ args) = groundNumber (q .constants) (q .arities) p args
-
--- an instance: a clause, and a constant for each of its variables
-pub record InstanceOf (q : Problem) (i : Instance) : Type 0 where
-  pub known : i .clause < length (q .clauses)
-  pub each-variable : length (i .values) ≡ (clauseOf q (i .clause)) .vars
-  pub constants : All (λ d. d < q .constants) (i .values)
 
 pub record Theorems : Type 0 where
   -- different ground atoms have different numbers, and every number below A is that of one
