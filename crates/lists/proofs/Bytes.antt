@@ -6,7 +6,7 @@ use native.Mathlib.Nat.{add-zero, zero-add, suc-add, add-assoc, mul-zero, mul-su
 use native.Mathlib.Omega.{arith}
 use lib.Dec.{T, eqb, eqb→eq, eqb-refl}
 use lib.ListN.{length, take, drop, getD, set, replicate, length-append, length-replicate, length-take, length-drop, replicate-append-replicate, drop-of-length-le, take-append-drop, List·getD-append}
-use lib.Seq.{set-at, set-append-seam, take-at, drop-at, getD-append-add, getD-take, getD-drop, drop-append-add, drop-drop, length-take-le, ext-getD}
+use lib.Seq.{set-at, set-append-seam, take-at, drop-at, getD-append-add, getD-take, getD-drop, drop-nil, drop-append-add, drop-drop, length-take-le, ext-getD}
 use Rattle.lists.specs.Bytes.{pad, sameList, spliced}
 use Rattle.lists.specs.Member.{All}
 use Rattle.lists.specs.Tabulate.{tabulate}
@@ -23,6 +23,12 @@ all-at P (x ∷ xs) d (suc i) h a = all-at P xs d i (omega arith) (a .1)
 -- element i after the first n
 pub getD-skip : (xs ys : List ℕ) (n i : ℕ) → length xs ≡ n → getD (xs ++ ys) (n + i) 0 ≡ getD ys i 0
 getD-skip xs ys n i e = rw (← e) (getD-append-add xs ys i 0)
+
+-- the element that a list's end begins with, and the end after it
+pub drop-next : (xs : List ℕ) (i b : ℕ) (rest : List ℕ) → drop i xs ≡ b ∷ rest → (i < length xs) × (getD xs i 0 ≡ b) × (drop (suc i) xs ≡ rest)
+drop-next [] i b rest e = let z : _≡_ {A = ℕ} 0 1 = cc (drop-nil {A = ℕ} i) in absurd (omega arith)
+drop-next (x ∷ xs) zero b rest e = (omega arith, (cc), (cc))
+drop-next (x ∷ xs) (suc i) b rest e = let r = drop-next xs i b rest e in (omega arith, r .1, r .2)
 
 -- a list is what its elements make
 pub tabulate-of : {A : Type 0} (f : ℕ → A) (d : A) (xs : List A) (n : ℕ) → n ≡ length xs → ((i : ℕ) → i < length xs → f i ≡ getD xs i d) → tabulate f n ≡ xs

@@ -82,3 +82,14 @@ module _ (h l : ℕ) (p : T (isDigit h)) (q : T (isDigit l)) where
   unfolding hexByte
   hex-back =
       ap (map (λ d. getD digits d 0)) (digits-horner 16 (digitOf h ∷ digitOf l ∷ []) small-each) ∙ rw (digit-back h p, digit-back l q)
+
+-- the pair of digits of a byte stands for it
+abbrev spelled : ℕ → Bool
+spelled b =
+    let h = getD (hexByte b) 0 0 in
+    let l = getD (hexByte b) 1 0 in
+    isDigit h && isDigit l && eqb (horner 16 (digitOf h ∷ digitOf l ∷ [])) b
+
+pub hex-spelled : (b : ℕ) → b < 256 → T (spelled b)
+unfolding digitOf isDigit hexByte
+hex-spelled b h = passes-at spelled 256 tt b h

@@ -6,25 +6,34 @@ use mathlib.Core.Logic.{_⊎_, inl, inr}
 use mathlib.Core.Path.{_≡_, refl, sym, ap, subst, _∙_}
 use native.Mathlib.Omega.{arith}
 use lib.Dec.{T, eqb, ltb, leb, eqb→eq, ltb→lt, nltb→le, leb→le}
-use lib.ListN.{length, take, drop, getD, length-drop, take-append-drop}
+use lib.ListN.{length, take, drop, getD, length-append, length-drop, take-append-drop}
 use lib.Seq.{drop-cons, drop-drop, take-all, drop-length, length-take-le}
 use Rattle.lists.specs.Member.{All, Any}
 use Rattle.lists.proofs.Test.{T-left, T-right, decided}
-use Rattle.lists.proofs.Member.{all-map}
+use Rattle.lists.proofs.Member.{all-map, any-flat, flat-append}
 use Rattle.problem.specs.declared.judge.Judged.{Judged}
 use Rattle.problem.specs.declared.judge.Judged.the-variants.{Fault, Found}
 use Rattle.problem.specs.declared.judge.Span.{Span}
 use Rattle.problem.specs.declared.judge.Span.the-variants.{Broken, Reached}
 use Rattle.problem.specs.declared.judge.Heading.{Heading}
 use Rattle.problem.specs.declared.judge.Heading.the-variants.{Wrong, Sizes}
-use Rattle.problem.specs.Problem.{Atom, ArgFits, AtomFits, ClauseFits, weight}
+use Rattle.problem.specs.Problem.{Atom, ArgFits, AtomFits, VariablesInOrder, ClauseFits, weight}
 use Rattle.problem.specs.Judge.{judgeSizes, judgeHeading, judgeArity, judgeVariable, judgeArg, judgeArgs, judgeAtom, judgeAtoms, judgeEnd, judgeBody, judgeClause, atomAt, afterAtom, atomsAt, afterAtoms, clauseAt}
 use Rattle.problem.specs.Print.{atomBytes, arityFrame, clauseFrame}
+use Rattle.problem.proofs.Variables.{Stands, InOrderFrom, order-none, order-append}
 
 -- where the answer is none that a failed test gives, the test passed
 pub passed : {R : Type 0} (b : Bool) (r missing t : R) → (missing ≡ t → ⊥) → cond b r missing ≡ t → T b × (r ≡ t)
 passed true r missing t f e = (tt, e)
 passed false r missing t f e = absurd (f e)
+
+-- by either way of a test
+tested : {R S : Type 0} (a b : ℕ) (r other t : R) → cond (ltb a b) r other ≡ t → (a < b → r ≡ t → S) → (b ≤ a → other ≡ t → S) → S
+tested {R} {S} a b r other t e f g = go (ltb a b) (ltb→lt a b) (nltb→le a b) e
+  where
+    go : (d : Bool) → (T d → a < b) → (T (not d) → b ≤ a) → cond d r other ≡ t → S
+    go true l m q = f (l tt) q
+    go false l m q = g (m tt) q
 
 pub wrong-sizes : (e c p : ℕ) → _≡_ {A = Heading} (Wrong e) (Sizes c p) → ⊥
 wrong-sizes e c p q = let z : _≡_ {A = ℕ} 0 1 = cc in omega arith
@@ -110,7 +119,7 @@ pub record ArgJudged (c v w b : ℕ) : Type 0 where
 
 pub arg-found : (c v b w : ℕ) → judgeArg c v b ≡ Found w → ArgJudged c v w b
 unfolding judgeArg judgeVariable
-arg-found c v b w e = go (ltb b 32) (ltb→lt b 32) e
+arg-found c v b w e = tested b _ _ _ _ e (λ l q. constant (omega arith) q) (λ l q. variable q)
   where
     old : v ≡ w → ArgFits c v b → ArgJudged c v w b
     old same fit =
@@ -137,22 +146,26 @@ arg-found c v b w e = go (ltb b 32) (ltb→lt b 32) e
         let found : _≡_ {A = Judged} (Found (suc v)) (Found w) = p .1 in
         new low high (eqb→eq (b - 128) v (p .0)) (cc)
 
-    seen : 128 ≤ b → b < 132 → (t : Bool) → (T t → b - 128 < v)
-        → cond t (Found v) (cond (eqb (b - 128) v) (Found (suc v)) (Fault 7)) ≡ Found w → ArgJudged c v w b
-    seen low high true f q = let l : b - 128 < v = f tt in old (cc) (inr (low, omega arith))
-    seen low high false f q = next low high q
+    seen : 128 ≤ b → b < 132 → b - 128 < v → _≡_ {A = Judged} (Found v) (Found w) → ArgJudged c v w b
+    seen low high l q = old (cc) (inr (low, omega arith))
 
-    go : (t : Bool) → (T t → b < 32)
-        → cond t
-        (cond (ltb b c) (Found v) (Fault 6))
-        (cond (leb 128 b && ltb b 132) (cond (ltb (b - 128) v) (Found v) (cond (eqb (b - 128) v) (Found (suc v)) (Fault 7))) (Fault 6))
-        ≡ Found w → ArgJudged c v w b
-    go true f q = constant (f tt) q
-    go false f q =
+    variable : cond (leb 128 b && ltb b 132) (cond (ltb (b - 128) v) (Found v) (cond (eqb (b - 128) v) (Found (suc v)) (Fault 7))) (Fault 6) ≡ Found w → ArgJudged c v w b
+    variable q =
         let p = passed (leb 128 b && ltb b 132) _ _ _ (fault-found 6 w) q in
         let low : 128 ≤ b = leb→le 128 b (T-left (leb 128 b) (ltb b 132) (p .0)) in
         let high : b < 132 = ltb→lt b 132 (T-right (leb 128 b) (ltb b 132) (p .0)) in
-        seen low high (ltb (b - 128) v) (ltb→lt (b - 128) v) (p .1)
+        tested (b - 128) v _ _ _ (p .1) (λ l s. seen low high l s) (λ l s. next low high s)
+
+-- a variable that is judged is at most the next one
+arg-ordered : (c v w b : ℕ) → ArgJudged c v w b → InOrderFrom v (b ∷ [])
+arg-ordered c v w b a [] back x e y l h =
+    let is : b ≡ 128 + x = cc in
+    absurd (below is (a .fits))
+  where
+    below : b ≡ 128 + x → ArgFits c w b → ⊥
+    below is (inl p) = omega arith
+    below is (inr p) = omega (arith, a .named y l (omega arith))
+arg-ordered c v w b a (d ∷ front) back x e y l h = absurd (omega (arith, simp length-append at (ap length e)))
 
 pub arg-grows : (c v w : ℕ) → v ≤ w → (b : ℕ) → ArgFits c v b → ArgFits c w b
 arg-grows c v w h b (inl p) = inl p
@@ -165,7 +178,8 @@ pub record ArgsJudged (c : ℕ) (f : List ℕ) (n j v i w : ℕ) : Type 0 where
   pub grows : v ≤ w
   pub few : v ≤ 4 → w ≤ 4
   pub fit : All (ArgFits c w) (take n (drop j f))
-  pub named : (x : ℕ) → v ≤ x → x < w → Any (λ b. b ≡ 128 + x) (take n (drop j f))
+  pub named : (x : ℕ) → v ≤ x → x < w → Stands x (take n (drop j f))
+  pub ordered : InOrderFrom v (take n (drop j f))
 
 module _ (c : ℕ) (f : List ℕ) (n j v i u w : ℕ) where
   args-more : j < length f → ArgJudged c v u (getD f j 0) → ArgsJudged c f n (suc j) u i w → ArgsJudged c f (suc n) j v i w
@@ -178,12 +192,15 @@ module _ (c : ℕ) (f : List ℕ) (n j v i u w : ℕ) where
         few = λ l. as-judged .few (a .few l);
         fit = rw front (arg-grows c u w (as-judged .grows) (getD f j 0) (a .fits), as-judged .fit);
         named = λ x l k. rw front (pick x l k);
+        ordered =
+            rw front
+            (order-append v u (getD f j 0 ∷ []) (take n (drop (suc j) f)) (arg-ordered c v u (getD f j 0) a) (λ x l k. inl (a .named x l k)) (as-judged .ordered));
       }
     where
-      pick : (x : ℕ) → v ≤ x → x < w → (getD f j 0 ≡ 128 + x) ⊎ Any (λ b. b ≡ 128 + x) (take n (drop (suc j) f))
+      pick : (x : ℕ) → v ≤ x → x < w → (getD f j 0 ≡ 128 + x) ⊎ Stands x (take n (drop (suc j) f))
       pick x l k = go (decided (ltb x u))
         where
-          go : T (ltb x u) ⊎ T (not (ltb x u)) → (getD f j 0 ≡ 128 + x) ⊎ Any (λ b. b ≡ 128 + x) (take n (drop (suc j) f))
+          go : T (ltb x u) ⊎ T (not (ltb x u)) → (getD f j 0 ≡ 128 + x) ⊎ Stands x (take n (drop (suc j) f))
           go (inl t) = inl (a .named x l (ltb→lt x u t))
           go (inr t) = inr (as-judged .named x (nltb→le x u t) k)
 
@@ -199,6 +216,7 @@ args-reached c f zero j v i w e =
       few = λ l. omega arith;
       fit = tt;
       named = λ x l k. omega arith;
+      ordered = order-none v;
     }
 args-reached c f (suc n) j v i w e =
     let p = passed (ltb j (length f)) _ _ _ (broken-reached 3 i w) e in
@@ -212,7 +230,7 @@ args-reached c f (suc n) j v i w e =
 
 -- the variable x stands in an atom
 abbrev pub Names : ℕ → Atom → Type 0
-Names x a = Any (λ b. b ≡ 128 + x) (a .args)
+Names x a = Stands x (a .args)
 
 -- an atom from byte j to byte i
 pub record AtomJudged (c : ℕ) (arities f : List ℕ) (j v i w : ℕ) : Type 0 where
@@ -222,6 +240,7 @@ pub record AtomJudged (c : ℕ) (arities f : List ℕ) (j v i w : ℕ) : Type 0 
   pub few : v ≤ 4 → w ≤ 4
   pub fits : AtomFits c arities w (atomAt arities f j)
   pub named : (x : ℕ) → v ≤ x → x < w → Names x (atomAt arities f j)
+  pub ordered : InOrderFrom v ((atomAt arities f j) .args)
 
 pub atom-reached : (c : ℕ) (arities f : List ℕ) (j v i w : ℕ) → judgeAtom c arities f j v ≡ Reached i w → AtomJudged c arities f j v i w
 unfolding judgeAtom
@@ -244,6 +263,7 @@ atom-reached c arities f j v i w e =
         args-fit = r .fit;
       };
       named = r .named;
+      ordered = r .ordered;
     }
 
 pub atom-grows : (c : ℕ) (arities : List ℕ) (v w : ℕ) → v ≤ w → (a : Atom) → AtomFits c arities v a → AtomFits c arities w a
@@ -258,6 +278,10 @@ pub atoms-length : (arities f : List ℕ) (n j : ℕ) → length (atomsAt aritie
 atoms-length arities f zero j = refl
 atoms-length arities f (suc n) j = ap suc (atoms-length arities f n (afterAtom arities f j))
 
+-- the arguments of atoms
+abbrev pub argumentsIn : List Atom → List ℕ
+argumentsIn atoms = flatMap (λ a. a .args) atoms
+
 -- n atoms from byte j to byte i
 pub record AtomsJudged (c : ℕ) (arities f : List ℕ) (n j v i w : ℕ) : Type 0 where
   pub place : i ≡ afterAtoms arities f n j
@@ -266,6 +290,7 @@ pub record AtomsJudged (c : ℕ) (arities f : List ℕ) (n j v i w : ℕ) : Type
   pub few : v ≤ 4 → w ≤ 4
   pub fit : All (AtomFits c arities w) (atomsAt arities f n j)
   pub named : (x : ℕ) → v ≤ x → x < w → Any (Names x) (atomsAt arities f n j)
+  pub ordered : InOrderFrom v (argumentsIn (atomsAt arities f n j))
 
 module _ (c : ℕ) (arities f : List ℕ) (n j v k u i w : ℕ) where
   atoms-more : AtomJudged c arities f j v k u → AtomsJudged c arities f n k u i w → AtomsJudged c arities f (suc n) j v i w
@@ -279,6 +304,7 @@ module _ (c : ℕ) (arities f : List ℕ) (n j v k u i w : ℕ) where
         few = λ h. r .few (a .few h);
         fit = (atom-grows c arities u w (r .grows) (atomAt arities f j) (a .fits), rw (← rest) (r .fit));
         named = λ x l h. rw (← rest) (pick x l h (decided (ltb x u)));
+        ordered = rw (← rest) (order-append v u ((atomAt arities f j) .args) (argumentsIn (atomsAt arities f n k)) (a .ordered) (a .named) (r .ordered));
       }
     where
       pick : (x : ℕ) → v ≤ x → x < w → T (ltb x u) ⊎ T (not (ltb x u)) → Names x (atomAt arities f j) ⊎ Any (Names x) (atomsAt arities f n k)
@@ -297,6 +323,7 @@ atoms-reached c arities f zero j v i w e =
       few = λ l. omega arith;
       fit = tt;
       named = λ x l k. omega arith;
+      ordered = order-none v;
     }
 atoms-reached c arities f (suc n) j v i w e =
     go (judgeAtom c arities f j v) refl (λ k u. atoms-reached c arities f n k u i w) e
@@ -336,6 +363,17 @@ pub record ClauseJudged (c : ℕ) (arities : List ℕ) (sum : ℕ) (f : List ℕ
   pub light : sum + weight c (clauseAt arities f v) ≤ 16384
 
 module _ (c : ℕ) (arities : List ℕ) (sum : ℕ) (f : List ℕ) (v : ℕ) where
+  -- what the alternatives name is named by the conditions
+  clause-ordered : (i j n m : ℕ) → AtomsJudged c arities f n 3 0 i v → AtomsJudged c arities f m i v j v
+      → VariablesInOrder (argumentsIn (atomsAt arities f n 3 ++ atomsAt arities f m i))
+  clause-ordered i j n m conds alts front back x e y =
+      let first = atomsAt arities f n 3 in
+      let second = atomsAt arities f m i in
+      let parts : argumentsIn first ++ argumentsIn second ≡ front ++ ((128 + x) ∷ back) = sym (flat-append (λ a. a .args) first second) ∙ e in
+      order-append 0 v (argumentsIn first) (argumentsIn second) (conds .ordered)
+      (λ z l h. any-flat (λ a. a .args) (λ b. b ≡ 128 + z) first (conds .named z l h))
+      (alts .ordered) front back x parts y (omega arith)
+
   clause-parts : getD f 0 0 ≡ 3 → 2 < length f → getD f 1 0 < 5 → getD f 2 0 < 5 → (i j : ℕ)
       → AtomsJudged c arities f (getD f 1 0) 3 0 i v → AtomsJudged c arities f (getD f 2 0) i v j v → j ≡ length f → sum + getD f 1 0 * c ^ v ≤ 16384
       → ClauseJudged c arities sum f v
@@ -360,6 +398,7 @@ module _ (c : ℕ) (arities : List ℕ) (sum : ℕ) (f : List ℕ) (v : ℕ) whe
           conds-fit = conds .fit;
           alts-fit = rw (← rest) (alts .fit);
           named = λ x h. conds .named x (omega arith) h;
+          in-order = rw (← rest) (clause-ordered i j n m conds alts);
         };
         light = rw first light;
       }

@@ -1,7 +1,11 @@
 pub mod Digits
 pub mod Lines
+pub mod Variables
 pub mod Judges
 pub mod TableLayout
 pub mod Parse
+pub mod WellFormed
+pub mod Accepted
+pub mod Refusals
 pub mod Access
 pub mod Theorems

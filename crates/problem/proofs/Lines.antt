@@ -1,24 +1,26 @@
--- Laws of a line: what stands in the text where a line holds n bytes, and that its frame, printed, is that text.
+-- Laws of a line: what stands in the text where a line holds n bytes, that its frame, printed, is that text, and that a frame printed is a line.
 use Prim.Native.Nat.{ℕ, zero, suc, _+_, _-_, _*_, _/_, _%_, _≤_, _<_}
 use mathlib.Core.Bool.{Bool, true, false, not, cond, _&&_}
-use mathlib.Core.List.{List, _∷_, _++_, append-assoc, flatMap}
+use mathlib.Core.List.{List, [], _∷_, _++_, append-assoc, flatMap}
 use mathlib.Core.Logic.{_⊎_, inl, inr}
 use mathlib.Core.Path.{_≡_, refl, sym, subst, _∙_}
 use native.Mathlib.Nat.{add-zero}
 use native.Mathlib.Omega.{arith}
-use borrow.Author.Tests.{lt-ltb, le-ltb}
+use borrow.Author.Tests.{lt-ltb, le-ltb, eq-eqb}
 use lib.Dec.{T, eqb, ltb, eqb→eq, ltb→lt, nltb→le}
 use lib.ListN.{length, drop, getD, List·getD-eq-default}
 use lib.Seq.{drop-cons}
+use Rattle.lists.specs.Digits.{horner}
 use Rattle.lists.specs.Member.{All}
 use Rattle.lists.proofs.Test.{T-left, T-right, T-true, T-false, decided}
+use Rattle.lists.proofs.Bytes.{drop-next, tabulate-of}
 use Rattle.lists.proofs.Member.{flat-snoc}
 use Rattle.lists.proofs.Tabulate.{tabulate-length, tabulate-at, all-tabulate}
 use Rattle.problem.specs.declared.line.Line.{Line}
 use Rattle.problem.specs.declared.line.Line.the-variants.{Absent, Bad, Holds}
 use Rattle.problem.specs.Digit.{digitOf, isDigit, hexByte, hexLine}
 use Rattle.problem.specs.Line.{run, isLine, lineOf, lineAt, byteAt, frameAt, afterLine}
-use Rattle.problem.proofs.Digits.{digit-is, digit-other, hex-small, hex-back}
+use Rattle.problem.proofs.Digits.{digit-is, digit-other, hex-small, hex-back, hex-spelled}
 
 -- at most n are counted
 pub run-le : (x : List ℕ) (at n : ℕ) → run x at n ≤ n
@@ -211,3 +213,88 @@ module _ (x : List ℕ) (at : ℕ) where
       let one : suc (at + 2 * n) ≡ at + 2 * n + 1 = omega arith in
       let rest : drop (at + 2 * n) x ≡ 10 ∷ drop (at + 2 * n + 1) x = drop-cons x (at + 2 * n) 0 (room .0) ∙ rw (room .1, one) in
       digits-text n (omega arith) (line-digits x at n e) ∙ rw (rest, append-assoc)
+
+-- ---- a line that is printed
+
+-- the digits of b stand in the text, and this after them
+record Spelled (x : List ℕ) (at b : ℕ) (after : List ℕ) : Type 0 where
+  high : T (isDigit (getD x at 0))
+  low : T (isDigit (getD x (suc at) 0))
+  value : byteAt x at ≡ b
+  rest : drop (suc (suc at)) x ≡ after
+
+module _ (x : List ℕ) where
+  byte-printed : (at b : ℕ) (after : List ℕ) → b < 256 → drop at x ≡ hexByte b ++ after → Spelled x at b after
+  unfolding hexByte byteAt
+  byte-printed at b after small e =
+      let h = getD (hexByte b) 0 0 in
+      let l = getD (hexByte b) 1 0 in
+      let first = drop-next x at h (l ∷ after) e in
+      let second = drop-next x (suc at) l after (first .2) in
+      let both = isDigit h && isDigit l in
+      let says : T (both && eqb (horner 16 (digitOf h ∷ digitOf l ∷ [])) b) = hex-spelled b small in
+      record {
+        high = rw (first .1) (T-left (isDigit h) (isDigit l) (T-left both _ says));
+        low = rw (second .1) (T-right (isDigit h) (isDigit l) (T-left both _ says));
+        value = rw (first .1, second .1) (eqb→eq (horner 16 (digitOf h ∷ digitOf l ∷ [])) b (T-right both _ says));
+        rest = second .2;
+      }
+
+  -- as many digits are counted as were printed
+  run-printed : (f : List ℕ) (at n : ℕ) (after : List ℕ) → All (λ b. b < 256) f → 2 * length f < n → drop at x ≡ flatMap hexByte f ++ (10 ∷ after)
+      → run x at n ≡ 2 * length f
+  unfolding flatMap isDigit digitOf
+  run-printed [] at n after small room e = run-other x at n (rw (drop-next x at 10 after e .1) tt)
+  run-printed (b ∷ f) at zero after small room e = absurd (omega arith)
+  run-printed (b ∷ f) at (suc zero) after small room e = absurd (omega arith)
+  run-printed (b ∷ f) at (suc (suc n)) after small room e =
+      let byte = byte-printed at b (flatMap hexByte f ++ (10 ∷ after)) (small .0) (e ∙ rw append-assoc) in
+      let rest = run-printed f (suc (suc at)) n after (small .1) (omega arith) (byte .rest) in
+      let one = run-digit x at (suc n) (byte .high) in
+      let two = run-digit x (suc at) n (byte .low) in
+      omega arith
+
+  bytes-printed : (f : List ℕ) (at : ℕ) (after : List ℕ) → All (λ b. b < 256) f → drop at x ≡ flatMap hexByte f ++ after → (i : ℕ) → i < length f
+      → byteAt x (at + 2 * i) ≡ getD f i 0
+  unfolding flatMap
+  bytes-printed [] at after small e i h = absurd (omega arith)
+  bytes-printed (b ∷ f) at after small e zero h = rw add-zero (byte-printed at b (flatMap hexByte f ++ after) (small .0) (e ∙ rw append-assoc) .value)
+  bytes-printed (b ∷ f) at after small e (suc i) h =
+      let byte = byte-printed at b (flatMap hexByte f ++ after) (small .0) (e ∙ rw append-assoc) in
+      let place : suc (suc at) + 2 * i ≡ at + 2 * suc i = omega arith in
+      rw (← place) (bytes-printed f (suc (suc at)) after (small .1) (byte .rest) i (omega arith))
+
+  past-printed : (f : List ℕ) (at : ℕ) (after : List ℕ) → All (λ b. b < 256) f → drop at x ≡ flatMap hexByte f ++ after → drop (at + 2 * length f) x ≡ after
+  unfolding flatMap
+  past-printed [] at after small e = rw add-zero e
+  past-printed (b ∷ f) at after small e =
+      let byte = byte-printed at b (flatMap hexByte f ++ after) (small .0) (e ∙ rw append-assoc) in
+      let place : suc (suc at) + 2 * length f ≡ at + 2 * suc (length f) = omega arith in
+      rw (← place) (past-printed f (suc (suc at)) after (small .1) (byte .rest))
+
+-- a line holds this frame, and this stands after it
+pub record Holding (x : List ℕ) (at : ℕ) (f after : List ℕ) : Type 0 where
+  pub line : lineAt x at ≡ Holds (length f)
+  pub frame : frameAt x at (length f) ≡ f
+  pub rest : drop (afterLine at (length f)) x ≡ after
+
+-- a frame that is printed is the line that holds it
+pub line-printed : (x : List ℕ) (at : ℕ) (f after : List ℕ) → All (λ b. b < 256) f → 0 < length f → length f < 36 → drop at x ≡ hexLine f ++ after → Holding x at f after
+unfolding hexLine frameAt
+line-printed x at f after small some short e =
+    let text : drop at x ≡ flatMap hexByte f ++ (10 ∷ after) = e ∙ rw append-assoc in
+    let past : drop (at + 2 * length f) x ≡ 10 ∷ after = past-printed x f at (10 ∷ after) small text in
+    let end = drop-next x (at + 2 * length f) 10 after past in
+    let room : at + 2 * length f < length x = end .0 in
+    let counted = run-printed x f at 71 after small (omega arith) text in
+    let low = lt-ltb 0 (2 * length f) (omega arith) in
+    let high = lt-ltb (2 * length f) 71 (omega arith) in
+    let even = eq-eqb (2 * length f % 2) 0 (omega arith) in
+    let closed = eq-eqb (getD x (at + 2 * length f) 0) 10 (end .1) in
+    let half : 2 * length f / 2 ≡ length f = omega arith in
+    let one : suc (at + 2 * length f) ≡ at + 2 * length f + 1 = omega arith in
+    record {
+      line = line-counted x at (2 * length f) (omega arith) (sym counted) ∙ rw (low, high, even, closed, half);
+      frame = tabulate-of (λ j. byteAt x (at + 2 * j)) 0 f (length f) refl (bytes-printed x f at (10 ∷ after) small text);
+      rest = rw (← one) (end .2);
+    }

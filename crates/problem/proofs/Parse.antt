@@ -73,7 +73,7 @@ text-more : (x : List ℕ) (at n : ℕ) (before frame : List ℕ) → lineAt x a
     → before ++ hexLine frame ++ drop (afterLine at n) x ≡ x
 text-more x at n before frame e same t = rw (append-assoc, ← same, ← line-text x at n e) t
 
-abbrev clauseLines : List Clause → List ℕ
+abbrev pub clauseLines : List Clause → List ℕ
 clauseLines ks = flatMap (λ k. hexLine (clauseFrame k)) ks
 
 -- the clauses read so far, to a place of the text
@@ -164,7 +164,7 @@ module _ (x : List ℕ) (c : ℕ) (limit arities before : List ℕ) (q : Problem
       clauses-read left (ks ++ (clauseAt arities f v ∷ [])) (suc line) (afterLine at n) (simp length-append (omega arith)) (clause-read ks at n v l k to j) u)
       (λ t. last-read ks line at n l (omega arith) to t)
 
-abbrev arityLines : List ℕ → List ℕ
+abbrev pub arityLines : List ℕ → List ℕ
 arityLines arities = flatMap (λ a. hexLine (arityFrame a)) arities
 
 -- the arities read so far, to a place of the text, with so many still to come

@@ -13,13 +13,15 @@ use Rattle.problem.specs.Print.{textOf, print}
 use Rattle.problem.specs.Table.{Valid, Lawful, readsTo, isValid}
 use Rattle.problem.specs.Claims.{Theorems}
 use Rattle.problem.proofs.Parse.{parse-text, parse-fits}
+use Rattle.problem.proofs.Accepted.{parse-accepts}
+use Rattle.problem.proofs.Refusals.{parse-refuses}
 use Rattle.problem.proofs.TableLayout.{layout-length, problem-back}
 
 pub print-back : (x : List ℕ) (q : Problem) → parse x ≡ parsed q → print (layout q) ≡ x
 unfolding print
 print-back x q e = ap textOf (problem-back q (parse-fits x q e)) ∙ parse-text x q e
 
-read-apart : (x y : List ℕ) (q r : Problem) → parse x ≡ parsed q → parse y ≡ parsed r → layout q ≡ layout r → x ≡ y
+pub read-apart : (x y : List ℕ) (q r : Problem) → parse x ≡ parsed q → parse y ≡ parsed r → layout q ≡ layout r → x ≡ y
 read-apart x y q r e f s = sym (print-back x q e) ∙ ap print s ∙ print-back y r f
 
 pub valid-from : (tb : List ℕ) → T (isValid tb) → Valid tb
@@ -48,12 +50,10 @@ valid-table tb e = valid-lawful tb (valid-from tb (subst T (sym e) tt))
 pub theorems : Theorems
 theorems =
     record {
-      fits = parse-fits;
-      text-back = parse-text;
+      accepted = λ x q. (λ e. (parse-fits x q e, parse-text x q e), λ r. ap parse (sym (r .1)) ∙ parse-accepts q (r .0));
+      refusals = parse-refuses;
       table-length = layout-length;
       problem-back = problem-back;
-      print-back = print-back;
-      read-apart = read-apart;
       valid = λ tb. (valid-from tb, valid-to tb);
       lawful = valid-lawful;
     }

@@ -1,9 +1,10 @@
 -- Writing: the text of a problem, and of any table.
 use Prim.Native.Nat.{ℕ}
 use mathlib.Core.List.{List, [], _∷_, _++_, flatMap}
+use mathlib.Core.Path.{_≡_}
 use lib.ListN.{length}
 use Rattle.problem.specs.Digit.{hexLine}
-use Rattle.problem.specs.Problem.{Atom, Clause, Problem}
+use Rattle.problem.specs.Problem.{Atom, Clause, Problem, Fits}
 use Rattle.problem.specs.Layout.{problemIn}
 
 abbrev pub atomBytes : Atom → List ℕ
@@ -30,3 +31,9 @@ textOf q =
 
 unfoldable pub print : List ℕ → List ℕ
 print tb = textOf (problemIn tb)
+
+-- x is the text of a well-formed problem
+pub record TextOfProblem (x : List ℕ) : Type 0 where
+  pub problem : Problem
+  pub fits : Fits problem
+  pub text : textOf problem ≡ x

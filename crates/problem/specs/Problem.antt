@@ -1,6 +1,6 @@
--- A problem (01: ticket) as its text gives it, its numbers, and the bounds that reading keeps.
+-- A problem (01: ticket) as its text gives it, its numbers, and when it is well formed.
 use Prim.Native.Nat.{ℕ, _+_, _*_, _^_, _≤_, _<_}
-use mathlib.Core.List.{List, [], _∷_}
+use mathlib.Core.List.{List, [], _∷_, _++_, flatMap}
 use mathlib.Core.Logic.{_⊎_}
 use mathlib.Core.Path.{_≡_}
 use lib.ListN.{length, take, getD}
@@ -56,7 +56,15 @@ pub record AtomFits (c : ℕ) (arities : List ℕ) (v : ℕ) (a : Atom) : Type 0
   pub arity : length (a .args) ≡ getD arities (a .pred) 0
   pub args-fit : All (ArgFits c v) (a .args)
 
--- every variable of the clause stands in a condition
+-- the arguments of a clause as they stand in its line: those of the conditions, then those of the alternatives
+abbrev pub argumentsOf : Clause → List ℕ
+argumentsOf k = flatMap (λ a. a .args) (k .conds ++ k .alts)
+
+-- "Variables first appear in a clause as 80, 81, 82, 83 in that order": before each variable stand those of all lower numbers
+abbrev pub VariablesInOrder : List ℕ → Type 0
+VariablesInOrder bs = (front back : List ℕ) (x : ℕ) → bs ≡ front ++ ((128 + x) ∷ back) → (y : ℕ) → y < x → Any (λ b. b ≡ 128 + y) front
+
+-- the variables of a clause are those below its number of variables, each stands in a condition, and they first appear in order
 pub record ClauseFits (c : ℕ) (arities : List ℕ) (k : Clause) : Type 0 where
   pub few-vars : k .vars ≤ 4
   pub few-conds : length (k .conds) ≤ 4
@@ -64,7 +72,9 @@ pub record ClauseFits (c : ℕ) (arities : List ℕ) (k : Clause) : Type 0 where
   pub conds-fit : All (AtomFits c arities (k .vars)) (k .conds)
   pub alts-fit : All (AtomFits c arities (k .vars)) (k .alts)
   pub named : (x : ℕ) → x < k .vars → Any (λ a. Any (λ b. b ≡ 128 + x) (a .args)) (k .conds)
+  pub in-order : VariablesInOrder (argumentsOf k)
 
+-- a well-formed problem: what document 01 asks of a ticket, whatever reads it
 pub record Fits (q : Problem) : Type 0 where
   pub constants-fit : q .constants ≤ 32
   pub limit-four : length (q .limit) ≡ 4
