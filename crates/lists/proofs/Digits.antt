@@ -63,6 +63,10 @@ pub digits-top : (c w n : ℕ) → n < c ^ suc w → n / c ^ w % c ≡ n / c ^ w
 digits-top zero w n h = let z : n < 0 = rw (pow-succ', zero-mul) at h in absurd (omega arith)
 digits-top (suc c) w n h = mod-eq-of-lt (div-lt-iff-lt-mul (one-le-pow w (suc c) (omega arith)) .1 (rw pow-succ' at h))
 
+-- a number's last four bytes
+pub four-bytes : (n : ℕ) → bytesOf 4 n ≡ n / 16777216 % 256 ∷ n / 65536 % 256 ∷ n / 256 % 256 ∷ n % 256 ∷ []
+four-bytes n = digits-first 256 3 n ∙ ap (λ (bs : List ℕ). n / 16777216 % 256 ∷ bs) (digits-first 256 2 n)
+
 pub digits-below : (c w n : ℕ) → 0 < c → All (λ d. d < c) (digitsOf c w n)
 digits-below c zero n h = tt
 digits-below c (suc w) n h = all-append (λ d. d < c) (digitsOf c w (n / c)) (n % c ∷ []) (digits-below c w (n / c) h) (mod-lt n h, tt)

@@ -1,19 +1,15 @@
 -- `report::line::put_head` meets its contract.
-use Prim.Native.Nat.{ℕ, _/_, _%_}
-use mathlib.Core.List.{List, [], _∷_}
-use mathlib.Core.Path.{_≡_, sym, ap, _∙_}
+use Prim.Native.Nat.{ℕ}
+use mathlib.Core.List.{List, _∷_}
+use mathlib.Core.Path.{sym, ap}
 use native.Mathlib.Omega.{arith}
 use borrow.Author.Needs.{needs}
 use borrow.Author.Tests.{eq-eqb, ne-eqb}
-use Rattle.lists.specs.Digits.{bytesOf}
-use Rattle.lists.proofs.Digits.{digits-first}
+use Rattle.lists.proofs.Digits.{four-bytes}
 use Rattle.problem.specs.Digit.{hexLine}
 use Rattle.writing.proofs.WriteLaws.{put-as, put-most}
 use Rattle.report.proofs.line.put_head.Statement.{statement}
 use Rattle.report.proofs.line.put_head.Tie as tie
-
-four-bytes : (n : ℕ) → bytesOf 4 n ≡ n / 16777216 % 256 ∷ n / 65536 % 256 ∷ n / 256 % 256 ∷ n % 256 ∷ []
-four-bytes n = digits-first 256 3 n ∙ ap (λ (bs : List ℕ). n / 16777216 % 256 ∷ bs) (digits-first 256 2 n)
 
 pub put-head-spec : {M : Type 1} → statement M
 put-head-spec =
