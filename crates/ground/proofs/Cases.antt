@@ -10,10 +10,10 @@ use Rattle.problem.specs.Line.{run, lineAt, byteAt, frameAt}
 use Rattle.problem.specs.Judge.{judgeSizes, judgeHeading, judgeArity, judgeVariable, judgeArg, judgeArgs, judgeAtom, judgeAtoms, judgeEnd, judgeBody, judgeClause}
 use Rattle.problem.specs.Parse.{judgeClosing, parseEnd, parseClosing, parseClauses, parseArities, parse}
 use Rattle.ground.specs.Instance.{groundOf}
-use Rattle.ground.specs.Report.{report, refusal}
+use Rattle.ground.specs.Report.{report}
 use Rattle.ground.specs.Walks.{relevancy, magic, printed}
 use Rattle.ground.specs.Cases.{CasesHold}
 
 pub cases-hold : CasesHold
-unfolding flatMap grow least entries proceed rewriting heldSet findM hornRules trueSet relevantRules relevantSet findR digitOf isDigit hexByte hexLine run lineAt byteAt frameAt judgeSizes judgeHeading judgeArity judgeVariable judgeArg judgeArgs judgeAtom judgeAtoms judgeEnd judgeBody judgeClause judgeClosing parseEnd parseClosing parseClauses parseArities parse groundOf report refusal relevancy magic printed
+unfolding flatMap grow least entries proceed rewriting heldSet findM hornRules trueSet relevantRules relevantSet findR digitOf isDigit hexByte hexLine run lineAt byteAt frameAt judgeSizes judgeHeading judgeArity judgeVariable judgeArg judgeArgs judgeAtom judgeAtoms judgeEnd judgeBody judgeClause judgeClosing parseEnd parseClosing parseClauses parseArities parse groundOf report relevancy magic printed
 cases-hold = refl

@@ -1,5 +1,4 @@
--- Laws of the ground problem: the numbers of its atoms are those below A, each the number of one predicate and one list of arguments, and a clause has an
--- instance for each list of values.
+-- Laws of the ground problem: the numbers of its atoms are those below A, each the number of one predicate and one list of arguments.
 use Prim.Native.Nat.{ℕ, zero, suc, _+_, _-_, _^_, _≤_, _<_}
 use mathlib.Core.Bool.{not}
 use mathlib.Core.List.{List, [], _∷_, map}
@@ -14,7 +13,7 @@ use Rattle.lists.specs.Digits.{horner, digitsOf, tuples}
 use Rattle.lists.specs.Member.{All}
 use Rattle.lists.specs.Tabulate.{tabulate}
 use Rattle.lists.proofs.Bytes.{all-at}
-use Rattle.lists.proofs.Digits.{Tuple, horner-below, horner-digits, horner-apart, digits-length, digits-fit, tuples-count, tuples-each}
+use Rattle.lists.proofs.Digits.{Tuple, horner-below, horner-digits, horner-apart, digits-length, digits-fit, tuples-each}
 use Rattle.lists.proofs.Member.{all-map, all-mapped, all-flat}
 use Rattle.lists.proofs.Tabulate.{all-tabulate}
 use Rattle.lists.proofs.Test.{decided}
@@ -128,10 +127,3 @@ number-onto c (a ∷ rest) n h = go (decided (ltb n (c ^ a))) (number-onto c res
           atom = record { known = omega (arith, r .atom .known); arity = r .atom .arity; below = r .atom .below };
           numbered = omega (arith, r .numbered);
         }
-
--- ---- how many
-
-pub instances-count : (q : Problem) (k : ℕ) → length (instancesOf q k) ≡ q .constants ^ (clauseOf q k) .vars
-instances-count q k =
-    let ts = tuples (q .constants) ((clauseOf q k) .vars) in
-    length-map ts (λ values. record { clause = k; values = values }) ∙ tuples-count (q .constants) ((clauseOf q k) .vars)

@@ -1,4 +1,5 @@
 pub mod Instances
+pub mod Order
 pub mod AtomLaws
 pub mod Sides
 pub mod Headings

@@ -1,12 +1,12 @@
 -- The steps of giving a model, and the limit's bytes.
-use Prim.Native.Nat.{ℕ, suc, _+_, _*_, _≤_, _<_}
+use Prim.Native.Nat.{ℕ, suc, _+_, _≤_, _<_}
 use mathlib.Core.Bool.{Bool, not, _||_}
-use mathlib.Core.List.{List, [], _∷_, _++_, map, append-assoc}
+use mathlib.Core.List.{List, [], _∷_, _++_, map, append-assoc, map-append}
 use mathlib.Core.Path.{_≡_, refl, sym, ap, _∙_}
-use native.Mathlib.Nat.{zero-add}
 use native.Mathlib.Numerals.{add-one}
 use lib.ListN.{length, take, drop, getD, set, length-map}
 use lib.Seq.{drop-cons, set-at}
+use Rattle.lists.specs.Digits.{horner}
 use Rattle.lists.specs.Tabulate.{tabulate}
 use Rattle.lists.proofs.Bytes.{tabulate-part}
 use Rattle.lists.proofs.Tabulate.{tabulate-length}
@@ -19,16 +19,12 @@ use Rattle.ground.specs.declared.verdict.Verdict.the-variants.{Satisfied
 use Rattle.ground.specs.Verdict.{verdictOf, answerOf}
 
 -- the limit's bytes
-pub limit-bytes : (tb : List ℕ) → 8 ≤ length tb → limitOf (take 4 (drop 4 tb)) ≡ ((getD tb 4 0 * 256 + getD tb 5 0) * 256 + getD tb 6 0) * 256 + getD tb 7 0
-limit-bytes tb h = rw (← tabulate-part tb 4 4 h, zero-add)
+pub limit-bytes : (tb : List ℕ) → 8 ≤ length tb → limitOf (take 4 (drop 4 tb)) ≡ horner 256 (getD tb 4 0 ∷ getD tb 5 0 ∷ getD tb 6 0 ∷ getD tb 7 0 ∷ [])
+limit-bytes tb h = rw (← tabulate-part tb 4 4 h)
 
 pub limit-of : (tb : List ℕ) → limitOf (take 4 (drop 4 tb)) ≡ limitOf ((problemIn tb) .limit)
 unfolding problemIn
 limit-of tb = refl
-
-map-append : (f : Bool → ℕ) (xs ys : List Bool) → map f (xs ++ ys) ≡ map f xs ++ map f ys
-map-append f [] ys = refl
-map-append f (x ∷ xs) ys = ap (λ (r : List ℕ). f x ∷ r) (map-append f xs ys)
 
 -- the model's bits, one after another
 pub give-more : (f : ℕ → Bool) (answer : List ℕ) (a : ℕ) → a < length answer → set (map bit (tabulate f a) ++ drop a answer) a (bit (f a)) ≡ map bit (tabulate f (a + 1)) ++ drop (a + 1) answer

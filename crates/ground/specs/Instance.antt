@@ -48,6 +48,12 @@ noClause = record { vars = 0; conds = []; alts = [] }
 abbrev pub clauseOf : Problem → ℕ → Clause
 clauseOf q k = getD (q .clauses) k noClause
 
+-- an instance: a clause, and a constant for each of its variables
+pub record InstanceOf (q : Problem) (i : Instance) : Type 0 where
+  pub known : i .clause < length (q .clauses)
+  pub each-variable : length (i .values) ≡ (clauseOf q (i .clause)) .vars
+  pub constants : All (λ d. d < q .constants) (i .values)
+
 -- the instances of a clause: "order is by clause, then by the values of 80, 81, 82, 83 with 80 slowest"
 abbrev pub instancesOf : Problem → ℕ → List Instance
 instancesOf q k = map (λ values. record { clause = k; values = values }) (tuples (q .constants) ((clauseOf q k) .vars))

@@ -1,11 +1,12 @@
 // An engine's verdict, and the model that it gives.
 use store::holds;
 ghost use mathlib.Core.Path.{_≡_};
-ghost use mathlib.Core.List.{_++_, map};
-ghost use Prim.Native.Nat.{_+_, _*_, _≤_};
+ghost use mathlib.Core.List.{[], _∷_, _++_, map};
+ghost use Prim.Native.Nat.{_+_, _≤_};
 ghost use lib.ListN.{length, take, drop};
 ghost use Rattle.search.specs.Relevancy.{modelBits};
 ghost use Rattle.lists.specs.Bytes.{isSet, bit};
+ghost use Rattle.lists.specs.Digits.{horner};
 ghost use Rattle.problem.specs.Problem.{limitOf};
 ghost use Rattle.ground.specs.Verdict.{chosenBit};
 
@@ -19,7 +20,7 @@ pub enum Verdict {
 
 // A number of four bytes, the high byte first.
 pub fn number_of(a: u8, b: u8, c: u8, d: u8) -> u32
-    ensures { λ r. ⌜ r ≡ ((a * 256 + b) * 256 + c) * 256 + d ⌝ }
+    ensures { λ r. ⌜ r ≡ horner 256 (a ∷ b ∷ c ∷ d ∷ []) ⌝ }
 {
     (((a as u32) * 256 + (b as u32)) * 256 + (c as u32)) * 256 + (d as u32)
 }

@@ -1,11 +1,13 @@
 -- The model check (01: judging).
 use Prim.Native.Nat.{ℕ}
 use mathlib.Core.Bool.{Bool, not, cond, _&&_, _||_}
-use mathlib.Core.List.{List}
+use mathlib.Core.List.{List, [], _∷_}
 use mathlib.Core.Option.{Option, none, some}
 use lib.Dec.{eqb, ltb}
 use lib.ListN.{length, take, getD}
+use Rattle.lists.specs.Digits.{horner}
 use Rattle.lists.specs.Member.{every, first, lead}
+use Rattle.problem.specs.Numbers.{Numbers, refusedAs, answered}
 use Rattle.problem.specs.Problem.{Problem, atomCount}
 use Rattle.problem.specs.Layout.{problemIn}
 use Rattle.problem.specs.Table.{isValid}
@@ -27,6 +29,12 @@ violates q flags i = violatedBy q flags (i .clause) (i .values)
 abbrev pub named : Option Instance → Judging
 named none = IsModel
 named (some i) = Violated (i .clause) (getD (i .values) 0 0) (getD (i .values) 1 0) (getD (i .values) 2 0) (getD (i .values) 3 0)
+
+-- 1 for "fitting", 2 for a violated instance, with its clause, and with its values as one number of four bytes, that of 80 the low byte
+abbrev pub judgingNumbers : Judging → Numbers
+judgingNumbers (Unjudged e) = refusedAs e
+judgingNumbers IsModel = answered 1 0
+judgingNumbers (Violated k a b c d) = record { refusal = 0; number = 2; clause = k; value = horner 256 (d ∷ c ∷ b ∷ a ∷ []) }
 
 unfoldable pub clauseCheck : Problem → List ℕ → ℕ → Judging
 clauseCheck q flags k = named (first (violates q flags) (instancesOf q k))

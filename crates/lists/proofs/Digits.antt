@@ -2,7 +2,7 @@
 -- numbers and stand in their order, and the next list stands for the next number. Numbers are read where their bytes stand.
 use Prim.Native.Nat.{ℕ, zero, suc, _+_, _-_, _*_, _^_, _/_, _%_, _≤_, _<_}
 use mathlib.Core.List.{List, [], _∷_, _++_, map, flatMap, reverse-reverse}
-use mathlib.Core.Path.{_≡_, refl, sym, ap, _∙_}
+use mathlib.Core.Path.{_≡_, refl, sym, ap, subst, _∙_}
 use native.Mathlib.Nat.{add-zero, zero-add, add-comm, add-assoc, mul-one, mul-comm, mul-assoc, add-mul, suc-mul, zero-mul, pow-zero, pow-succ', one-le-pow, div-one, div-div-eq-div-mul, div-lt-iff-lt-mul, mod-one, mod-lt, mod-eq-of-lt, mul-add-div-right, mul-add-mod-self-right}
 use native.Mathlib.Numerals.{add-one}
 use native.Mathlib.Omega.{arith}
@@ -10,11 +10,11 @@ use lib.Arith.{digits-lt, digits-div, mod-mul}
 use lib.ListN.{length, getD, replicate, length-append, length-replicate, length-reverse, List·getD-append}
 use lib.Seq.{getD-append-add}
 use Rattle.lists.specs.Digits.{hornerFrom, horner, digitsOf, bytesOf, lowBytes, lowNumber, tuples}
-use Rattle.lists.specs.Member.{All}
+use Rattle.lists.specs.Member.{All, Any}
 use Rattle.lists.specs.Tabulate.{tabulate}
 use Rattle.lists.proofs.Bytes.{tabulate-of}
 use Rattle.lists.proofs.Member.{all-append, all-flat, all-mapped, all-map, flat-snoc}
-use Rattle.lists.proofs.Tabulate.{tabulate-length, tabulate-same, tabulate-add, tabulate-map, all-tabulate}
+use Rattle.lists.proofs.Tabulate.{tabulate-length, tabulate-same, tabulate-add, tabulate-map, all-tabulate, any-tabulate}
 
 -- ---- the number that digits stand for
 
@@ -62,6 +62,10 @@ digits-first c (suc w) n = rw (digits-first c w (n / c), div-div-eq-div-mul, pow
 pub digits-top : (c w n : ℕ) → n < c ^ suc w → n / c ^ w % c ≡ n / c ^ w
 digits-top zero w n h = let z : n < 0 = rw (pow-succ', zero-mul) at h in absurd (omega arith)
 digits-top (suc c) w n h = mod-eq-of-lt (div-lt-iff-lt-mul (one-le-pow w (suc c) (omega arith)) .1 (rw pow-succ' at h))
+
+-- a number's last four bytes
+pub four-bytes : (n : ℕ) → bytesOf 4 n ≡ n / 16777216 % 256 ∷ n / 65536 % 256 ∷ n / 256 % 256 ∷ n % 256 ∷ []
+four-bytes n = digits-first 256 3 n ∙ ap (λ (bs : List ℕ). n / 16777216 % 256 ∷ bs) (digits-first 256 2 n)
 
 pub digits-below : (c w n : ℕ) → 0 < c → All (λ d. d < c) (digitsOf c w n)
 digits-below c zero n h = tt
@@ -194,3 +198,10 @@ tuples-each c (suc w) =
     before each a h =
         all-mapped (λ t. a ∷ t) (Tuple c (suc w)) (tuples c w)
         (all-map (Tuple c w) (λ t. Tuple c (suc w) (a ∷ t)) (λ t p. (ap suc (p .0), (h, p .1))) (tuples c w) each)
+
+-- and each such list is among them
+pub tuples-any : (c w : ℕ) (P : List ℕ → Type 0) (t : List ℕ) → Tuple c w t → P t → Any P (tuples c w)
+tuples-any c w P t each p =
+    let small : horner c t < c ^ w = subst (λ (k : ℕ). horner c t < c ^ k) (each .0) (horner-below c t (each .1)) in
+    let back : t ≡ digitsOf c w (horner c t) = sym (digits-horner c t (each .1)) ∙ ap (λ (k : ℕ). digitsOf c k (horner c t)) (each .0) in
+    subst (λ (ts : List (List ℕ)). Any P ts) (sym (tuples-at c w)) (any-tabulate P (digitsOf c w) (c ^ w) (horner c t) small (subst P back p))

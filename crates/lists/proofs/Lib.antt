@@ -5,4 +5,5 @@ pub mod Digits
 pub mod Bytes
 pub mod Pigeonhole
 pub mod Loops
+pub mod Rising
 pub mod Theorems

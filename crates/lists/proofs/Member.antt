@@ -155,6 +155,15 @@ module _ {A : Type 0} where
   every-same p q [] a = refl
   every-same p q (x ∷ xs) a = rw (a .0, every-same p q xs (a .1))
 
+pub any-mapped : {A B : Type 0} (f : A → B) (P : B → Type 0) (xs : List A) → Any (λ x. P (f x)) xs → Any P (map f xs)
+any-mapped f P (x ∷ xs) (inl p) = inl p
+any-mapped f P (x ∷ xs) (inr p) = inr (any-mapped f P xs p)
+
+-- what holds of every member holds of a member
+pub member-has {ℓ} : {A : Type 0} (P : A → Type ℓ) (xs : List A) (y : A) → All P xs → Any (λ x. x ≡ y) xs → P y
+member-has P (x ∷ xs) y a (inl e) = subst P e (a .0)
+member-has P (x ∷ xs) y a (inr m) = member-has P xs y (a .1) m
+
 module _ {K : Type 0} (k : Key K) where
   pub has-here : (x : K) (s : List K) → In k (x ∷ s) x
   has-here x s = or-left (k .same x x) (has k s x) (k .same-refl x)

@@ -8,9 +8,9 @@ use native.Mathlib.Numerals.{add-one}
 use native.Mathlib.Omega.{arith}
 use lib.ListN.{length, getD, length-append, List·getD-append}
 use lib.Seq.{getD-at}
-use Rattle.lists.specs.Member.{All}
+use Rattle.lists.specs.Member.{All, Any}
 use Rattle.lists.specs.Tabulate.{tabulate}
-use Rattle.lists.proofs.Member.{all-append}
+use Rattle.lists.proofs.Member.{all-append, any-left, any-right}
 
 pub tabulate-length : {A : Type 0} (f : ℕ → A) (n : ℕ) → length (tabulate f n) ≡ n
 tabulate-length f zero = refl
@@ -31,6 +31,16 @@ tabulate-at f d (suc n) a h = go (eq-or-lt-of-le h) (tabulate-at f d n a)
 pub all-tabulate {ℓ} : {A : Type 0} (P : A → Type ℓ) (f : ℕ → A) (n : ℕ) → ((i : ℕ) → i < n → P (f i)) → All P (tabulate f n)
 all-tabulate P f zero h = tt
 all-tabulate P f (suc n) h = all-append P (tabulate f n) (f n ∷ []) (all-tabulate P f n (λ i l. h i (omega arith))) (h n (omega arith), tt)
+
+pub any-tabulate : {A : Type 0} (P : A → Type 0) (f : ℕ → A) (n i : ℕ) → i < n → P (f i) → Any P (tabulate f n)
+any-tabulate P f zero i h p = absurd (omega arith)
+any-tabulate P f (suc n) i h p = go (eq-or-lt-of-le h) (any-tabulate P f n i)
+  where
+    go : (suc i ≡ suc n) ⊎ (suc i < suc n) → (i < n → P (f i) → Any P (tabulate f n)) → Any P (tabulate f n ++ (f n ∷ []))
+    go (inl e) before =
+        let same : i ≡ n = omega arith in
+        any-right P (tabulate f n) (f n ∷ []) (inl (subst (λ (k : ℕ). P (f k)) same p))
+    go (inr l) before = any-left P (tabulate f n) (f n ∷ []) (before (omega arith) p)
 
 module _ {A : Type 0} where
   pub tabulate-same : (f g : ℕ → A) (n : ℕ) → ((i : ℕ) → i < n → f i ≡ g i) → tabulate f n ≡ tabulate g n

@@ -1,41 +1,68 @@
--- An operation's answer as one number: the refusal's number in bits 0 to 7, 0 where there is none, and in bits 32 to 63 what goes with the answer.
-use Prim.Native.Nat.{ℕ, _+_, _*_}
+-- An operation's answer as one number: bits 0 to 7 the refusal's number, 0 where there is none; bits 8 to 15 the number of what is answered; bits 24 to 31 the clause
+-- that it names; bits 32 to 63 the value that goes with it.
+use Prim.Native.Nat.{ℕ, zero, suc, _+_, _*_, _/_, _%_}
+use mathlib.Core.Bool.{cond}
+use lib.Dec.{eqb}
+use Rattle.problem.specs.Numbers.{Numbers}
+use Rattle.reading.specs.declared.read.Reading.{Reading}
+use Rattle.reading.specs.declared.read.Reading.the-variants as reading
+use Rattle.reading.specs.Read.{readingNumbers}
+use Rattle.writing.specs.declared.write.Writing.{Writing}
+use Rattle.writing.specs.declared.write.Writing.the-variants as writing
+use Rattle.writing.specs.Write.{writingNumbers}
 use Rattle.judging.specs.declared.judge.Judging.{Judging}
-use Rattle.judging.specs.declared.judge.Judging.the-variants.{Unjudged, Model as IsModel, Violated}
+use Rattle.judging.specs.declared.judge.Judging.the-variants as judging
+use Rattle.judging.specs.ModelCheck.{judgingNumbers}
 use Rattle.rewriting.specs.declared.rewrite.Rewriting.{Rewriting}
 use Rattle.rewriting.specs.declared.rewrite.Rewriting.the-variants as rewriting
-use Rattle.reading.specs.declared.read.Reading.{Reading}
-use Rattle.reading.specs.declared.read.Reading.the-variants.{Refused, Accepted}
-use Rattle.writing.specs.declared.write.Writing.{Writing}
-use Rattle.writing.specs.declared.write.Writing.the-variants.{Unwritten, Written}
+use Rattle.rewriting.specs.Rewrite.{rewritingNumbers}
 use Rattle.ground.specs.declared.verdict.Verdict.{Verdict}
 use Rattle.ground.specs.declared.verdict.Verdict.the-variants as verdict
+use Rattle.ground.specs.Verdict.{verdictNumbers}
 
--- with the line of a refusal
+abbrev pub packed : Numbers → ℕ
+packed a = a .refusal + 256 * a .number + 16777216 * a .clause + 4294967296 * a .value
+
 abbrev pub packReading : Reading → ℕ
-packReading (Refused e line) = e + 4294967296 * line
-packReading Accepted = 0
+packReading r = packed (readingNumbers r)
 
--- with the number of bytes written
 abbrev pub packWriting : Writing → ℕ
-packWriting (Unwritten e) = e
-packWriting (Written n) = 4294967296 * n
+packWriting w = packed (writingNumbers w)
 
--- bits 8 to 15 say 1 for a fitting and 2 for a violated instance, whose clause stands in bits 24 to 31 and whose values in bits 32 to 63
 abbrev pub packJudging : Judging → ℕ
-packJudging (Unjudged e) = e
-packJudging IsModel = 256
-packJudging (Violated k a b c d) =
-    512 + 16777216 * k + 4294967296 * a + (1099511627776 * b + 281474976710656 * c) + 72057594037927936 * d
+packJudging j = packed (judgingNumbers j)
 
--- with the count of entries; bits 8 to 15 have the verdict as a program prints it: 0 for none, 1 for fits, 2 for spent
 abbrev pub packVerdict : Verdict → ℕ
-packVerdict (verdict.Refused e) = e
-packVerdict (verdict.Satisfied n) = 256 + 4294967296 * n
-packVerdict (verdict.Refuted n) = 4294967296 * n
-packVerdict (verdict.Exhausted n) = 512 + 4294967296 * n
+packVerdict v = packed (verdictNumbers v)
 
--- with the number of rules
 abbrev pub packRewriting : Rewriting → ℕ
-packRewriting (rewriting.Refused e) = e
-packRewriting (rewriting.Rewritten n) = 4294967296 * n
+packRewriting r = packed (rewritingNumbers r)
+
+-- The parts of a number, as a host takes them out, and what they say
+abbrev pub unpacked : ℕ → Numbers
+unpacked n = record { refusal = n % 256; number = n / 256 % 256; clause = n / 16777216 % 256; value = n / 4294967296 % 4294967296 }
+
+abbrev pub asReading : Numbers → Reading
+asReading a = cond (eqb (a .refusal) 0) reading.Accepted (reading.Refused (a .refusal) (a .value))
+
+abbrev pub asWriting : Numbers → Writing
+asWriting a = cond (eqb (a .refusal) 0) (writing.Written (a .value)) (writing.Unwritten (a .refusal))
+
+abbrev pub asJudging : Numbers → Judging
+asJudging a =
+    cond (eqb (a .refusal) 0)
+    (cond (eqb (a .number) 1)
+    judging.Model
+    (judging.Violated (a .clause) (a .value % 256) (a .value / 256 % 256) (a .value / 65536 % 256) (a .value / 16777216)))
+    (judging.Unjudged (a .refusal))
+
+abbrev pub verdictBy : ℕ → ℕ → Verdict
+verdictBy zero n = verdict.Refuted n
+verdictBy (suc zero) n = verdict.Satisfied n
+verdictBy (suc (suc k)) n = verdict.Exhausted n
+
+abbrev pub asVerdict : Numbers → Verdict
+asVerdict a = cond (eqb (a .refusal) 0) (verdictBy (a .number) (a .value)) (verdict.Refused (a .refusal))
+
+abbrev pub asRewriting : Numbers → Rewriting
+asRewriting a = cond (eqb (a .refusal) 0) (rewriting.Rewritten (a .value)) (rewriting.Refused (a .refusal))

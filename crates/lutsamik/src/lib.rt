@@ -1,5 +1,6 @@
 // The operations, for a host in C: numbers and byte slices go in, and one number comes back.
 use ground::verdict::Verdict;
+use ground::verdict::number_of;
 use judging::judge::Judging;
 use reading::read::Reading;
 use rewriting::rewrite::Rewriting;
@@ -11,14 +12,24 @@ ghost use Rattle.judging.specs.ModelCheck.{judgeResult};
 ghost use Rattle.relevancy.specs.Engine.{fitResult, fitAnswer, fitWork};
 ghost use Rattle.magic.specs.Engine.{magicResult, magicRules, magicAnswer, magicWork};
 ghost use Rattle.rewriting.specs.Rewrite.{rewriteResult, rewriteLeaves};
-ghost use Rattle.lutsamik.specs.Pack.{packReading, packWriting, packJudging, packVerdict, packRewriting};
+ghost use Rattle.lutsamik.specs.Pack.{packed, packReading, packWriting, packJudging, packVerdict, packRewriting};
+
+// An answer's numbers as one.
+fn packed(refusal: u8, number: u8, clause: u8, value: u32) -> u64
+    ensures { λ n. ⌜ n ≡ packed (record { refusal = refusal; number = number; clause = clause; value = value }) ⌝ }
+{
+    (refusal as u64)
+        + 256 * (number as u64)
+        + 16777216 * (clause as u64)
+        + 4294967296 * (value as u64)
+}
 
 fn pack_reading(r: Reading) -> u64
     ensures { λ n. ⌜ n ≡ packReading r ⌝ }
 {
     match r {
-        Reading::Refused(e, line) => (e as u64) + 4294967296 * (line as u64),
-        Reading::Accepted => 0,
+        Reading::Refused(e, line) => packed(e, 0, 0, line as u32),
+        Reading::Accepted => packed(0, 0, 0, 0),
     }
 }
 
@@ -26,8 +37,8 @@ fn pack_writing(w: Writing) -> u64
     ensures { λ n. ⌜ n ≡ packWriting w ⌝ }
 {
     match w {
-        Writing::Unwritten(e) => e as u64,
-        Writing::Written(size) => 4294967296 * (size as u64),
+        Writing::Unwritten(e) => packed(e, 0, 0, 0),
+        Writing::Written(size) => packed(0, 0, 0, size as u32),
     }
 }
 
@@ -35,13 +46,9 @@ fn pack_judging(j: Judging) -> u64
     ensures { λ n. ⌜ n ≡ packJudging j ⌝ }
 {
     match j {
-        Judging::Unjudged(e) => e as u64,
-        Judging::Model => 256,
-        Judging::Violated(k, a, b, c, d) => {
-            let low = 512 + 16777216 * (k as u64) + 4294967296 * (a as u64);
-            let high = 1099511627776 * (b as u64) + 281474976710656 * (c as u64);
-            low + high + 72057594037927936 * (d as u64)
-        }
+        Judging::Unjudged(e) => packed(e, 0, 0, 0),
+        Judging::Model => packed(0, 1, 0, 0),
+        Judging::Violated(k, a, b, c, d) => packed(0, 2, k, number_of(d, c, b, a)),
     }
 }
 
@@ -49,10 +56,10 @@ fn pack_verdict(v: Verdict) -> u64
     ensures { λ n. ⌜ n ≡ packVerdict v ⌝ }
 {
     match v {
-        Verdict::Refused(e) => e as u64,
-        Verdict::Satisfied(count) => 256 + 4294967296 * (count as u64),
-        Verdict::Refuted(count) => 4294967296 * (count as u64),
-        Verdict::Exhausted(count) => 512 + 4294967296 * (count as u64),
+        Verdict::Refused(e) => packed(e, 0, 0, 0),
+        Verdict::Satisfied(count) => packed(0, 1, 0, count),
+        Verdict::Refuted(count) => packed(0, 0, 0, count),
+        Verdict::Exhausted(count) => packed(0, 2, 0, count),
     }
 }
 
@@ -60,8 +67,8 @@ fn pack_rewriting(r: Rewriting) -> u64
     ensures { λ n. ⌜ n ≡ packRewriting r ⌝ }
 {
     match r {
-        Rewriting::Refused(e) => e as u64,
-        Rewriting::Rewritten(count) => 4294967296 * (count as u64),
+        Rewriting::Refused(e) => packed(e, 0, 0, 0),
+        Rewriting::Rewritten(count) => packed(0, 0, 0, count as u32),
     }
 }
 

@@ -1,4 +1,4 @@
--- The judges accept the frames of a well-formed problem.
+-- The judges accept the frames of a well-formed problem, and its text is short.
 use Prim.Native.Nat.{ℕ, suc, _+_, _-_, _*_, _^_, _≤_, _<_}
 use mathlib.Core.Bool.{not, cond}
 use mathlib.Core.List.{List, [], _∷_, _++_, append-assoc, append-nil, flatMap}
@@ -12,17 +12,18 @@ use lib.ListN.{length, drop, getD, length-append}
 use lib.Seq.{append-snoc, drop-drop, drop-append-seam, take-append-seam}
 use Rattle.lists.specs.Member.{All}
 use Rattle.lists.proofs.Bytes.{drop-next}
-use Rattle.lists.proofs.Member.{all-map, all-append, all-flat, any-left, any-flat, flat-append}
+use Rattle.lists.proofs.Member.{all-of, all-map, all-append, all-flat, any-left, any-flat, flat-append}
 use Rattle.lists.proofs.Test.{decided}
 use Rattle.problem.specs.declared.judge.Judged.{Judged}
 use Rattle.problem.specs.declared.judge.Judged.the-variants.{Fault, Found}
 use Rattle.problem.specs.declared.judge.Heading.the-variants.{Sizes}
 use Rattle.problem.specs.declared.judge.Span.{Span}
 use Rattle.problem.specs.declared.judge.Span.the-variants.{Broken, Reached}
+use Rattle.problem.specs.Digit.{hexByte, hexLine}
 use Rattle.problem.specs.Problem.{Atom, Clause, Problem, ArgFits, AtomFits, argumentsOf, VariablesInOrder, ClauseFits, Fits, weight}
 use Rattle.problem.specs.Judge.{judgeSizes, judgeHeading, judgeArity, judgeVariable, judgeArg, judgeArgs, judgeAtom, judgeAtoms, judgeEnd, judgeBody, judgeClause, atomAt, afterAtom, atomsAt, afterAtoms, clauseAt}
 use Rattle.problem.specs.Parse.{judgeClosing}
-use Rattle.problem.specs.Print.{atomBytes, headingFrame, arityFrame, clauseFrame}
+use Rattle.problem.specs.Print.{atomBytes, headingFrame, arityFrame, clauseFrame, closingFrame, textOf}
 use Rattle.problem.proofs.Judges.{argumentsIn, atoms-reached}
 use Rattle.problem.proofs.TableLayout.{fits-short}
 use Rattle.problem.proofs.Variables.{Stands, Seen, seen-none, seen-not, seen-old, seen-new, seen-same}
@@ -325,3 +326,23 @@ module _ (c : ℕ) (arities : List ℕ) (few : length arities ≤ 32) (small : A
 
 pub heading-bytes : (q : Problem) → Fits q → Bytes (headingFrame q)
 heading-bytes q fits = (omega arith, (omega arith, (omega (arith, fits .constants-fit), (omega (arith, fits .predicates-fit), fits .limit-bytes))))
+
+-- ---- so the text is short
+
+line-most : (f : List ℕ) → length (hexLine f) ≤ 2 * length f + 1
+unfolding hexByte hexLine
+line-most f = omega (arith, length-append (flatMap hexByte f) (10 ∷ []), flat-most hexByte 2 f (all-of (λ b. length (hexByte b) ≤ 2) (λ b. omega arith) f))
+
+pub text-short : (q : Problem) → Fits q → length (textOf q) ≤ 4726
+unfolding textOf
+text-short q fits =
+    let arityLine : ℕ → List ℕ = λ a. hexLine (arityFrame a) in
+    let clauseLine : Clause → List ℕ = λ k. hexLine (clauseFrame k) in
+    let arities : length (flatMap arityLine (q .arities)) ≤ 5 * length (q .arities) =
+    flat-most arityLine 5 (q .arities) (all-of (λ a. length (arityLine a) ≤ 5) (λ a. line-most (arityFrame a)) (q .arities)) in
+    let clauses : length (flatMap clauseLine (q .clauses)) ≤ 71 * length (q .clauses) =
+    flat-most clauseLine 71 (q .clauses) (all-map (ClauseFits (q .constants) (q .arities)) (λ k. length (clauseLine k) ≤ 71) each (q .clauses) (fits .each-fits)) in
+    simp length-append (omega (arith, line-most (headingFrame q), line-most (closingFrame q), fits .limit-four, fits .predicates-fit, fits .clauses-fit))
+  where
+    each : (k : Clause) → ClauseFits (q .constants) (q .arities) k → length (hexLine (clauseFrame k)) ≤ 71
+    each k f = omega (arith, line-most (clauseFrame k), clause-short (q .constants) (q .arities) (fits .predicates-fit) (fits .arities-fit) k f)

@@ -1,3 +1,4 @@
+pub mod Numbers
 pub mod Digit
 pub mod Line
 pub mod Problem

@@ -7,15 +7,14 @@ use lib.ListN.{length, take, getD, replicate, length-replicate, length-map}
 use Rattle.lists.proofs.Tabulate.{tabulate-at}
 use Rattle.problem.specs.Layout.{problemIn}
 use Rattle.problem.specs.Table.{Lawful}
-use Rattle.ground.specs.Instance.{number, clauseOf, groundAtoms, groundOf}
+use Rattle.ground.specs.Instance.{InstanceOf, number, clauseOf, groundAtoms, groundOf}
 use Rattle.ground.specs.contracts.Placed.{Placed, Numbered}
 use Rattle.ground.proofs.AtomLaws.{slotNumber, alts-count, alts-row, alts-numbers}
 use Rattle.ground.proofs.Turns.{ClauseKnown, clause-known, numbers-take}
 use Rattle.walk.specs.contracts.Path.{numberAt, fourAt, siteAt, altsAt}
-use Rattle.relevancy_node.specs.contracts.Node.{ListedInstance}
 use Rattle.relevancy_walk.specs.contracts.Place.{instanceOf, relevancyWalker}
 
-module _ (tb : List ℕ) (h : Lawful tb) (path : List ℕ) (depth : ℕ) (listed : ListedInstance (problemIn tb) (instanceOf (siteAt (relevancyWalker tb) path depth))) where
+module _ (tb : List ℕ) (h : Lawful tb) (path : List ℕ) (depth : ℕ) (listed : InstanceOf (problemIn tb) (instanceOf (siteAt (relevancyWalker tb) path depth))) where
   abbrev clause : ℕ
   clause = numberAt path depth
 
@@ -35,7 +34,7 @@ module _ (tb : List ℕ) (h : Lawful tb) (path : List ℕ) (depth : ℕ) (listed
 
   site-placed : Placed tb clause four flags
   unfolding siteAt problemIn
-  site-placed = record { known = site-known; four = refl; below = listed .below; flagged = omega (arith, h .fits .atoms-fit, length-replicate {A = ℕ} 1024 0) }
+  site-placed = record { known = site-known; four = refl; below = listed .constants; flagged = omega (arith, h .fits .atoms-fit, length-replicate {A = ℕ} 1024 0) }
 
   pub alts-length : length (altsAt (relevancyWalker tb) path depth) ≡ getD tb (144 + 56 * numberAt path depth + 1) 0
   unfolding siteAt groundOf

@@ -59,7 +59,7 @@ module _ (tb : List ℕ) (h : Lawful tb) (facts path : List ℕ) (depth n done :
           let ec : getD (i .values) 2 0 ≡ c = cc in
           let ed : getD (i .values) 3 0 ≡ d = cc in
           let few : (clauseOf (problemIn tb) (i .clause)) .vars ≤ 4 = (clause-fits tb h (i .clause) (node .listed .known)) .few-vars in
-          site-back (relevancyWalker tb) path left depth k a b c d t site (node .listed .count) few ek ea eb ec ed wrote
+          site-back (relevancyWalker tb) path left depth k a b c d t site (node .listed .each-variable) few ek ea eb ec ed wrote
 
       rests : TrueAtSplit tb site l (logged left-facts 2050 (markAt left depth))
       rests =

@@ -14,16 +14,15 @@ use Rattle.search.proofs.Sound.{path-small, path-short}
 use Rattle.search.proofs.Model.{relevancy-sound}
 use Rattle.problem.specs.Layout.{problemIn}
 use Rattle.problem.specs.Table.{Lawful}
-use Rattle.ground.specs.Instance.{number, clauseOf, groundOf, groundIn}
+use Rattle.ground.specs.Instance.{InstanceOf, number, clauseOf, groundOf, groundIn}
 use Rattle.ground.proofs.AtomLaws.{clause-fits}
 use Rattle.ground.proofs.Instances.{atoms-few, ground-proper}
-use Rattle.relevancy_node.specs.contracts.Node.{ListedInstance}
 use Rattle.walk.specs.contracts.Walker.{Site, Sound}
 use Rattle.walk.proofs.PathLaws.{genuine-enters}
 use Rattle.relevancy_walk.specs.contracts.Place.{instanceOf, instanceAlts, relevancyWalker}
 
 -- a clause has at most four alternatives
-site-four : (tb : List ℕ) → Lawful tb → (s : Site) → ListedInstance (problemIn tb) (instanceOf s) → length (instanceAlts tb s) ≤ 4
+site-four : (tb : List ℕ) → Lawful tb → (s : Site) → InstanceOf (problemIn tb) (instanceOf s) → length (instanceAlts tb s) ≤ 4
 unfolding groundOf
 site-four tb h s listed =
     let q = problemIn tb in

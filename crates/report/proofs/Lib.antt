@@ -1,4 +1,3 @@
-pub mod OrderLaws
 pub mod ReportLaws
 pub mod ToldLaws
 pub mod PrintLaws

@@ -14,6 +14,7 @@ use Rattle.search.specs.Machine.{Outcome, Satisfied, outcome}
 use Rattle.search.proofs.Theorems.{theorems}
 use Rattle.reading.specs.declared.read.Reading.the-variants.{Refused, Accepted}
 use Rattle.problem.specs.Problem.{Problem, Fits, atomCount, limitOf}
+use Rattle.problem.specs.Numbers.{refusedAt}
 use Rattle.problem.specs.Parse.{Parsed, refused, parsed, parse}
 use Rattle.problem.specs.Layout.{layout, problemIn}
 use Rattle.problem.specs.Table.{Valid, Lawful, isValid}
@@ -25,7 +26,7 @@ use Rattle.problem.proofs.TableLayout.{layout-length, problem-back}
 use Rattle.writing.proofs.WriteLaws.{put-count, put-front, put-text}
 use Rattle.problem.proofs.Theorems.{valid-to, valid-lawful}
 use Rattle.ground.specs.Instance.{Instance, groundOf}
-use Rattle.ground.specs.Report.{report, refusal}
+use Rattle.ground.specs.Report.{headLine, report}
 use Rattle.ground.specs.Names.{instanceKey}
 use Rattle.ground.specs.Walks.{relevancy, magic, printed}
 use Rattle.ground.proofs.Instances.{ground-proper}
@@ -52,12 +53,12 @@ pub record ReadInto (x tb : List ℕ) : Type 0 where
 -- ---- what reading a text into 4,096 bytes says
 
 module _ (x tb : List ℕ) (size : length tb ≡ 4096) where
-  pub refusal-printed : (walk : Walk) (e line : ℕ) → Refused e line ≡ readResult x tb → refusal e line ≡ printed walk x
+  pub refusal-printed : (walk : Walk) (e line : ℕ) → Refused e line ≡ readResult x tb → headLine (refusedAt e line) ≡ printed walk x
   unfolding readResult printed
   refusal-printed walk e line r = go (parse x) (r ∙ rw (le-ltb (length tb) 4096 (omega arith)))
     where
       go : (what : Parsed) → Refused e line ≡ readingOf what
-          → refusal e line ≡ elim what [ refused d l ↦ refusal d l | parsed q ↦ report q (outcome (walk q) (limitOf (q .limit))) ]
+          → headLine (refusedAt e line) ≡ elim what [ refused d l ↦ headLine (refusedAt d l) | parsed q ↦ report q (outcome (walk q) (limitOf (q .limit))) ]
       go (refused d l) s =
           let number : e ≡ d = cc in
           let at : line ≡ l = cc in
@@ -96,7 +97,7 @@ module _ (x tb : List ℕ) (t : ReadInto x tb) where
   unfolding printed
   report-printed walk =
       ap (λ (q : Problem). report q (outcome (walk q) (limitOf (q .limit)))) same
-      ∙ ap {B = List ℕ} (λ (what : Parsed). elim what [ refused e line ↦ refusal e line | parsed q ↦ report q (outcome (walk q) (limitOf (q .limit))) ]) (sym (t .accepted))
+      ∙ ap {B = List ℕ} (λ (what : Parsed). elim what [ refused e line ↦ headLine (refusedAt e line) | parsed q ↦ report q (outcome (walk q) (limitOf (q .limit))) ]) (sym (t .accepted))
 
   -- ---- an engine's answer
 

@@ -21,8 +21,8 @@ use Rattle.writing.proofs.WriteLaws.{put-as, put-most, put-then, put-none}
 use Rattle.ground.specs.contracts.Matching.{Decoded}
 use Rattle.ground.specs.Report.{atomsInOrder, chosen}
 use Rattle.ground.proofs.MatchLaws.{PredicateKnown, predicate-known}
+use Rattle.ground.proofs.Order.{order-count, order-at}
 use Rattle.report.specs.Told.{atomLine, modelLines}
-use Rattle.report.proofs.OrderLaws.{order-count, order-at, chosen-more}
 
 -- ---- an atom's frame
 
@@ -51,6 +51,16 @@ module _ (tb : List ℕ) (lawful : Lawful tb) (a p : ℕ) (args : List ℕ) (d :
       ap (λ (n : ℕ). take n (130 ∷ p ∷ getD args 0 0 ∷ getD args 1 0 ∷ getD args 2 0 ∷ [])) two
       ∙ three-taken 130 p w args (d .three)
       ∙ ap (λ (xs : List ℕ). 130 ∷ xs) (sym (order-at (problemIn tb) p (take w args) (d .atom)) ∙ ap (λ (n : ℕ). getD (atomsInOrder (problemIn tb)) n []) (d .numbered))
+
+-- ---- the atoms whose bit is true, one bit more
+
+chosen-more : (bits : List Bool) (b : Bool) (atoms : List (List ℕ)) → length bits < length atoms
+    → chosen (bits ++ (b ∷ [])) atoms ≡ chosen bits atoms ++ cond b (getD atoms (length bits) [] ∷ []) []
+chosen-more bits b [] h = absurd (omega arith)
+chosen-more [] true (x ∷ atoms) h = refl
+chosen-more [] false (x ∷ atoms) h = refl
+chosen-more (true ∷ bits) b (x ∷ atoms) h = ap (λ (r : List (List ℕ)). x ∷ r) (chosen-more bits b atoms (omega arith))
+chosen-more (false ∷ bits) b (x ∷ atoms) h = chosen-more bits b atoms (omega arith)
 
 -- ---- the lines of a model
 

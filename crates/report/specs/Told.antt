@@ -9,7 +9,8 @@ use Rattle.search.specs.Machine.{Satisfied, Refuted, Exhausted}
 use Rattle.lists.specs.Bytes.{isSet}
 use Rattle.problem.specs.Digit.{hexLine}
 use Rattle.problem.specs.Problem.{Problem, atomCount}
-use Rattle.ground.specs.Report.{atomsInOrder, chosen, report, refusal}
+use Rattle.ground.specs.Report.{atomsInOrder, chosen, headLine, report}
+use Rattle.ground.specs.Verdict.{verdictNumbers}
 use Rattle.ground.specs.declared.verdict.Verdict.{Verdict}
 use Rattle.ground.specs.declared.verdict.Verdict.the-variants.{Refused, Satisfied as IsSatisfied, Refuted as IsRefuted, Exhausted as IsExhausted}
 
@@ -26,7 +27,7 @@ abbrev pub modelLines : Problem → List ℕ → List ℕ
 modelLines q answer = flatMap (λ a. hexLine (130 ∷ a)) (chosen (answerBits q answer) (atomsInOrder q))
 
 unfoldable pub told : Problem → Verdict → List ℕ → List ℕ
-told q (Refused e) answer = refusal e 0
+told q (Refused e) answer = headLine (verdictNumbers (Refused e))
 told q (IsSatisfied n) answer = report q (Satisfied n (answerBits q answer))
 told q (IsRefuted n) answer = report q (Refuted n)
 told q (IsExhausted n) answer = report q (Exhausted n)

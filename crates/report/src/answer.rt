@@ -1,7 +1,6 @@
 // An engine's answer, printed.
 use crate::line::put_atom;
-use crate::line::put_count;
-use crate::line::put_refusal;
+use crate::line::put_head;
 use ground::verdict::Verdict;
 use lists::pair;
 ghost use Prim.Native.Nat.{_+_, _<_, _≤_};
@@ -47,12 +46,12 @@ pub fn put_verdict(table: &[u8], answer: &[u8], verdict: Verdict, out: &mut [u8]
     ensures { λ r. ⌜ Put (now (out .entry)) 0 (told (problemIn (now (table .entry))) verdict (now (answer .entry))) 11277 r (now (out .exit)) ⌝ }
 {
     match verdict {
-        Verdict::Refused(e) => put_refusal(e, 0, out, 0),
+        Verdict::Refused(e) => put_head(e, 0, 0, out),
         Verdict::Satisfied(count) => {
-            let next = put_count(1, count, out, 0);
+            let next = put_head(0, 1, count, out);
             put_model(table, answer, out, next)
         }
-        Verdict::Refuted(count) => put_count(0, count, out, 0),
-        Verdict::Exhausted(count) => put_count(2, count, out, 0),
+        Verdict::Refuted(count) => put_head(0, 0, count, out),
+        Verdict::Exhausted(count) => put_head(0, 2, count, out),
     }
 }

@@ -10,7 +10,7 @@ ghost use Rattle.problem.specs.Problem.{atomCount};
 ghost use Rattle.problem.specs.Layout.{problemIn};
 ghost use Rattle.problem.specs.Table.{Lawful};
 ghost use Rattle.writing.specs.contracts.Printed.{Put};
-ghost use Rattle.ground.specs.Report.{atomsInOrder, verdictLine, refusal};
+ghost use Rattle.ground.specs.Report.{atomsInOrder, headLine};
 
 // A frame as a line.
 fn put_frame(frame: &[u8], out: &mut [u8], at: usize) -> usize
@@ -26,28 +26,21 @@ fn put_frame(frame: &[u8], out: &mut [u8], at: usize) -> usize
     put_end(out, next)
 }
 
-// The line of a verdict and a count.
-pub fn put_count(verdict: u8, count: u32, out: &mut [u8], at: usize) -> usize
-    requires { ⌜ at + 13 ≤ length (now out) ⌝ }
-    ensures { λ r. ⌜ Put (now (out .entry)) at (verdictLine verdict count) 13 r (now (out .exit)) ⌝ }
+// The first line, by an answer's numbers.
+pub fn put_head(refusal: u8, number: u8, value: u32, out: &mut [u8]) -> usize
+    requires { ⌜ 13 ≤ length (now out) ⌝ }
+    ensures { λ r. ⌜ Put (now (out .entry)) 0 (headLine (record { refusal = refusal; number = number; clause = 0; value = value })) 13 r (now (out .exit)) ⌝ }
 {
-    let a = (count / 16777216 % 256) as u8;
-    let b = (count / 65536 % 256) as u8;
-    let c = (count / 256 % 256) as u8;
-    let d = (count % 256) as u8;
-    let frame = [129, verdict, a, b, c, d];
-    put_frame(&frame, out, at)
-}
-
-// The line of a refusal.
-pub fn put_refusal(e: u8, line: u16, out: &mut [u8], at: usize) -> usize
-    requires { ⌜ at + 9 ≤ length (now out) ⌝ }
-    ensures { λ r. ⌜ Put (now (out .entry)) at (refusal e line) 9 r (now (out .exit)) ⌝ }
-{
-    let high = (line / 256 % 256) as u8;
-    let low = (line % 256) as u8;
-    let frame = [143, e, high, low];
-    put_frame(&frame, out, at)
+    let c = (value / 256 % 256) as u8;
+    let d = (value % 256) as u8;
+    if refusal != 0 {
+        let frame = [143, refusal, c, d];
+        return put_frame(&frame, out, 0);
+    }
+    let a = (value / 16777216 % 256) as u8;
+    let b = (value / 65536 % 256) as u8;
+    let frame = [129, number, a, b, c, d];
+    put_frame(&frame, out, 0)
 }
 
 // The line of the atom with number a.

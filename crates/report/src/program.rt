@@ -1,6 +1,6 @@
 // What a program prints of a text.
 use crate::answer::put_verdict;
-use crate::line::put_refusal;
+use crate::line::put_head;
 use reading::read::Reading;
 use reading::read::read;
 ghost use Rattle.writing.specs.contracts.Printed.{Put};
@@ -13,7 +13,7 @@ pub fn print_relevancy(text: &[u8], out: &mut [u8; 12288]) -> usize
     let mut table = [0u8; 4096];
     let reading = read(text, &mut table);
     match reading {
-        Reading::Refused(e, line) => put_refusal(e, line, out, 0),
+        Reading::Refused(e, line) => put_head(e, 0, line as u32, out),
         Reading::Accepted => {
             let mut answer = [0u8; 1024];
             let mut work = [0u8; 65536];
@@ -30,7 +30,7 @@ pub fn print_magic(text: &[u8], out: &mut [u8; 12288]) -> usize
     let mut table = [0u8; 4096];
     let reading = read(text, &mut table);
     match reading {
-        Reading::Refused(e, line) => put_refusal(e, line, out, 0),
+        Reading::Refused(e, line) => put_head(e, 0, line as u32, out),
         Reading::Accepted => {
             let mut rules = [0u8; 16384];
             let mut answer = [0u8; 1024];

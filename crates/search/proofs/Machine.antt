@@ -1,5 +1,5 @@
--- Laws of the machine that hold for any way of finding a node: running on, and the walk without a limit.
-use Prim.Native.Nat.{ℕ, zero, suc, _+_}
+-- Laws of the machine that hold for any way of finding a node: running on, the walk without a limit, and the count under one.
+use Prim.Native.Nat.{ℕ, zero, suc, _+_, _≤_}
 use mathlib.Core.Bool.{Bool, cond}
 use mathlib.Core.List.{List, [], _∷_, _++_}
 use mathlib.Core.Option.{Option, none, some, Option·none-ne-some}
@@ -11,7 +11,7 @@ use lib.ListN.{length, length-append}
 use borrow.Author.Tests.{lt-ltb, le-ltb}
 use Rattle.lists.specs.Member.{All}
 use Rattle.search.specs.Ground.{Found, closed, opened, split}
-use Rattle.search.specs.Machine.{Branch, Place, enter, back, after, nextPath, Satisfied, Exhausted, stopped, answerAt, answer, last, place, placed, advance, entries, proceed, Whole}
+use Rattle.search.specs.Machine.{Branch, Place, enter, back, after, nextPath, Outcome, Satisfied, Refuted, Exhausted, stopped, answerAt, answer, last, place, placed, advance, root, entries, proceed, outcome, Whole}
 
 pub last-all {ℓ} : {I : Type 0} (P : Place I → Type ℓ) (s : Place I) (es : List (Place I)) → P s → All P es → P (last s es)
 last-all P s [] h a = h
@@ -29,6 +29,24 @@ answer-satisfied {I} s n m bits e = go (s .found) (nextPath s) e
     go closed o q = absurd (fails o q)
     go (opened b) o q = let same : b ≡ bits = cc in ap opened same
     go (split i ds) o q = absurd (fails o q)
+
+-- of an outcome's count
+abbrev pub Counted : (ℕ → Type 0) → Outcome → Type 0
+Counted P (Satisfied n bits) = P n
+Counted P (Refuted n) = P n
+Counted P (Exhausted n) = P n
+
+answer-counted : {I : Type 0} (P : ℕ → Type 0) (s : Place I) (n : ℕ) → P n → Counted P (answer s n)
+answer-counted {I} P s n p = go (s .found) (nextPath s)
+  where
+    over : (o : Option (List (Branch I))) → Counted P (stopped o n)
+    over none = p
+    over (some bs) = p
+
+    go : (f : Found I) (o : Option (List (Branch I))) → Counted P (answerAt f o n)
+    go closed o = over o
+    go (opened bits) o = p
+    go (split i ds) o = over o
 
 module _ {I : Type 0} (find : List ℕ → Found I) where
   pub entries-some : (n : ℕ) (s t : Place I) → advance find s ≡ some t → entries find (suc n) s ≡ t ∷ entries find n t
@@ -120,3 +138,19 @@ module _ {I : Type 0} (find : List ℕ → Found I) where
   proceed-limit s (t ∷ ts) w zero c = rw (proceed-zero c s, answer-some s t c (w .0), lt-ltb 0 (suc (length ts)) (omega arith), add-zero)
   proceed-limit s (t ∷ ts) w (suc n) c =
       rw (proceed-some n c s t (w .0), proceed-limit t ts (w .1) n (suc c), leb·suc-suc (suc n) (length ts), suc-add c n, suc-add c (length ts), add-suc c n, add-suc c (length ts))
+
+  -- at most as many entries as allowed
+  entries-most : (n : ℕ) (s : Place I) → length (entries find n s) ≤ n
+  unfolding entries
+  entries-most zero s = omega arith
+  entries-most (suc n) s = go (advance find s) (entries-most n)
+    where
+      go : (o : Option (Place I)) → ((t : Place I) → length (entries find n t) ≤ n) → length {A = Place I} (elim o [ none ↦ [] | some t ↦ t ∷ entries find n t ]) ≤ suc n
+      go none h = omega arith
+      go (some t) h = let few : length (entries find n t) ≤ n = h t in omega arith
+
+  pub outcome-count : (limit : ℕ) → Counted (λ n. n ≤ limit) (outcome find limit)
+  unfolding proceed
+  outcome-count limit =
+      let es : List (Place I) = entries find limit (root find) in
+      answer-counted (λ n. n ≤ limit) (last (root find) es) (0 + length es) (omega (arith, entries-most limit (root find)))

@@ -6,16 +6,24 @@ ghost use lib.Dec.{ltb, eqb};
 ghost use lib.ListN.{getD};
 ghost use Rattle.problem.specs.Digit.{digits, digitOf};
 
+// The digit of a value below 16.
+pub fn digit_of(k: u8) -> u8
+    requires { ⌜ k < 16 ⌝ }
+    ensures { λ r. ⌜ r ≡ getD digits k 0 ⌝ }
+{
+    let digits = b"0123456789ABCDEF";
+    let i = k as usize;
+    digits[i]
+}
+
 // k, if it is the value of the digit b; else 16.
 fn value(b: u8, k: u8) -> u8
     ensures { λ r. ⌜ r ≡ cond (ltb k 16 && eqb (getD digits k 0) b) k 16 ⌝ }
 {
-    let digits = b"0123456789ABCDEF";
     if 16 <= k {
         return 16;
     }
-    let i = k as usize;
-    if digits[i] != b {
+    if digit_of(k) != b {
         return 16;
     }
     k
@@ -32,14 +40,4 @@ pub fn digit(b: u8) -> u8
         return value(b, b - 48);
     }
     value(b, b - 55)
-}
-
-// The digit of a value below 16.
-pub fn digit_of(k: u8) -> u8
-    requires { ⌜ k < 16 ⌝ }
-    ensures { λ r. ⌜ r ≡ getD digits k 0 ⌝ }
-{
-    let signs = b"0123456789ABCDEF";
-    let i = k as usize;
-    signs[i]
 }

@@ -29,8 +29,12 @@ pub fn first_line(text: &[u8], at: usize, n: usize) -> Heading
     requires { ⌜ lineAt (now text) at ≡ Holds n ⌝ }
     ensures { λ r. ⌜ r ≡ judgeHeading (frameAt (now (text .entry)) at n) ⌝ }
 {
-    if frame_byte(text, at, n, 0) != 1 {
-        return Heading::Wrong(2);
+    let kind = frame_byte(text, at, n, 0);
+    match kind {
+        1 => {}
+        _ => {
+            return Heading::Wrong(2);
+        }
     }
     if n <= 1 {
         return Heading::Wrong(3);
@@ -75,8 +79,12 @@ pub fn arity_line(text: &[u8], at: usize, n: usize, c: u8, atoms: usize) -> Judg
     requires { ⌜ (c ≤ 32) × (atoms ≤ 1024) ⌝ }
     ensures { λ r. ⌜ r ≡ judgeArity c atoms (frameAt (now (text .entry)) at n) ⌝ }
 {
-    if frame_byte(text, at, n, 0) != 2 {
-        return Judged::Fault(2);
+    let kind = frame_byte(text, at, n, 0);
+    match kind {
+        2 => {}
+        _ => {
+            return Judged::Fault(2);
+        }
     }
     if n <= 1 {
         return Judged::Fault(3);

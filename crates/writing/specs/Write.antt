@@ -6,8 +6,14 @@ use lib.Dec.{ltb}
 use lib.ListN.{length, take, drop}
 use Rattle.writing.specs.declared.write.Writing.{Writing}
 use Rattle.writing.specs.declared.write.Writing.the-variants.{Unwritten, Written}
+use Rattle.problem.specs.Numbers.{Numbers, refusedAs, answered}
 use Rattle.problem.specs.Print.{print}
 use Rattle.problem.specs.Table.{isValid}
+
+-- with the number of bytes written
+abbrev pub writingNumbers : Writing → Numbers
+writingNumbers (Unwritten e) = refusedAs e
+writingNumbers (Written n) = answered 0 n
 
 -- Writing a lent table out: 11 if a lent buffer is too short, 31 if the table's first 4,096 bytes are not valid
 unfoldable pub writeResult : List ℕ → List ℕ → Writing

@@ -1,6 +1,6 @@
 -- `lutsamik::pack_judging` meets its contract.
 use borrow.Author.Needs.{needs}
-use mathlib.Core.Path.{sym, ap}
+use mathlib.Core.Path.{sym, ap, _∙_}
 use Rattle.lutsamik.specs.Pack.{packJudging}
 use Rattle.lutsamik.proofs.pack_judging.Statement.{statement}
 use Rattle.lutsamik.proofs.pack_judging.Tie as tie
@@ -10,24 +10,12 @@ pack-judging-spec =
     tie.close
     (tie.spec
     (λ c. search needs)  -- enum-known-j
-    (λ c. search needs)  -- cast-result
+    (λ c κs. search needs)  -- packed-requires
     (λ c. search needs)  -- enum-told
+    (λ c κs. search needs)  -- packed-requires-2
     (λ c. search needs)  -- enum-known-j-2
-    (λ c. search needs)  -- cast-low
-    (λ c. search needs)  -- mul-low
-    (λ c. search needs)  -- add-low
-    (λ c. search needs)  -- cast-low-2
-    (λ c. search needs)  -- mul-low-2
-    (λ c. search needs)  -- add-low-2
-    (λ c. search needs)  -- cast-high
-    (λ c. search needs)  -- mul-high
-    (λ c. search needs)  -- cast-high-2
-    (λ c. search needs)  -- mul-high-2
-    (λ c. search needs)  -- add-high
-    (λ c. search needs)  -- add-result
-    (λ c. search needs)  -- cast-result-2
-    (λ c. search needs)  -- mul-result
-    (λ c. search needs)  -- add-result-2
-    (λ c. search needs)  -- returns
-    (λ c. search needs)  -- returns-2
-    (λ c. sym (ap packJudging (c .before .j2 .given .1))))  -- returns-3
+    (λ c κs. search needs)  -- number-of-requires
+    (λ c κs. search needs)  -- packed-requires-3
+    (λ c. c .packed .ensures ∙ sym (ap packJudging (c .before .before .j .given .1)))  -- returns
+    (λ c. c .packed2 .ensures ∙ sym (ap packJudging (c .before .enum-told .given .1)))  -- returns-2
+    (λ c. c .packed3 .ensures ∙ rw (c .before .number-of .ensures) (sym (ap packJudging (c .before .before .before .j2 .given .1)))))  -- returns-3

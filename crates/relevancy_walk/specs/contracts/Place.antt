@@ -10,8 +10,8 @@ use Rattle.search.specs.Machine.{entered, root, Genuine}
 use Rattle.store.specs.contracts.Worked.{Worked}
 use Rattle.problem.specs.Problem.{limitOf}
 use Rattle.problem.specs.Layout.{problemIn}
-use Rattle.ground.specs.Instance.{Instance, clauseOf, groundIn}
-use Rattle.relevancy_node.specs.contracts.Node.{TrueOpening, TrueSeeded, ListedInstance, TrueHeld, RelevantHeld, TruthsAlone}
+use Rattle.ground.specs.Instance.{Instance, InstanceOf, clauseOf, groundIn}
+use Rattle.relevancy_node.specs.contracts.Node.{TrueOpening, TrueSeeded, TrueHeld, RelevantHeld, TruthsAlone}
 use Rattle.walk.specs.contracts.Walker.{Site, Walker}
 use Rattle.walk.specs.contracts.Path.{Room, pathIn}
 use Rattle.walk.specs.declared.answer.Found.{Found as Told}
@@ -49,7 +49,7 @@ relevancyWalker tb =
       vars = λ k. (clauseOf (problemIn tb) k) .vars;
       instance = instanceOf;
       alts = instanceAlts tb;
-      Named = λ s. ListedInstance (problemIn tb) (instanceOf s);
+      Named = λ s. InstanceOf (problemIn tb) (instanceOf s);
       Kept = Genuine (findR (groundIn tb));
       RestsAt = TrueAtSplit tb;
       Holds = HeldIn tb;

@@ -18,14 +18,14 @@ put-verdict-spec =
     tie.close
     (tie.spec
     (λ c. search needs)  -- enum-known-verdict
-    (λ c κs. search needs)  -- put-refusal-requires
+    (λ c κs. search needs)  -- put-head-requires
     (λ c. search needs)  -- enum-known-verdict-2
-    (λ c κs. search needs)  -- put-count-requires
+    (λ c κs. search needs)  -- put-head-requires-2
     (λ c κs. search needs)  -- put-model-requires
     (λ c. search needs)  -- enum-known-verdict-3
-    (λ c κs. search needs)  -- put-count-requires-2
+    (λ c κs. search needs)  -- put-head-requires-3
     (λ c. search needs)  -- enum-known-verdict-4
-    (λ c κs. search needs)  -- put-count-requires-3
+    (λ c κs. search needs)  -- put-head-requires-4
     (λ c. search needs)  -- same-length
     (λ c.
     let put = c .before .before in
@@ -34,7 +34,7 @@ put-verdict-spec =
     let q : Problem = problemIn (s .table .now) in
     let answer : List ℕ = s .answer .now in
     put-as
-    (put-most (put .put-refusal .ensures) (omega arith))
+    (put-most (put .put-head .ensures) (omega arith))
     (told-refused q answer _ ∙ ap (λ (w : Verdict). told q w answer) (sym (v .verdict .given .1))))  -- returns
     (λ c. search needs)  -- same-length-2
     (λ c.
@@ -45,7 +45,7 @@ put-verdict-spec =
     let q : Problem = problemIn (s .table .now) in
     let answer : List ℕ = s .answer .now in
     put-as
-    (put-then (first .put-count .ensures) (omega arith) (put .put-model .ensures))
+    (put-then (first .put-head2 .ensures) (omega arith) (put .put-model .ensures))
     (told-satisfied q answer _ ∙ ap (λ (w : Verdict). told q w answer) (sym (v .verdict2 .given .1))))  -- returns-2
     (λ c. search needs)  -- same-length-3
     (λ c.
@@ -55,7 +55,7 @@ put-verdict-spec =
     let q : Problem = problemIn (s .table .now) in
     let answer : List ℕ = s .answer .now in
     put-as
-    (put-most (put .put-count2 .ensures) (omega arith))
+    (put-most (put .put-head3 .ensures) (omega arith))
     (told-refuted q answer _ ∙ ap (λ (w : Verdict). told q w answer) (sym (v .verdict3 .given .1))))  -- returns-3
     (λ c. search needs)  -- same-length-4
     (λ c.
@@ -65,5 +65,5 @@ put-verdict-spec =
     let q : Problem = problemIn (s .table .now) in
     let answer : List ℕ = s .answer .now in
     put-as
-    (put-most (put .put-count3 .ensures) (omega arith))
+    (put-most (put .put-head4 .ensures) (omega arith))
     (told-exhausted q answer _ ∙ ap (λ (w : Verdict). told q w answer) (sym (v .verdict4 .given .1)))))  -- returns-4

@@ -26,7 +26,8 @@ print-relevancy-spec =
     (λ c. search needs)  -- slice-aggregate-read
     (λ c κs. search needs)  -- read-requires
     (λ c. search needs)  -- enum-known-reading
-    (λ c κs. search needs)  -- put-refusal-requires
+    (λ c. search needs)  -- cast-put-head
+    (λ c κs. search needs)  -- put-head-requires
     (λ c. search needs)  -- enum-told
     (λ c. search needs)  -- slice-aggregate-fit
     (λ c. search needs)  -- slice-aggregate-fit-2
@@ -43,7 +44,7 @@ print-relevancy-spec =
     let read = r .before .before .before in
     let x : List ℕ = read .before .before .before .args .text .now in
     put-as
-    (put-most (c .put-refusal .ensures) (omega arith))
+    (put-most (c .put-head .ensures) (omega arith))
     (refusal-printed x (replicate 4096 0) (length-replicate {A = ℕ} 4096 0) relevancy _ _ (sym (r .reading .given .1) ∙ read .read .ensures .0)))  -- returns
     (λ c.
     let fit = c .before .before .before .before .before .before in

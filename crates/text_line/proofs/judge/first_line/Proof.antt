@@ -28,9 +28,9 @@ read c =
     let kind = v .before .frame-byte in
     rw (
       ← kind .ensures,
-      eq-eqb (kind .result) 1 (v .if1 .left),
+      eq-eqb (kind .result) 1 (v .match .keys1),
       frame-length (s .text .now) (s .at) (s .n),
-      lt-ltb 1 (s .n) (c .before .if2 .left),
+      lt-ltb 1 (s .n) (c .before .if1 .left),
       ← c .frame-byte2 .ensures,
     )
 
@@ -43,7 +43,7 @@ constants : (c : tie.After-frame-byte3) → (
 constants c =
     let v = c .before .before .before in
     let s = v .before .before .before .before .before .args in
-    rw (read v, eq-eqb (v .frame-byte2 .result) 1 (c .before .before .if3 .left), lt-ltb 2 (s .n) (c .before .if4 .left), ← c .frame-byte3 .ensures)
+    rw (read v, eq-eqb (v .frame-byte2 .result) 1 (c .before .before .if2 .left), lt-ltb 2 (s .n) (c .before .if3 .left), ← c .frame-byte3 .ensures)
 
 pub first-line-spec : {M : Type 1} → statement M
 unfolding judgeHeading
@@ -51,24 +51,24 @@ first-line-spec =
     tie.close
     (tie.spec
     (λ c κs. let s = c .before in (s .pre, line-size (s .args .text .now) (s .args .at) (s .args .n) (s .pre) .0))  -- frame-byte-requires
-    (λ c. let kind = c .before .frame-byte in rw (← kind .ensures, ne-eqb (kind .result) 1 (c .if1 .taken)))  -- returns
+    (λ c. let kind = c .before .frame-byte in rw (← kind .ensures, ne-eqb (kind .result) 1 (c .match .rest .1)))  -- returns
     (λ c.
     let s = c .before .before .before .before .args in
     let kind = c .before .before .frame-byte in
     rw (
       ← kind .ensures,
-      eq-eqb (kind .result) 1 (c .before .if1 .left),
+      eq-eqb (kind .result) 1 (c .before .match .keys1),
       frame-length (s .text .now) (s .at) (s .n),
-      le-ltb 1 (s .n) (c .if2 .taken),
+      le-ltb 1 (s .n) (c .if1 .taken),
     ))  -- returns-2
     (λ c κs. search needs)  -- frame-byte-requires-2
-    (λ c. rw (read (c .before), ne-eqb (c .before .frame-byte2 .result) 1 (c .if3 .taken)))  -- returns-3
+    (λ c. rw (read (c .before), ne-eqb (c .before .frame-byte2 .result) 1 (c .if2 .taken)))  -- returns-3
     (λ c.
     let v = c .before .before in
     let s = v .before .before .before .before .before .args in
-    rw (read v, eq-eqb (v .frame-byte2 .result) 1 (c .before .if3 .left), le-ltb 2 (s .n) (c .if4 .taken)))  -- returns-4
+    rw (read v, eq-eqb (v .frame-byte2 .result) 1 (c .before .if2 .left), le-ltb 2 (s .n) (c .if3 .taken)))  -- returns-4
     (λ c κs. search needs)  -- frame-byte-requires-3
-    (λ c. rw (constants (c .before), le-ltb (c .before .frame-byte3 .result) 33 (c .if5 .taken)))  -- returns-5
+    (λ c. rw (constants (c .before), le-ltb (c .before .frame-byte3 .result) 33 (c .if4 .taken)))  -- returns-5
     (λ c κs. search needs)  -- sizes-requires
     (λ c.
     let v = c .before .before in

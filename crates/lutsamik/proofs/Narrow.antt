@@ -1,0 +1,178 @@
+-- What each operation answers has room in its bits, and a refusal's number is not 0.
+use Prim.Native.Nat.{ℕ, zero, suc, _^_, _≤_, _<_}
+use mathlib.Core.Bool.{Bool, true, false, cond, _||_}
+use mathlib.Core.List.{List, [], _∷_}
+use mathlib.Core.Option.{Option, none, some}
+use mathlib.Core.Path.{_≡_, refl, subst}
+use native.Mathlib.Omega.{arith}
+use lib.Dec.{T, ltb}
+use lib.ListN.{length, take, getD}
+use Rattle.lists.specs.Member.{All, every, first}
+use Rattle.lists.proofs.Digits.{horner-below}
+use Rattle.lists.proofs.Member.{all-map, first-some}
+use Rattle.search.specs.Ground.{Found}
+use Rattle.search.specs.Machine.{Outcome, Satisfied, Refuted, Exhausted, outcome}
+use Rattle.search.specs.Relevancy.{findR}
+use Rattle.search.proofs.Machine.{Counted, outcome-count}
+use Rattle.problem.specs.Problem.{Problem, Fits, atomCount, limitOf}
+use Rattle.problem.specs.Parse.{Parsed, refused, parsed, parse}
+use Rattle.problem.specs.Layout.{problemIn}
+use Rattle.problem.specs.Print.{print}
+use Rattle.problem.specs.Table.{isValid}
+use Rattle.problem.proofs.Refusals.{parse-refuses}
+use Rattle.problem.proofs.Theorems.{valid-table}
+use Rattle.problem.proofs.WellFormed.{text-short}
+use Rattle.reading.specs.declared.read.Reading.{Reading}
+use Rattle.reading.specs.declared.read.Reading.the-variants as reading
+use Rattle.reading.specs.Read.{readingOf, readResult}
+use Rattle.writing.specs.declared.write.Writing.{Writing}
+use Rattle.writing.specs.declared.write.Writing.the-variants as writing
+use Rattle.writing.specs.Write.{writeResult}
+use Rattle.ground.specs.declared.verdict.Verdict.{Verdict}
+use Rattle.ground.specs.declared.verdict.Verdict.the-variants as verdict
+use Rattle.ground.specs.Instance.{Instance, InstanceOf, groundOf, groundIn}
+use Rattle.ground.specs.Verdict.{verdictOf}
+use Rattle.ground.proofs.Order.{instances-are}
+use Rattle.judging.specs.declared.judge.Judging.{Judging}
+use Rattle.judging.specs.declared.judge.Judging.the-variants as judging
+use Rattle.judging.specs.ModelCheck.{violates, named, checkOf, judgeResult}
+use Rattle.relevancy.specs.Engine.{outcomeIn, tooShort, fitResult}
+use Rattle.rewriting.specs.declared.rewrite.Rewriting.{Rewriting}
+use Rattle.rewriting.specs.declared.rewrite.Rewriting.the-variants as rewriting
+use Rattle.rewriting.specs.Rules.{rewritingOf}
+use Rattle.rewriting.specs.Facts.{findIn}
+use Rattle.rewriting.specs.Rewrite.{rulesOver, rewriteResult}
+use Rattle.rewriting.proofs.LayoutLaws.{rules-count}
+use Rattle.magic.specs.Engine.{rulesOutcome, magicOutcome, magicTooShort, magicResult}
+
+-- a refusal's number, and a value
+abbrev Number : ℕ → Type 0
+Number e = (0 < e) × (e < 256)
+
+abbrev Value : ℕ → Type 0
+Value n = n < 4294967296
+
+abbrev pub NarrowReading : Reading → Type 0
+NarrowReading (reading.Refused e line) = Number e × Value line
+NarrowReading reading.Accepted = Unit
+
+abbrev pub NarrowWriting : Writing → Type 0
+NarrowWriting (writing.Unwritten e) = Number e
+NarrowWriting (writing.Written n) = Value n
+
+-- each of the values 80 to 83 in a byte of its own
+abbrev pub NarrowJudging : Judging → Type 0
+NarrowJudging (judging.Unjudged e) = Number e
+NarrowJudging judging.Model = Unit
+NarrowJudging (judging.Violated k a b c d) = (k < 256) × All (λ x. x < 256) (d ∷ c ∷ b ∷ a ∷ [])
+
+abbrev pub NarrowVerdict : Verdict → Type 0
+NarrowVerdict (verdict.Refused e) = Number e
+NarrowVerdict (verdict.Satisfied n) = Value n
+NarrowVerdict (verdict.Refuted n) = Value n
+NarrowVerdict (verdict.Exhausted n) = Value n
+
+abbrev pub NarrowRewriting : Rewriting → Type 0
+NarrowRewriting (rewriting.Refused e) = Number e
+NarrowRewriting (rewriting.Rewritten n) = Value n
+
+-- what an operation says: 11, then 31, then what it is for
+said : {R : Type 0} (P : R → Type 0) (short valid : Bool) (x y z : R) → P x → (valid ≡ true → P y) → P z → P (cond short x (cond valid y z))
+said P true valid x y z p q r = p
+said P false true x y z p q r = q refl
+said P false false x y z p q r = r
+
+number-11 : Number 11
+number-11 = (omega arith, omega arith)
+
+number-31 : Number 31
+number-31 = (omega arith, omega arith)
+
+-- ---- a text
+
+pub narrow-reading : (x tb : List ℕ) → NarrowReading (readResult x tb)
+unfolding readResult
+narrow-reading x tb = short (ltb (length tb) 4096)
+  where
+    told : (what : Parsed) → parse x ≡ what → NarrowReading (readingOf what)
+    told (refused e line) s = let r = parse-refuses x e line s in ((omega arith, omega arith), omega arith)
+    told (parsed q) s = tt
+
+    short : (b : Bool) → NarrowReading (cond b (reading.Refused 11 0) (readingOf (parse x)))
+    short true = (number-11, omega arith)
+    short false = told (parse x) refl
+
+pub narrow-writing : (tb out : List ℕ) → NarrowWriting (writeResult tb out)
+unfolding writeResult print
+narrow-writing tb out =
+    said NarrowWriting (ltb (length tb) 4096 || ltb (length out) 7168) (isValid (take 4096 tb)) (writing.Unwritten 11) (writing.Written (length (print (take 4096 tb)))) (writing.Unwritten 31)
+    number-11 (λ v. omega (arith, text-short (problemIn (take 4096 tb)) (valid-table (take 4096 tb) v .fits))) number-31
+
+-- ---- a violated instance
+
+at-all : (P : ℕ → Type 0) (xs : List ℕ) (i : ℕ) → P 0 → All P xs → P (getD xs i 0)
+at-all P [] i z a = z
+at-all P (x ∷ xs) zero z a = a .0
+at-all P (x ∷ xs) (suc i) z a = at-all P xs i z (a .1)
+
+narrow-check : (q : Problem) → Fits q → (answer : List ℕ) → NarrowJudging (checkOf q answer)
+unfolding checkOf
+narrow-check q fits answer = go (first (violates q answer) ((groundOf q) .instances)) refl
+  where
+    named-narrow : (i : Instance) → InstanceOf q i → NarrowJudging (named (some i))
+    named-narrow i o =
+        let small : All (λ x. x < 256) (i .values) = all-map (λ x. x < q .constants) (λ x. x < 256) (λ x l. omega (arith, fits .constants-fit)) (i .values) (o .constants) in
+        let each : (n : ℕ) → getD (i .values) n 0 < 256 = λ n. at-all (λ x. x < 256) (i .values) n (omega arith) small in
+        (omega (arith, o .known, fits .clauses-fit), (each 3, (each 2, (each 1, (each 0, tt)))))
+
+    go : (o : Option Instance) → first (violates q answer) ((groundOf q) .instances) ≡ o → NarrowJudging (named o)
+    go none e = tt
+    go (some i) e =
+        named-narrow i
+        (first-some (violates q answer) (InstanceOf q) ((groundOf q) .instances)
+        (all-map (InstanceOf q) (λ j. T (violates q answer j) → InstanceOf q j) (λ j o t. o) ((groundOf q) .instances) (instances-are q)) i e)
+
+pub narrow-judging : (tb answer : List ℕ) → NarrowJudging (judgeResult tb answer)
+unfolding judgeResult
+narrow-judging tb answer =
+    let q = problemIn (take 4096 tb) in
+    said NarrowJudging (ltb (length tb) 4096 || ltb (length answer) 1024) (isValid (take 4096 tb)) (judging.Unjudged 11)
+    (cond (every (λ b. ltb b 2) (take (atomCount (q .constants) (q .arities)) answer)) (checkOf q answer) (judging.Unjudged 32)) (judging.Unjudged 31)
+    number-11 (λ v. bits (every (λ b. ltb b 2) (take (atomCount (q .constants) (q .arities)) answer)) (narrow-check q (valid-table (take 4096 tb) v .fits) answer)) number-31
+  where
+    bits : (b : Bool) → NarrowJudging (checkOf (problemIn (take 4096 tb)) answer) → NarrowJudging (cond b (checkOf (problemIn (take 4096 tb)) answer) (judging.Unjudged 32))
+    bits true h = h
+    bits false h = (omega arith, omega arith)
+
+-- ---- a count
+
+limit-narrow : (q : Problem) → Fits q → Value (limitOf (q .limit))
+limit-narrow q fits = subst (λ (w : ℕ). limitOf (q .limit) < 256 ^ w) (fits .limit-four) (horner-below 256 (q .limit) (fits .limit-bytes))
+
+narrow-outcome : {I : Type 0} (find : List ℕ → Found I) (q : Problem) → Fits q → NarrowVerdict (verdictOf (outcome find (limitOf (q .limit))))
+narrow-outcome find q fits = go (outcome find (limitOf (q .limit))) (outcome-count find (limitOf (q .limit)))
+  where
+    go : (o : Outcome) → Counted (λ n. n ≤ limitOf (q .limit)) o → NarrowVerdict (verdictOf o)
+    go (Satisfied n bits) h = omega (arith, limit-narrow q fits)
+    go (Refuted n) h = omega (arith, limit-narrow q fits)
+    go (Exhausted n) h = omega (arith, limit-narrow q fits)
+
+pub narrow-relevancy : (tb answer work : List ℕ) → NarrowVerdict (fitResult tb answer work)
+unfolding fitResult outcomeIn
+narrow-relevancy tb answer work =
+    said NarrowVerdict (tooShort tb answer work) (isValid (take 4096 tb)) (verdict.Refused 11) (verdictOf (outcomeIn (take 4096 tb))) (verdict.Refused 31)
+    number-11 (λ v. narrow-outcome (findR (groundIn (take 4096 tb))) (problemIn (take 4096 tb)) (valid-table (take 4096 tb) v .fits)) number-31
+
+pub narrow-magic : (tb rules answer work : List ℕ) → NarrowVerdict (magicResult tb rules answer work)
+unfolding magicResult rulesOutcome
+narrow-magic tb rules answer work =
+    let bs = rulesOver (take 4096 tb) (take 16384 rules) in
+    said NarrowVerdict (magicTooShort tb rules answer work) (isValid (take 4096 tb)) (verdict.Refused 11) (verdictOf (magicOutcome (take 4096 tb) (take 16384 rules))) (verdict.Refused 31)
+    number-11 (λ v. narrow-outcome (findIn bs) (problemIn (take 4096 tb)) (valid-table (take 4096 tb) v .fits)) number-31
+
+pub narrow-rewriting : (tb rules : List ℕ) → NarrowRewriting (rewriteResult tb rules)
+unfolding rewriteResult
+narrow-rewriting tb rules =
+    said NarrowRewriting (ltb (length tb) 4096 || ltb (length rules) 16384) (isValid (take 4096 tb)) (rewriting.Refused 11)
+    (rewriting.Rewritten (length (rewritingOf (problemIn (take 4096 tb))))) (rewriting.Refused 31)
+    number-11 (λ v. omega (arith, rules-count (problemIn (take 4096 tb)) (valid-table (take 4096 tb) v .fits))) number-31

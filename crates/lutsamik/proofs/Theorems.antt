@@ -1,0 +1,99 @@
+-- The claims of `specs/Claims.antt`, proved: numbers that have room in their bits are taken apart again, and each answer is what its numbers say.
+use Prim.Native.Nat.{ℕ, _+_, _*_, _/_, _%_, _<_}
+use mathlib.Core.List.{[], _∷_}
+use mathlib.Core.Path.{_≡_, refl, sym, ap, _∙_}
+use native.Mathlib.Omega.{arith}
+use borrow.Author.Tests.{ne-eqb}
+use lib.Arith.{digits-div, digits-mod}
+use Rattle.lists.specs.Digits.{horner}
+use Rattle.lists.proofs.Digits.{four-bytes, digits-top, digits-horner, horner-below}
+use Rattle.problem.specs.Numbers.{Numbers, refusedAt, answered}
+use Rattle.reading.specs.declared.read.Reading.{Reading}
+use Rattle.reading.specs.declared.read.Reading.the-variants as reading
+use Rattle.reading.specs.Read.{readResult}
+use Rattle.writing.specs.declared.write.Writing.{Writing}
+use Rattle.writing.specs.declared.write.Writing.the-variants as writing
+use Rattle.writing.specs.Write.{writeResult}
+use Rattle.ground.specs.declared.verdict.Verdict.{Verdict}
+use Rattle.ground.specs.declared.verdict.Verdict.the-variants as verdict
+use Rattle.judging.specs.declared.judge.Judging.{Judging}
+use Rattle.judging.specs.declared.judge.Judging.the-variants as judging
+use Rattle.judging.specs.ModelCheck.{judgeResult, judgingNumbers}
+use Rattle.rewriting.specs.declared.rewrite.Rewriting.{Rewriting}
+use Rattle.rewriting.specs.declared.rewrite.Rewriting.the-variants as rewriting
+use Rattle.rewriting.specs.Rewrite.{rewriteResult}
+use Rattle.relevancy.specs.Engine.{fitResult}
+use Rattle.magic.specs.Engine.{magicResult}
+use Rattle.lutsamik.specs.Pack.{packed, packReading, packWriting, packJudging, packVerdict, packRewriting, unpacked, asReading, asWriting, asJudging, asVerdict, asRewriting}
+use Rattle.lutsamik.specs.Claims.{Narrow, Theorems}
+use Rattle.lutsamik.proofs.Narrow.{NarrowReading, NarrowWriting, NarrowJudging, NarrowVerdict, NarrowRewriting, narrow-reading, narrow-writing, narrow-judging, narrow-relevancy, narrow-magic, narrow-rewriting}
+
+-- a part of a number, between what stands above it and what stands below
+part : (n above w q m below : ℕ) → n ≡ (above * w + q) * m + below → q < w → below < m → n / m % w ≡ q
+part n above w q m below e small short = ap (λ (k : ℕ). k / m % w) e ∙ ap (λ (k : ℕ). k % w) (digits-div (above * w + q) short) ∙ digits-mod above small
+
+parts-back : (a : Numbers) → Narrow a → unpacked (packed a) ≡ a
+parts-back a narrow =
+    let n = packed a in
+    let rest : n ≡ (a .number + 65536 * a .clause + 16777216 * a .value) * 256 + a .refusal = omega arith in
+    let refusal : n % 256 ≡ a .refusal = ap (λ (k : ℕ). k % 256) rest ∙ digits-mod (a .number + 65536 * a .clause + 16777216 * a .value) (narrow .refusal) in
+    let number : n / 256 % 256 ≡ a .number = part n (256 * a .clause + 65536 * a .value) 256 (a .number) 256 (a .refusal) (omega arith) (narrow .number) (narrow .refusal) in
+    let clause : n / 16777216 % 256 ≡ a .clause = part n (a .value) 256 (a .clause) 16777216 (a .refusal + 256 * a .number) (omega arith) (narrow .clause) (omega arith) in
+    let value : n / 4294967296 % 4294967296 ≡ a .value =
+    part n 0 4294967296 (a .value) 4294967296 (a .refusal + 256 * a .number + 16777216 * a .clause) (omega arith) (narrow .value) (omega arith) in
+    λ d. record { refusal = refusal d; number = number d; clause = clause d; value = value d }
+
+refused-narrow : (e line : ℕ) → e < 256 → line < 4294967296 → Narrow (refusedAt e line)
+refused-narrow e line h l = record { refusal = h; number = omega arith; clause = omega arith; value = l }
+
+answered-narrow : (number value : ℕ) → number < 256 → value < 4294967296 → Narrow (answered number value)
+answered-narrow number value h l = record { refusal = omega arith; number = h; clause = omega arith; value = l }
+
+-- ---- each answer is what its numbers say
+
+reading-back : (r : Reading) → NarrowReading r → asReading (unpacked (packReading r)) ≡ r
+reading-back (reading.Refused e line) h =
+    ap asReading (parts-back (refusedAt e line) (refused-narrow e line (h .0 .1) (h .1))) ∙ rw (ne-eqb e 0 (omega arith))
+reading-back reading.Accepted h = refl
+
+writing-back : (w : Writing) → NarrowWriting w → asWriting (unpacked (packWriting w)) ≡ w
+writing-back (writing.Unwritten e) h = ap asWriting (parts-back (refusedAt e 0) (refused-narrow e 0 (h .1) (omega arith))) ∙ rw (ne-eqb e 0 (omega arith))
+writing-back (writing.Written n) h = ap asWriting (parts-back (answered 0 n) (answered-narrow 0 n (omega arith) h))
+
+judging-back : (j : Judging) → NarrowJudging j → asJudging (unpacked (packJudging j)) ≡ j
+judging-back (judging.Unjudged e) h = ap asJudging (parts-back (refusedAt e 0) (refused-narrow e 0 (h .1) (omega arith))) ∙ rw (ne-eqb e 0 (omega arith))
+judging-back judging.Model h = refl
+judging-back (judging.Violated k a b c d) h =
+    let v : ℕ = horner 256 (d ∷ c ∷ b ∷ a ∷ []) in
+    let small : v < 4294967296 = horner-below 256 (d ∷ c ∷ b ∷ a ∷ []) (h .1) in
+    let bytes : v / 16777216 % 256 ∷ v / 65536 % 256 ∷ v / 256 % 256 ∷ v % 256 ∷ [] ≡ d ∷ c ∷ b ∷ a ∷ [] = sym (four-bytes v) ∙ digits-horner 256 (d ∷ c ∷ b ∷ a ∷ []) (h .1) in
+    let first : v % 256 ≡ a = cc in
+    let second : v / 256 % 256 ≡ b = cc in
+    let third : v / 65536 % 256 ≡ c = cc in
+    let fourth : v / 16777216 ≡ d = cc (digits-top 256 3 v small) in
+    ap asJudging
+    (parts-back (judgingNumbers (judging.Violated k a b c d))
+    (record { refusal = omega arith; number = omega arith; clause = h .0; value = small }))
+    ∙ rw (first, second, third, fourth)
+
+verdict-back : (v : Verdict) → NarrowVerdict v → asVerdict (unpacked (packVerdict v)) ≡ v
+verdict-back (verdict.Refused e) h = ap asVerdict (parts-back (refusedAt e 0) (refused-narrow e 0 (h .1) (omega arith))) ∙ rw (ne-eqb e 0 (omega arith))
+verdict-back (verdict.Satisfied n) h = ap asVerdict (parts-back (answered 1 n) (answered-narrow 1 n (omega arith) h))
+verdict-back (verdict.Refuted n) h = ap asVerdict (parts-back (answered 0 n) (answered-narrow 0 n (omega arith) h))
+verdict-back (verdict.Exhausted n) h = ap asVerdict (parts-back (answered 2 n) (answered-narrow 2 n (omega arith) h))
+
+rewriting-back : (r : Rewriting) → NarrowRewriting r → asRewriting (unpacked (packRewriting r)) ≡ r
+rewriting-back (rewriting.Refused e) h = ap asRewriting (parts-back (refusedAt e 0) (refused-narrow e 0 (h .1) (omega arith))) ∙ rw (ne-eqb e 0 (omega arith))
+rewriting-back (rewriting.Rewritten n) h = ap asRewriting (parts-back (answered 0 n) (answered-narrow 0 n (omega arith) h))
+
+pub theorems : Theorems
+theorems =
+    record {
+      parts-back = parts-back;
+      reading-back = λ x tb. reading-back (readResult x tb) (narrow-reading x tb);
+      writing-back = λ tb out. writing-back (writeResult tb out) (narrow-writing tb out);
+      judging-back = λ tb answer. judging-back (judgeResult tb answer) (narrow-judging tb answer);
+      rewriting-back = λ tb rules. rewriting-back (rewriteResult tb rules) (narrow-rewriting tb rules);
+      relevancy-back = λ tb answer work. verdict-back (fitResult tb answer work) (narrow-relevancy tb answer work);
+      magic-back = λ tb rules answer work. verdict-back (magicResult tb rules answer work) (narrow-magic tb rules answer work);
+    }

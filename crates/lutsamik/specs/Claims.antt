@@ -1,0 +1,28 @@
+-- Packing loses nothing: the number that an operation gives back, taken apart, is its answer. `proofs/Theorems.antt` proves `Theorems`.
+use Prim.Native.Nat.{ℕ, _<_}
+use mathlib.Core.List.{List}
+use mathlib.Core.Path.{_≡_}
+use Rattle.problem.specs.Numbers.{Numbers}
+use Rattle.reading.specs.Read.{readResult}
+use Rattle.writing.specs.Write.{writeResult}
+use Rattle.judging.specs.ModelCheck.{judgeResult}
+use Rattle.rewriting.specs.Rewrite.{rewriteResult}
+use Rattle.relevancy.specs.Engine.{fitResult}
+use Rattle.magic.specs.Engine.{magicResult}
+use Rattle.lutsamik.specs.Pack.{packed, packReading, packWriting, packJudging, packVerdict, packRewriting, unpacked, asReading, asWriting, asJudging, asVerdict, asRewriting}
+
+-- numbers that have room in their bits
+pub record Narrow (a : Numbers) : Type 0 where
+  pub refusal : a .refusal < 256
+  pub number : a .number < 256
+  pub clause : a .clause < 256
+  pub value : a .value < 4294967296
+
+pub record Theorems : Type 0 where
+  pub parts-back : (a : Numbers) → Narrow a → unpacked (packed a) ≡ a
+  pub reading-back : (x tb : List ℕ) → asReading (unpacked (packReading (readResult x tb))) ≡ readResult x tb
+  pub writing-back : (tb out : List ℕ) → asWriting (unpacked (packWriting (writeResult tb out))) ≡ writeResult tb out
+  pub judging-back : (tb answer : List ℕ) → asJudging (unpacked (packJudging (judgeResult tb answer))) ≡ judgeResult tb answer
+  pub rewriting-back : (tb rules : List ℕ) → asRewriting (unpacked (packRewriting (rewriteResult tb rules))) ≡ rewriteResult tb rules
+  pub relevancy-back : (tb answer work : List ℕ) → asVerdict (unpacked (packVerdict (fitResult tb answer work))) ≡ fitResult tb answer work
+  pub magic-back : (tb rules answer work : List ℕ) → asVerdict (unpacked (packVerdict (magicResult tb rules answer work))) ≡ magicResult tb rules answer work
