@@ -2,10 +2,9 @@
 use mathlib.Core.Bool.{Bool, _&&_}
 use mathlib.Core.Path.{_≡_}
 use lib.Dec.{T, eqb, eqb→eq, eqb-refl}
-use Rattle.lists.specs.Bytes.{sameList}
+use Rattle.lists.specs.Bytes.{sameList, same-equal, same-refl}
 use Rattle.lists.specs.Key.{Key}
-use Rattle.lists.proofs.Bytes.{same-equal, same-refl}
-use Rattle.lists.proofs.Test.{and-T, T-left, T-right}
+use Rattle.lists.specs.Test.{and-T, T-left, T-right}
 use Rattle.ground.specs.Instance.{Instance}
 
 abbrev pub sameInstance : Instance → Instance → Bool

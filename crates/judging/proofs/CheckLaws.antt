@@ -12,7 +12,8 @@ use lib.Dec.{T, T-not, eqb, eqb→eq}
 use lib.ListN.{length, getD, length-map}
 use Rattle.lists.specs.Member.{All, Any, every, first, lead}
 use Rattle.lists.proofs.Member.{all-map, every-all, all-every, some-fails, first-none, none-first, lead-all, all-lead}
-use Rattle.lists.proofs.Test.{and-T, T-left, T-right, decided, fails, not-not}
+use Rattle.lists.proofs.Test.{decided, fails, not-not}
+use Rattle.lists.specs.Test.{and-T, T-left, T-right}
 use Rattle.search.specs.Ground.{Model}
 use Rattle.problem.specs.Problem.{Problem}
 use Rattle.judging.specs.declared.judge.Judging.the-variants.{Model as IsModel, Violated}

@@ -4,14 +4,12 @@ use mathlib.Core.List.{List, [], _∷_, _++_, append-assoc, append-nil}
 use mathlib.Core.Path.{_≡_, refl, sym, ap, _∙_}
 use native.Mathlib.Nat.{add-zero, zero-add, suc-add, add-assoc, mul-zero, mul-suc, add-sub-of-le}
 use native.Mathlib.Omega.{arith}
-use lib.Dec.{T, eqb, eqb→eq, eqb-refl}
 use lib.ListN.{length, take, drop, getD, set, replicate, length-append, length-replicate, length-take, length-drop, replicate-append-replicate, drop-of-length-le, take-append-drop, List·getD-append}
 use lib.Seq.{set-at, set-append-seam, take-at, drop-at, getD-append-add, getD-take, getD-drop, drop-nil, drop-append-add, drop-drop, length-take-le, ext-getD}
-use Rattle.lists.specs.Bytes.{pad, sameList, spliced}
+use Rattle.lists.specs.Bytes.{pad, spliced}
 use Rattle.lists.specs.Member.{All}
 use Rattle.lists.specs.Tabulate.{tabulate}
 use Rattle.lists.proofs.Tabulate.{tabulate-length, tabulate-at}
-use Rattle.lists.proofs.Test.{and-T, T-left, T-right}
 
 -- ---- a member by its place
 
@@ -166,18 +164,6 @@ splice-then a bs cs e h =
     ∙ ap (λ (n : ℕ). drop n e) whole
     in
     rw (start, rest, append-assoc (take a e) bs cs)
-
--- ---- equality
-
-pub same-equal : (xs ys : List ℕ) → T (sameList xs ys) → xs ≡ ys
-same-equal [] [] t = refl
-same-equal [] (y ∷ ys) t = absurd t
-same-equal (x ∷ xs) [] t = absurd t
-same-equal (x ∷ xs) (y ∷ ys) t = rw (eqb→eq x y (T-left (eqb x y) (sameList xs ys) t), same-equal xs ys (T-right (eqb x y) (sameList xs ys) t))
-
-pub same-refl : (xs : List ℕ) → T (sameList xs xs)
-same-refl [] = tt
-same-refl (x ∷ xs) = and-T (eqb x x) (sameList xs xs) (eqb-refl x) (same-refl xs)
 
 -- ---- records one after another: each is made of a running number, to which it adds, and of an element
 

@@ -10,7 +10,8 @@ use lib.Dec.{T}
 use lib.ListN.{length}
 use Rattle.lists.specs.Key.{Key}
 use Rattle.lists.specs.Member.{All, Any, every, first, has, In, lead}
-use Rattle.lists.proofs.Test.{and-T, T-left, T-right, T-true, T-false, or-left, or-right, T-or}
+use Rattle.lists.proofs.Test.{T-true, T-false, or-left, or-right, T-or}
+use Rattle.lists.specs.Test.{and-T, T-left, T-right}
 
 pub flat-append : {A B : Type 0} (f : A → List B) (xs ys : List A) → flatMap f (xs ++ ys) ≡ flatMap f xs ++ flatMap f ys
 unfolding flatMap

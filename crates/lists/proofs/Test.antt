@@ -1,22 +1,10 @@
 -- Tests as types: what `&&`, `||`, `not`, a decided test and the tests of two numbers give.
 use Prim.Native.Nat.{ℕ, _≤_, _<_}
-use mathlib.Core.Bool.{Bool, true, false, not, _&&_, _||_}
+use mathlib.Core.Bool.{Bool, true, false, not, _||_}
 use mathlib.Core.Logic.{_⊎_, inl, inr}
 use mathlib.Core.Path.{_≡_, refl}
 use borrow.Author.Tests.{eqb-true, eqb-false, ltb-true, ltb-false}
 use lib.Dec.{T, eqb, ltb}
-
-pub and-T : (a b : Bool) → T a → T b → T (a && b)
-and-T true b p q = q
-and-T false b p q = p
-
-pub T-left : (a b : Bool) → T (a && b) → T a
-T-left true b p = tt
-T-left false b p = p
-
-pub T-right : (a b : Bool) → T (a && b) → T b
-T-right true b p = p
-T-right false b p = absurd p
 
 pub or-left : (a b : Bool) → T a → T (a || b)
 or-left true b p = tt

@@ -2,8 +2,10 @@
 use Prim.Native.Nat.{ℕ, _+_, _-_}
 use mathlib.Core.Bool.{Bool, true, false, _&&_}
 use mathlib.Core.List.{List, [], _∷_, _++_}
-use lib.Dec.{eqb}
+use mathlib.Core.Path.{_≡_, refl}
+use lib.Dec.{T, eqb, eqb→eq, eqb-refl}
 use lib.ListN.{length, take, drop, getD, replicate}
+use Rattle.lists.specs.Test.{and-T, T-left, T-right}
 
 -- xs, and zeros after it to the length n
 abbrev pub pad : ℕ → List ℕ → List ℕ
@@ -14,6 +16,17 @@ sameList [] [] = true
 sameList [] (y ∷ ys) = false
 sameList (x ∷ xs) [] = false
 sameList (x ∷ xs) (y ∷ ys) = eqb x y && sameList xs ys
+
+-- the test is right
+pub same-equal : (xs ys : List ℕ) → T (sameList xs ys) → xs ≡ ys
+same-equal [] [] t = refl
+same-equal [] (y ∷ ys) t = absurd t
+same-equal (x ∷ xs) [] t = absurd t
+same-equal (x ∷ xs) (y ∷ ys) t = rw (eqb→eq x y (T-left (eqb x y) (sameList xs ys) t), same-equal xs ys (T-right (eqb x y) (sameList xs ys) t))
+
+pub same-refl : (xs : List ℕ) → T (sameList xs xs)
+same-refl [] = tt
+same-refl (x ∷ xs) = and-T (eqb x x) (sameList xs xs) (eqb-refl x) (same-refl xs)
 
 -- a list with these bytes from a place on
 abbrev pub spliced : ℕ → List ℕ → List ℕ → List ℕ

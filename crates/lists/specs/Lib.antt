@@ -1,4 +1,5 @@
 pub mod Key
+pub mod Test
 pub mod Member
 pub mod Tabulate
 pub mod Bytes

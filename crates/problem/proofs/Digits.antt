@@ -12,7 +12,7 @@ use lib.ListN.{length, getD}
 use Rattle.lists.specs.Digits.{horner}
 use Rattle.lists.specs.Member.{All}
 use Rattle.lists.proofs.Digits.{horner-below, digits-horner}
-use Rattle.lists.proofs.Test.{T-left, T-right}
+use Rattle.lists.specs.Test.{T-left, T-right}
 use Rattle.problem.specs.Digit.{digits, placeOf, digitOf, isDigit, hexByte}
 
 -- what stands at the place of b is b

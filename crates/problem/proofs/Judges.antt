@@ -9,7 +9,8 @@ use lib.Dec.{T, eqb, ltb, leb, eqb→eq, ltb→lt, nltb→le, leb→le}
 use lib.ListN.{length, take, drop, getD, length-append, length-drop, take-append-drop}
 use lib.Seq.{drop-cons, drop-drop, take-all, drop-length, length-take-le}
 use Rattle.lists.specs.Member.{All, Any}
-use Rattle.lists.proofs.Test.{T-left, T-right, decided}
+use Rattle.lists.proofs.Test.{decided}
+use Rattle.lists.specs.Test.{T-left, T-right}
 use Rattle.lists.proofs.Member.{all-map, any-flat, flat-append}
 use Rattle.problem.specs.declared.judge.Judged.{Judged}
 use Rattle.problem.specs.declared.judge.Judged.the-variants.{Fault, Found}

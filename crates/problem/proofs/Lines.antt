@@ -12,7 +12,8 @@ use lib.ListN.{length, drop, getD, List·getD-eq-default}
 use lib.Seq.{drop-cons}
 use Rattle.lists.specs.Digits.{horner}
 use Rattle.lists.specs.Member.{All}
-use Rattle.lists.proofs.Test.{T-left, T-right, T-true, T-false, decided}
+use Rattle.lists.proofs.Test.{T-true, T-false, decided}
+use Rattle.lists.specs.Test.{T-left, T-right}
 use Rattle.lists.proofs.Bytes.{drop-next, tabulate-of}
 use Rattle.lists.proofs.Member.{flat-snoc}
 use Rattle.lists.proofs.Tabulate.{tabulate-length, tabulate-at, all-tabulate}

@@ -6,7 +6,7 @@ use mathlib.Core.Path.{_≡_, refl, subst}
 use native.Mathlib.Omega.{arith}
 use lib.Dec.{T, eqb, ltb, leb, leb→le}
 use lib.ListN.{length, take, drop, getD}
-use Rattle.lists.proofs.Test.{T-left, T-right}
+use Rattle.lists.specs.Test.{T-left, T-right}
 use Rattle.problem.specs.declared.line.Line.{Line}
 use Rattle.problem.specs.declared.line.Line.the-variants.{Absent, Bad, Holds}
 use Rattle.problem.specs.declared.judge.Judged.{Judged}

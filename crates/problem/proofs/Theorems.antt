@@ -4,8 +4,7 @@ use mathlib.Core.Bool.{true}
 use mathlib.Core.List.{List}
 use mathlib.Core.Path.{_≡_, refl, sym, ap, subst, _∙_}
 use lib.Dec.{T}
-use Rattle.lists.specs.Bytes.{sameList}
-use Rattle.lists.proofs.Bytes.{same-equal, same-refl}
+use Rattle.lists.specs.Bytes.{sameList, same-equal, same-refl}
 use Rattle.problem.specs.Problem.{Problem, Fits}
 use Rattle.problem.specs.Parse.{Parsed, refused, parsed, parse}
 use Rattle.problem.specs.Layout.{layout, problemIn}

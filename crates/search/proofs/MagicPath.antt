@@ -8,7 +8,7 @@ use native.Mathlib.Omega.{arith}
 use lib.Dec.{T}
 use Rattle.lists.specs.Key.{Key}
 use Rattle.lists.specs.Member.{All, every, first}
-use Rattle.lists.proofs.Test.{T-left}
+use Rattle.lists.specs.Test.{T-left}
 use Rattle.lists.proofs.Member.{first-some}
 use Rattle.search.specs.Ground.{Ground, Proper, split, disjunctive}
 use Rattle.search.specs.Relevancy.{foundAs, modelBits, findR}

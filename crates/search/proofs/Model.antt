@@ -11,7 +11,8 @@ use lib.Dec.{T, T-not}
 use lib.ListN.{length, getD}
 use Rattle.lists.specs.Key.{natKey}
 use Rattle.lists.specs.Member.{All, Any, every, first, In}
-use Rattle.lists.proofs.Test.{and-T, decided, not-not}
+use Rattle.lists.proofs.Test.{decided, not-not}
+use Rattle.lists.specs.Test.{and-T}
 use Rattle.lists.proofs.Member.{all-map, all-zip, any-zip, every-all, all-every, some-fails, first-none}
 use Rattle.lists.proofs.Tabulate.{tabulate-at, tabulate-length}
 use Rattle.search.specs.Ground.{Ground, Proper, Model, Marked, closed, opened, split, goals, orFalse, disjunctive}

@@ -9,7 +9,8 @@ use lib.ListN.{length}
 use Rattle.lists.specs.Key.{Key}
 use Rattle.lists.specs.Member.{All, every, first}
 use Rattle.lists.specs.Tabulate.{tabulate}
-use Rattle.lists.proofs.Test.{and-T, T-left, T-right, same-test, fails, T-true}
+use Rattle.lists.proofs.Test.{same-test, fails, T-true}
+use Rattle.lists.specs.Test.{and-T, T-left, T-right}
 use Rattle.lists.proofs.Member.{all-map, all-zip, every-all, all-every}
 use Rattle.search.specs.Ground.{Ground, Found, goals, orFalse, disjunctive}
 use Rattle.search.specs.Relevancy.{isTrue, isRelevant, splittable, modelBits, foundAs, withAlts, findR}

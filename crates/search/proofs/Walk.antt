@@ -6,7 +6,7 @@ use mathlib.Core.Path.{_≡_, sym, subst}
 use lib.Dec.{T, T-not}
 use Rattle.lists.specs.Key.{natKey}
 use Rattle.lists.specs.Member.{All, every, In}
-use Rattle.lists.proofs.Test.{T-left, T-right}
+use Rattle.lists.specs.Test.{T-left, T-right}
 use Rattle.lists.proofs.Member.{all-map, all-zip, every-all, first-some, has-all}
 use Rattle.search.specs.Ground.{Ground, Proper, split, disjunctive}
 use Rattle.search.specs.Relevancy.{trueSet, relevantSet, isTrue, isRelevant, splittable, findR}

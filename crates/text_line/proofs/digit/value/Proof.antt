@@ -1,6 +1,4 @@
 -- `text_line::digit::value` meets its contract.
-use mathlib.Core.Path.{sym}
-use native.Mathlib.Omega.{arith}
 use borrow.Author.Needs.{needs}
 use borrow.Author.Tests.{lt-ltb, le-ltb, eq-eqb, ne-eqb}
 use Rattle.text_line.proofs.digit.value.Statement.{statement}
