@@ -1,18 +1,9 @@
--- Document 01's K1 to K9, from text to printed lines.
-use Prim.Native.Nat.{ℕ}
-use Prim.Native.Char.{code}
+-- Document 01's K1 to K9, and a refused text, from text to printed lines.
 use Prim.Native.String.{String}
-use Prim.Native.String as Text
-use mathlib.Core.Bool.{true, false}
 use mathlib.Core.List.{List, [], _∷_, map}
 use mathlib.Core.Path.{_≡_}
-use lib.Dec.{eqb}
+use Rattle.problem.specs.Cases.{quoted}
 use Rattle.ground.specs.Walks.{relevancy, magic, printed}
-
--- a quoted text's bytes: a stroke between spaces ends a line
-abbrev pub quoted : String → List ℕ
-quoted Text.[] = 10 ∷ []
-quoted (Text._∷_ c s) = elim (eqb (code c) 32) [ true ↦ quoted s | false ↦ elim (eqb (code c) 47) [ true ↦ 10 ∷ quoted s | false ↦ code c ∷ quoted s ] ]
 
 pub record Case : Type 0 where
   pub text : String
@@ -31,7 +22,16 @@ cases =
     ∷ record { text = "0101000100000064 / 0200 / 0300020000 / 03010000 / FF02"; output = "810000000002" }
     ∷ []
 
+-- K10 with a further predicate
+abbrev pub refusals : List Case
+refusals = record { text = "0101200200000064 / 0202 / 0200 / FF00"; output = "8F090003" } ∷ []
+
 -- in every case each walk, the relevancy walk first, prints what document 01 says
+abbrev pub Printed : List Case → Type 0
+Printed ks = map (λ k. printed relevancy (quoted (k .text)) ∷ printed magic (quoted (k .text)) ∷ []) ks ≡ map (λ k. quoted (k .output) ∷ quoted (k .output) ∷ []) ks
+
 abbrev pub CasesHold : Type 0
-CasesHold =
-    map (λ k. printed relevancy (quoted (k .text)) ∷ printed magic (quoted (k .text)) ∷ []) cases ≡ map (λ k. quoted (k .output) ∷ quoted (k .output) ∷ []) cases
+CasesHold = Printed cases
+
+abbrev pub RefusalsPrinted : Type 0
+RefusalsPrinted = Printed refusals

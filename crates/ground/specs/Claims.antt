@@ -8,7 +8,7 @@ use Rattle.lists.specs.Member.{All, Any}
 use Rattle.lists.specs.Tabulate.{tabulate}
 use Rattle.search.specs.Ground.{Proper}
 use Rattle.problem.specs.Problem.{Problem, Fits, atomCount}
-use Rattle.ground.specs.Cases.{CasesHold}
+use Rattle.ground.specs.Cases.{CasesHold, RefusalsPrinted}
 use Rattle.ground.specs.Instance.{Instance, GroundAtom, AtomOf, InstanceOf, groundNumber, groundOf}
 use Rattle.ground.specs.Report.{atomsInOrder}
 
@@ -39,3 +39,5 @@ pub record Theorems : Type 0 where
   pub proper : (q : Problem) → Fits q → Proper (groundOf q)
   -- K1 to K9, from the text to the printed lines, by both walks
   pub cases-hold : CasesHold
+  -- and what is printed of a refusal
+  pub refusals-printed : RefusalsPrinted

@@ -8,4 +8,5 @@ pub mod WellFormed
 pub mod Accepted
 pub mod Refusals
 pub mod Access
+pub mod Cases
 pub mod Theorems

@@ -14,6 +14,7 @@ use Rattle.problem.specs.Claims.{Theorems}
 use Rattle.problem.proofs.Parse.{parse-text, parse-fits}
 use Rattle.problem.proofs.Accepted.{parse-accepts}
 use Rattle.problem.proofs.Refusals.{parse-refuses}
+use Rattle.problem.proofs.Cases.{refusals-hold}
 use Rattle.problem.proofs.TableLayout.{layout-length, problem-back}
 
 pub print-back : (x : List ℕ) (q : Problem) → parse x ≡ parsed q → print (layout q) ≡ x
@@ -51,6 +52,7 @@ theorems =
     record {
       accepted = λ x q. (λ e. (parse-fits x q e, parse-text x q e), λ r. ap parse (sym (r .1)) ∙ parse-accepts q (r .0));
       refusals = parse-refuses;
+      refusals-hold = refusals-hold;
       table-length = layout-length;
       problem-back = problem-back;
       valid = λ tb. (valid-from tb, valid-to tb);

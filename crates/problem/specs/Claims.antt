@@ -10,12 +10,15 @@ use Rattle.problem.specs.Parse.{refused, parsed, parse}
 use Rattle.problem.specs.Layout.{layout, problemIn}
 use Rattle.problem.specs.Print.{textOf}
 use Rattle.problem.specs.Table.{Valid, Lawful, isValid}
+use Rattle.problem.specs.Cases.{RefusalsHold}
 
 pub record Theorems : Type 0 where
   -- exactly the texts of well-formed problems are accepted, and each reads to the problem whose text it is
   pub accepted : (x : List ℕ) (q : Problem) → (parse x ≡ parsed q) ↔ (Fits q × (textOf q ≡ x))
   -- any other is refused by one of the numbers 1 to 10, at a line from 1 to 99
   pub refusals : (x : List ℕ) (e line : ℕ) → parse x ≡ refused e line → (1 ≤ e) × (e ≤ 10) × (1 ≤ line) × (line ≤ 99)
+  -- which number and which line, text by text
+  pub refusals-hold : RefusalsHold
   -- a table is 4,096 bytes, and the problem laid out in it is found in it
   pub table-length : (q : Problem) → Fits q → length (layout q) ≡ 4096
   pub problem-back : (q : Problem) → Fits q → problemIn (layout q) ≡ q

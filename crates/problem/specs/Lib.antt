@@ -7,4 +7,5 @@ pub mod Parse
 pub mod Layout
 pub mod Print
 pub mod Table
+pub mod Cases
 pub mod Claims
