@@ -1,17 +1,17 @@
 -- Laws of the model check: what it says.
 use Prim.Native.Nat.{ℕ}
-use mathlib.Core.Bool.{Bool, true, false, not, cond}
+use mathlib.Core.Bool.{Bool, not}
 use mathlib.Core.HLevel.{⊥-prop}
-use mathlib.Core.List.{List, [], _∷_, _++_}
+use mathlib.Core.List.{List, _∷_}
 use mathlib.Core.Logic.{_⊎_, inl, inr, ∥∥₁-elim}
-use mathlib.Core.Option.{Option, none, some, Option·none-ne-some}
-use mathlib.Core.Path.{_≡_, refl, sym, ap, subst, _∙_}
+use mathlib.Core.Option.{Option, none, some}
+use mathlib.Core.Path.{_≡_, refl, sym, ap, _∙_}
 use native.Mathlib.Omega.{arith}
 use borrow.Author.Tests.{eq-eqb}
 use lib.Dec.{T, T-not, eqb, eqb→eq}
 use lib.ListN.{length, getD, length-map}
 use Rattle.lists.specs.Member.{All, Any, every, first, lead}
-use Rattle.lists.proofs.Member.{all-map, every-all, all-every, some-fails, first-none, none-first, lead-all, all-lead}
+use Rattle.lists.proofs.Member.{all-map, every-all, all-every, some-fails, first-none, none-first, first-of, lead-all, all-lead}
 use Rattle.lists.proofs.Test.{decided, fails, not-not}
 use Rattle.lists.specs.Test.{and-T, T-left, T-right}
 use Rattle.search.specs.Ground.{Model}
@@ -22,7 +22,7 @@ use Rattle.lists.specs.Bytes.{isSet}
 use Rattle.judging.specs.ModelCheck.{violates, named, checkOf}
 use Rattle.judging.specs.Claims.{FirstViolated}
 
--- ---- tests, and the first member that passes one
+-- ---- tests
 
 module _ {A : Type 0} where
   any-map : (P Q : A → Type 0) → ((x : A) → P x → Q x) → (xs : List A) → Any P xs → Any Q xs
@@ -33,26 +33,6 @@ module _ {A : Type 0} where
   apart : (p : A → Bool) (xs : List A) → Any (λ x. T (p x)) xs → All (λ x. T (not (p x))) xs → ⊥
   apart p (x ∷ xs) (inl t) a = T-not (p x) (a .0) t
   apart p (x ∷ xs) (inr t) a = apart p xs t (a .1)
-
-  -- where the first member that passes stands
-  pub record Stands (p : A → Bool) (xs : List A) (y : A) : Type 0 where
-    pub before : List A
-    pub after : List A
-    pub order : xs ≡ before ++ (y ∷ after)
-    pub none-before : All (λ x. T (not (p x))) before
-    pub here : T (p y)
-
-  pub first-stands : (p : A → Bool) (xs : List A) (y : A) → first p xs ≡ some y → Stands p xs y
-  first-stands p [] y e = absurd (Option·none-ne-some y e)
-  first-stands p (x ∷ xs) y e = go (p x) refl (first-stands p xs y) e
-    where
-      go : (b : Bool) → p x ≡ b → (first p xs ≡ some y → Stands p xs y) → cond b (some x) (first p xs) ≡ some y → Stands p (x ∷ xs) y
-      go true t f u =
-          let same : x ≡ y = cc in
-          record { before = []; after = xs; order = rw same; none-before = tt; here = subst (λ (z : A). T (p z)) same (subst T (sym t) tt) }
-      go false t f u =
-          let s = f u in
-          record { before = x ∷ s .before; after = s .after; order = ap (λ (l : List A). x ∷ l) (s .order); none-before = (subst (λ (b : Bool). T (not b)) (sym t) tt, s .none-before); here = s .here }
 
 -- ---- what violated means
 
@@ -147,13 +127,13 @@ module _ (q : Problem) (answer : List ℕ) where
   violated-first k a b c d e =
       let is = (groundOf q) .instances in
       let n = named-violated (first (violates q answer) is) k a b c d e in
-      let s = first-stands (violates q answer) is (n .found) (n .some-found) in
+      let s = first-of (violates q answer) (λ i. T (violates q answer i)) (λ i t. t) (λ i t. t) is (n .found) (n .some-found) in
       record {
         before = s .before;
         found = n .found;
         after = s .after;
         order = s .order;
-        none-before = s .none-before;
+        none-before = all-map (λ i. T (violates q answer i) → ⊥) (λ i. T (not (violates q answer i))) (λ i. fails (violates q answer i)) (s .before) (s .none-before);
         here = s .here;
         clause = n .clause;
         value-80 = n .value-80;

@@ -9,7 +9,7 @@ use native.Mathlib.Omega.{arith}
 use lib.Dec.{T}
 use lib.ListN.{length}
 use Rattle.lists.specs.Key.{Key}
-use Rattle.lists.specs.Member.{All, Any, every, first, has, In, lead}
+use Rattle.lists.specs.Member.{All, Any, every, first, FirstOf, has, In, lead}
 use Rattle.lists.proofs.Test.{T-true, T-false, or-left, or-right, T-or}
 use Rattle.lists.specs.Test.{and-T, T-left, T-right}
 
@@ -146,6 +146,19 @@ module _ {A : Type 0} where
       go : (b : Bool) → (T b → P x) → (first p xs ≡ some y → P y) → cond b (some x) (first p xs) ≡ some y → P y
       go true h f u = let q : x ≡ y = cc in subst P q (h tt)
       go false h f u = f u
+
+  -- where the first that passes stands, of a test that tells P
+  pub first-of : (p : A → Bool) (P : A → Type 0) → ((x : A) → T (p x) → P x) → ((x : A) → P x → T (p x)) → (xs : List A) (y : A) → first p xs ≡ some y → FirstOf P xs y
+  first-of p P f g [] y e = absurd (Option·none-ne-some y e)
+  first-of p P f g (x ∷ xs) y e = go (p x) (f x) (g x) (first-of p P f g xs y) e
+    where
+      go : (b : Bool) → (T b → P x) → (P x → T b) → (first p xs ≡ some y → FirstOf P xs y) → cond b (some x) (first p xs) ≡ some y → FirstOf P (x ∷ xs) y
+      go true to from rest u =
+          let same : x ≡ y = cc in
+          record { before = []; after = xs; order = rw same; none-before = tt; here = subst P same (to tt) }
+      go false to from rest u =
+          let s = rest u in
+          record { before = x ∷ s .before; after = s .after; order = ap (λ (l : List A). x ∷ l) (s .order); none-before = (from, s .none-before); here = s .here }
 
   -- two tests that agree on every member find the same first one
   pub first-same : (p q : A → Bool) (xs : List A) → All (λ x. p x ≡ q x) xs → first p xs ≡ first q xs

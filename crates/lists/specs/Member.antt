@@ -1,9 +1,10 @@
 -- What holds of every member of a list, of some member, and membership by an equality test.
 use Prim.Native.Nat.{ℕ, suc}
 use mathlib.Core.Bool.{Bool, true, false, cond, _&&_, _||_}
-use mathlib.Core.List.{List, [], _∷_}
+use mathlib.Core.List.{List, [], _∷_, _++_}
 use mathlib.Core.Logic.{_⊎_}
 use mathlib.Core.Option.{Option, none, some}
+use mathlib.Core.Path.{_≡_}
 use lib.Dec.{T}
 use Rattle.lists.specs.Key.{Key}
 
@@ -23,6 +24,14 @@ every p (x ∷ xs) = p x && every p xs
 abbrev pub first : {A : Type 0} → (A → Bool) → List A → Option A
 first p [] = none
 first p (x ∷ xs) = cond (p x) (some x) (first p xs)
+
+-- x is the first member of which P holds
+pub record FirstOf {A : Type 0} (P : A → Type 0) (xs : List A) (x : A) : Type 0 where
+  pub before : List A
+  pub after : List A
+  pub order : xs ≡ before ++ (x ∷ after)
+  pub none-before : All (λ y. P y → ⊥) before
+  pub here : P x
 
 abbrev pub has : {K : Type 0} → Key K → List K → K → Bool
 has k [] x = false

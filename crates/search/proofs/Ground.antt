@@ -1,10 +1,11 @@
 -- Laws of a ground problem: which clauses are disjunctive, and models that agree on its atoms.
-use Prim.Native.Nat.{ℕ, _<_}
+use Prim.Native.Nat.{ℕ, _≤_, _<_}
 use mathlib.Core.Bool.{true, false}
 use mathlib.Core.List.{List, [], _∷_}
 use mathlib.Core.Logic.{∥∥₁-map}
 use mathlib.Core.Path.{_≡_, refl}
 use native.Mathlib.Omega.{arith}
+use lib.Dec.{T}
 use lib.ListN.{length}
 use Rattle.lists.specs.Member.{All, Any}
 use Rattle.lists.proofs.Member.{all-zip, any-zip}
@@ -14,6 +15,11 @@ pub disjunctive-two : (ds : List ℕ) → 1 < length ds → disjunctive ds ≡ t
 disjunctive-two [] h = absurd (omega arith)
 disjunctive-two (a ∷ []) h = absurd (omega arith)
 disjunctive-two (a ∷ b ∷ ds) h = refl
+
+pub disjunctive-many : (ds : List ℕ) → T (disjunctive ds) → 2 ≤ length ds
+disjunctive-many [] t = absurd t
+disjunctive-many (a ∷ []) t = absurd t
+disjunctive-many (a ∷ b ∷ ds) t = omega arith
 
 pub disjunctive-few : (ds : List ℕ) → length ds < 2 → disjunctive ds ≡ false
 disjunctive-few [] h = refl

@@ -6,6 +6,7 @@ pub mod Refuted
 pub mod Sound
 pub mod Relevancy
 pub mod Found
+pub mod Choice
 pub mod Walk
 pub mod Model
 pub mod Magic

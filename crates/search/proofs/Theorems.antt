@@ -19,6 +19,7 @@ use Rattle.search.proofs.Machine.{entries-on, proceed-on, whole-unique,
 use Rattle.search.proofs.Path.{Reached, trail-reached, last-opened}
 use Rattle.search.proofs.Sound.{sound-walk}
 use Rattle.search.proofs.Found.{findR-opened}
+use Rattle.search.proofs.Choice.{relevancy-chooses, magic-chooses}
 use Rattle.search.proofs.Walk.{path-relevant}
 use Rattle.search.proofs.Model.{relevancy-sound}
 use Rattle.search.proofs.Magic.{same-relevant, same-true}
@@ -67,6 +68,8 @@ theorems =
       sound-walk = sound-walk;
       relevancy-sound = relevancy-sound;
       magic-sound = magic-sound;
+      relevancy-chooses = relevancy-chooses;
+      magic-chooses = magic-chooses;
       model-given = model-given;
       one-trail = one-trail;
       cases-hold = cases-hold;

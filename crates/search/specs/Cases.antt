@@ -1,4 +1,4 @@
--- Small ground problems at which the mistakes show that document 01 names. Its worked cases stand with the text, in the crate `ground`.
+-- Small ground problems at which mistakes show. The worked cases of document 01 stand with the text, in the crate `ground`.
 use Prim.Native.Nat.{ℕ}
 use mathlib.Core.Bool.{true, false}
 use mathlib.Core.List.{List, [], _∷_, map}
@@ -33,7 +33,7 @@ byRelevancy k = outcome (findR (problemOf k)) (k .limit)
 abbrev pub byMagic : Case → Outcome
 byMagic k = outcome (findM natKey (k .atoms) (rewriting (problemOf k))) (k .limit)
 
--- the mistakes that look harmless, and the problems at which they show
+-- the mistakes, and the problems at which they show
 abbrev pub cases : List Case
 cases =
     -- Not 0 and 1. Wanting the later condition too early, or handing out the true atoms, takes atom 1 out of the model; a magic rule that does not
@@ -50,6 +50,20 @@ cases =
     ∷ record { atoms = 1; instances = ([], []) ∷ []; limit = 100; expected = Refuted 0 }
     -- 0 or 0. Not 0. Spent after the first entry
     ∷ record { atoms = 1; instances = ([], 0 ∷ 0 ∷ []) ∷ (0 ∷ [], []) ∷ []; limit = 1; expected = Exhausted 1 }
+    -- 0 or 1. 1 or 2. Not 0. Not 1. Not 2 and 3. Splitting the last instance that can be split makes four entries
+    ∷ record {
+      atoms = 4;
+      instances = ([], 0 ∷ 1 ∷ []) ∷ ([], 1 ∷ 2 ∷ []) ∷ (0 ∷ [], []) ∷ (1 ∷ [], []) ∷ (2 ∷ 3 ∷ [], []) ∷ [];
+      limit = 100;
+      expected = Refuted 2;
+    }
+    -- 0. 0 or 1. Not 0 and 2. Not 1 and 2. Asking that no alternative is entered, and not that none is true, enters 0
+    ∷ record {
+      atoms = 3;
+      instances = ([], 0 ∷ []) ∷ ([], 0 ∷ 1 ∷ []) ∷ (0 ∷ 2 ∷ [], []) ∷ (1 ∷ 2 ∷ [], []) ∷ [];
+      limit = 100;
+      expected = Satisfied 0 (true ∷ false ∷ false ∷ []);
+    }
     ∷ []
 
 abbrev pub AsExpected : (Case → Outcome) → Type 0

@@ -10,7 +10,8 @@ use Rattle.lists.specs.Member.{All, In, Distinct}
 use Rattle.search.specs.Closure.{Rule, Closed, least}
 use Rattle.search.specs.Ground.{Ground, Proper, Model, Marked, Found}
 use Rattle.search.specs.Relevancy.{isTrue, isRelevant, modelBits, findR}
-use Rattle.search.specs.Magic.{tru, rel, rewriting, holds, findM}
+use Rattle.search.specs.Magic.{tru, rel, MagicRule, rewriting, holds, findM}
+use Rattle.search.specs.Choice.{RelevancyChoice, MagicChoice}
 use Rattle.search.specs.Sound.{SoundFind}
 use Rattle.search.specs.Machine.{Place, entered, Satisfied, Refuted, Exhausted, answer, last, root, entries, trail, proceed, outcome, FullWalk}
 use Rattle.search.specs.Cases.{CasesHold}
@@ -77,6 +78,9 @@ pub record Theorems : Type 1 where
   -- both walks of a ground problem are sound
   pub relevancy-sound : {I : Type 0} (p : Ground I) → Proper p → SoundFind p (findR p)
   pub magic-sound : {I : Type 0} (k : Key I) (p : Ground I) → Proper p → SoundFind p (findM k (p .atoms) (rewriting p))
+  -- each closes, splits and leaves open as document 01 says
+  pub relevancy-chooses : {I : Type 0} (p : Ground I) (l : List ℕ) → RelevancyChoice p l
+  pub magic-chooses : {I : Type 0} (k : Key I) (n : ℕ) (rs : List (MagicRule I)) (l : List ℕ) → MagicChoice k n rs l
   -- the model that the relevancy walk gives is that of its open place; by `one-trail` so is the magic walk's
   pub model-given : {I : Type 0} (p : Ground I) (limit n : ℕ) (bits : List Bool) → outcome (findR p) limit ≡ Satisfied n bits → bits ≡ modelAt p (lastPlace (findR p) limit)
   pub one-trail : {I : Type 0} (k : Key I) (p : Ground I) (limit : ℕ) → OneTrail k p limit

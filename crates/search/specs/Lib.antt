@@ -4,5 +4,6 @@ pub mod Relevancy
 pub mod Magic
 pub mod Machine
 pub mod Sound
+pub mod Choice
 pub mod Claims
 pub mod Cases
