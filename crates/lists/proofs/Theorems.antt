@@ -19,7 +19,7 @@ theorems =
       digits-back = digits-horner;
       kept = horner-mod;
       listed = tuples-at;
-      first-digit = λ c w n h. digits-first c w n;
+      first-digit = digits-first;
       low-back = low-back;
       leads = λ t atoms. (lead-all t atoms, all-lead t atoms);
     }

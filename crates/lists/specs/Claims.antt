@@ -28,7 +28,7 @@ pub record Theorems : Type 0 where
   -- all lists of w digits, each at the place of its number
   pub listed : (c w : ℕ) → tuples c w ≡ tabulate (digitsOf c w) (c ^ w)
   -- the first of w + 1 digits
-  pub first-digit : (c w n : ℕ) → 0 < c → digitsOf c (suc w) n ≡ n / c ^ w % c ∷ digitsOf c w n
+  pub first-digit : (c w n : ℕ) → digitsOf c (suc w) n ≡ n / c ^ w % c ∷ digitsOf c w n
   -- a number written as w bytes with the low byte first, among others, is read there again
   pub low-back : (w n : ℕ) (front back : List ℕ) → n < 256 ^ w → lowNumber w (front ++ lowBytes w n ++ back) (length front) ≡ n
   -- as many hold from the left as there are, exactly if all hold

@@ -1,12 +1,11 @@
 -- The claims of `specs/Claims.antt`, proved: numbers that have room in their bits are taken apart again, and each answer is what its numbers say.
 use Prim.Native.Nat.{ℕ, _+_, _*_, _/_, _%_, _<_}
 use mathlib.Core.List.{[], _∷_}
-use mathlib.Core.Path.{_≡_, refl, sym, ap, _∙_}
+use mathlib.Core.Path.{_≡_, refl, ap, _∙_}
 use native.Mathlib.Omega.{arith}
 use borrow.Author.Tests.{ne-eqb}
 use lib.Arith.{digits-div, digits-mod}
-use Rattle.lists.specs.Digits.{horner}
-use Rattle.lists.proofs.Digits.{four-bytes, digits-top, digits-horner, horner-below}
+use Rattle.lists.proofs.Digits.{digits-horner, horner-below}
 use Rattle.problem.specs.Numbers.{Numbers, refusedAt, answered}
 use Rattle.reading.specs.declared.read.Reading.{Reading}
 use Rattle.reading.specs.declared.read.Reading.the-variants as reading
@@ -24,7 +23,7 @@ use Rattle.rewriting.specs.declared.rewrite.Rewriting.the-variants as rewriting
 use Rattle.rewriting.specs.Rewrite.{rewriteResult}
 use Rattle.relevancy.specs.Engine.{fitResult}
 use Rattle.magic.specs.Engine.{magicResult}
-use Rattle.lutsamik.specs.Pack.{packed, packReading, packWriting, packJudging, packVerdict, packRewriting, unpacked, asReading, asWriting, asJudging, asVerdict, asRewriting}
+use Rattle.lutsamik.specs.Pack.{packed, packReading, packWriting, packJudging, packVerdict, packRewriting, unpacked, asReading, asWriting, violatedBy, asJudging, asVerdict, asRewriting}
 use Rattle.lutsamik.specs.Claims.{Narrow, Theorems}
 use Rattle.lutsamik.proofs.Narrow.{NarrowReading, NarrowWriting, NarrowJudging, NarrowVerdict, NarrowRewriting, narrow-reading, narrow-writing, narrow-judging, narrow-relevancy, narrow-magic, narrow-rewriting}
 
@@ -64,17 +63,11 @@ judging-back : (j : Judging) → NarrowJudging j → asJudging (unpacked (packJu
 judging-back (judging.Unjudged e) h = ap asJudging (parts-back (refusedAt e 0) (refused-narrow e 0 (h .1) (omega arith))) ∙ rw (ne-eqb e 0 (omega arith))
 judging-back judging.Model h = refl
 judging-back (judging.Violated k a b c d) h =
-    let v : ℕ = horner 256 (d ∷ c ∷ b ∷ a ∷ []) in
-    let small : v < 4294967296 = horner-below 256 (d ∷ c ∷ b ∷ a ∷ []) (h .1) in
-    let bytes : v / 16777216 % 256 ∷ v / 65536 % 256 ∷ v / 256 % 256 ∷ v % 256 ∷ [] ≡ d ∷ c ∷ b ∷ a ∷ [] = sym (four-bytes v) ∙ digits-horner 256 (d ∷ c ∷ b ∷ a ∷ []) (h .1) in
-    let first : v % 256 ≡ a = cc in
-    let second : v / 256 % 256 ≡ b = cc in
-    let third : v / 65536 % 256 ≡ c = cc in
-    let fourth : v / 16777216 ≡ d = cc (digits-top 256 3 v small) in
+    let values = d ∷ c ∷ b ∷ a ∷ [] in
     ap asJudging
     (parts-back (judgingNumbers (judging.Violated k a b c d))
-    (record { refusal = omega arith; number = omega arith; clause = h .0; value = small }))
-    ∙ rw (first, second, third, fourth)
+    (record { refusal = omega arith; number = omega arith; clause = h .0; value = horner-below 256 values (h .1) }))
+    ∙ ap (violatedBy k) (digits-horner 256 values (h .1))
 
 verdict-back : (v : Verdict) → NarrowVerdict v → asVerdict (unpacked (packVerdict v)) ≡ v
 verdict-back (verdict.Refused e) h = ap asVerdict (parts-back (refusedAt e 0) (refused-narrow e 0 (h .1) (omega arith))) ∙ rw (ne-eqb e 0 (omega arith))

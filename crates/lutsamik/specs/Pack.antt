@@ -2,7 +2,10 @@
 -- that it names; bits 32 to 63 the value that goes with it.
 use Prim.Native.Nat.{ℕ, zero, suc, _+_, _*_, _/_, _%_}
 use mathlib.Core.Bool.{cond}
+use mathlib.Core.List.{List}
 use lib.Dec.{eqb}
+use lib.ListN.{getD}
+use Rattle.lists.specs.Digits.{bytesOf}
 use Rattle.problem.specs.Numbers.{Numbers}
 use Rattle.reading.specs.declared.read.Reading.{Reading}
 use Rattle.reading.specs.declared.read.Reading.the-variants as reading
@@ -48,12 +51,14 @@ asReading a = cond (eqb (a .refusal) 0) reading.Accepted (reading.Refused (a .re
 abbrev pub asWriting : Numbers → Writing
 asWriting a = cond (eqb (a .refusal) 0) (writing.Written (a .value)) (writing.Unwritten (a .refusal))
 
+-- clause k with the values of 83, 82, 81 and 80
+abbrev pub violatedBy : ℕ → List ℕ → Judging
+violatedBy k values = judging.Violated k (getD values 3 0) (getD values 2 0) (getD values 1 0) (getD values 0 0)
+
 abbrev pub asJudging : Numbers → Judging
 asJudging a =
     cond (eqb (a .refusal) 0)
-    (cond (eqb (a .number) 1)
-    judging.Model
-    (judging.Violated (a .clause) (a .value % 256) (a .value / 256 % 256) (a .value / 65536 % 256) (a .value / 16777216)))
+    (cond (eqb (a .number) 1) judging.Model (violatedBy (a .clause) (bytesOf 4 (a .value))))
     (judging.Unjudged (a .refusal))
 
 abbrev pub verdictBy : ℕ → ℕ → Verdict
