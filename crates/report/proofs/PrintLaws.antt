@@ -1,12 +1,12 @@
 -- What is printed of a text: a refusal of its reading, or what is told of the table that it was read into.
 use Prim.Native.Nat.{ℕ, _≤_}
 use mathlib.Core.Bool.{Bool, true}
-use mathlib.Core.List.{List, append-nil}
-use mathlib.Core.Path.{_≡_, refl, sym, ap, _∙_}
+use mathlib.Core.List.{List, _++_, append-nil}
+use mathlib.Core.Path.{_≡_, refl, sym, ap, ap₂, _∙_}
 use native.Mathlib.Omega.{arith}
 use borrow.Author.Tests.{le-ltb}
 use lib.ListN.{length, take, drop, length-append, drop-of-length-le}
-use lib.Seq.{take-all}
+use lib.Seq.{take-all, length-take-le}
 use Rattle.lists.proofs.Test.{T-true}
 use Rattle.search.specs.Ground.{Found}
 use Rattle.search.specs.Relevancy.{findR}
@@ -23,7 +23,7 @@ use Rattle.reading.proofs.TextRead.{text-read}
 use Rattle.writing.specs.contracts.Printed.{Put}
 use Rattle.problem.proofs.Parse.{parse-fits}
 use Rattle.problem.proofs.TableLayout.{layout-length, problem-back}
-use Rattle.writing.proofs.WriteLaws.{put-count, put-front, put-text}
+use Rattle.writing.proofs.WriteLaws.{put-count, put-front}
 use Rattle.problem.proofs.Theorems.{valid-to, valid-lawful}
 use Rattle.ground.specs.Instance.{Instance, groundOf}
 use Rattle.ground.specs.Report.{headLine, report}
@@ -38,7 +38,7 @@ use Rattle.rewriting.specs.RulesLayout.{rulesLayout}
 use Rattle.magic.specs.Engine.{rulesOutcome, magicOutcome, magicResult, magicAnswer}
 use Rattle.rewriting.proofs.RegroupLaws.{find-by}
 use Rattle.magic.proofs.EngineLaws.{long-enough as all-long}
-use Rattle.report.specs.Told.{told}
+use Rattle.report.specs.contracts.Told.{told}
 use Rattle.report.proofs.ToldLaws.{told-outcome}
 
 abbrev Walk : Type 0
@@ -147,9 +147,16 @@ module _ (x tb : List ℕ) (t : ReadInto x tb) where
 
 -- ---- what was printed from the start of a buffer
 
-module _ {e x bs : List ℕ} {m r : ℕ} (p : Put e 0 bs m r x) where
+-- so many bytes, and the rest as it was
+abbrev Out : List ℕ → List ℕ → ℕ → List ℕ → Type 0
+Out e bs r x = (r ≡ length bs) × (x ≡ bs ++ drop r e)
+
+pub put-out : {e x bs cs : List ℕ} {m r : ℕ} → Put e 0 bs m r x → bs ≡ cs → Out e cs r x
+put-out {e} {x} {bs} p same = let n = put-count p in (rw same at n, put-front p ∙ ap₂ (λ (k : ℕ) (front : List ℕ). front ++ drop k e) (sym n) same)
+
+module _ (walk : Walk) (text e : List ℕ) {x : List ℕ} {r : ℕ} (p : Out e (printed walk text) r x) where
   pub printed-within : r ≤ length x
-  printed-within = omega (arith, put-count p, ap length (put-front p), length-append bs (drop (length bs) e))
+  printed-within = omega (arith, p .0, ap length (p .1), length-append (printed walk text) (drop r e))
 
   pub printed-size : r ≡ length (take r x)
-  printed-size = put-count p ∙ sym (ap length (put-text p))
+  printed-size = sym (length-take-le r x printed-within)

@@ -22,7 +22,7 @@ use Rattle.ground.specs.contracts.Matching.{Decoded}
 use Rattle.ground.specs.Report.{atomsInOrder, chosen}
 use Rattle.ground.proofs.MatchLaws.{PredicateKnown, predicate-known}
 use Rattle.ground.proofs.Order.{order-count, order-at}
-use Rattle.report.specs.Told.{atomLine, modelLines}
+use Rattle.report.specs.contracts.Told.{atomLine, modelLines}
 
 -- ---- an atom's frame
 

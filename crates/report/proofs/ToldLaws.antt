@@ -12,7 +12,7 @@ use Rattle.ground.specs.Report.{headLine, report}
 use Rattle.ground.specs.declared.verdict.Verdict.the-variants.{Refused, Satisfied as IsSatisfied, Refuted as IsRefuted, Exhausted as IsExhausted}
 use Rattle.ground.specs.Verdict.{verdictOf, answerOf, verdictNumbers}
 use Rattle.ground.proofs.AnswerLaws.{given-set}
-use Rattle.report.specs.Told.{answerBits, modelLines, told}
+use Rattle.report.specs.contracts.Told.{answerBits, modelLines, told}
 
 module _ (q : Problem) (answer : List ℕ) where
   pub told-refused : (e : ℕ) → headLine (verdictNumbers (Refused e)) ≡ told q (Refused e) answer

@@ -9,7 +9,7 @@ ghost use Rattle.problem.specs.Problem.{atomCount};
 ghost use Rattle.problem.specs.Layout.{problemIn};
 ghost use Rattle.problem.specs.Table.{Lawful};
 ghost use Rattle.writing.specs.contracts.Printed.{Put};
-ghost use Rattle.report.specs.Told.{atomLine, modelLines, told};
+ghost use Rattle.report.specs.contracts.Told.{atomLine, modelLines, told};
 
 // The line of atom a, if its answer byte is 1.
 fn put_chosen(table: &[u8], answer: &[u8], a: usize, out: &mut [u8], at: usize) -> usize

@@ -3,12 +3,14 @@ use crate::answer::put_verdict;
 use crate::line::put_head;
 use reading::read::Reading;
 use reading::read::read;
-ghost use Rattle.writing.specs.contracts.Printed.{Put};
+ghost use mathlib.Core.List.{_++_};
+ghost use mathlib.Core.Path.{_≡_};
+ghost use lib.ListN.{length, drop};
 ghost use Rattle.ground.specs.Walks.{relevancy, magic, printed};
 
 // Prints what the relevancy engine says of a text, and gives the number of bytes.
 pub fn print_relevancy(text: &[u8], out: &mut [u8; 12288]) -> usize
-    ensures { λ r. ⌜ Put (now (out .entry)) 0 (printed relevancy (now (text .entry))) 11277 r (now (out .exit)) ⌝ }
+    ensures { λ r. ⌜ (r ≡ length (printed relevancy (now (text .entry)))) × (now (out .exit) ≡ printed relevancy (now (text .entry)) ++ drop r (now (out .entry))) ⌝ }
 {
     let mut table = [0u8; 4096];
     let reading = read(text, &mut table);
@@ -25,7 +27,7 @@ pub fn print_relevancy(text: &[u8], out: &mut [u8; 12288]) -> usize
 
 // The same by the magic engine.
 pub fn print_magic(text: &[u8], out: &mut [u8; 12288]) -> usize
-    ensures { λ r. ⌜ Put (now (out .entry)) 0 (printed magic (now (text .entry))) 11277 r (now (out .exit)) ⌝ }
+    ensures { λ r. ⌜ (r ≡ length (printed magic (now (text .entry)))) × (now (out .exit) ≡ printed magic (now (text .entry)) ++ drop r (now (out .entry))) ⌝ }
 {
     let mut table = [0u8; 4096];
     let reading = read(text, &mut table);

@@ -16,8 +16,8 @@ case-spec =
     (λ c. search needs)  -- slice-aggregate-print-relevancy
     (λ c κs. search needs)  -- print-relevancy-requires
     (λ c. search needs)  -- slice-aggregate-say
-    (λ c. printed-within (c .before .print-relevancy .ensures))  -- array-share-prefix-out
-    (λ c. printed-size (c .before .before .print-relevancy .ensures))  -- slice-aggregate-same
+    (λ c. printed-within _ _ _ (c .before .print-relevancy .ensures))  -- array-share-prefix-out
+    (λ c. printed-size _ _ _ (c .before .before .print-relevancy .ensures))  -- slice-aggregate-same
     (λ c. search needs)  -- array-share-prefix-expected
     (λ c. search needs)  -- slice-aggregate-same-2
     (λ c κs. search needs)  -- same-requires
@@ -26,8 +26,8 @@ case-spec =
     (λ c. search needs)  -- slice-aggregate-print-magic
     (λ c κs. search needs)  -- print-magic-requires
     (λ c. search needs)  -- slice-aggregate-say-2
-    (λ c. printed-within (c .before .print-magic .ensures))  -- array-share-prefix-out-2
-    (λ c. printed-size (c .before .before .print-magic .ensures))  -- slice-aggregate-same-3
+    (λ c. printed-within _ _ _ (c .before .print-magic .ensures))  -- array-share-prefix-out-2
+    (λ c. printed-size _ _ _ (c .before .before .print-magic .ensures))  -- slice-aggregate-same-3
     (λ c. search needs)  -- array-share-prefix-expected-2
     (λ c. search needs)  -- slice-aggregate-same-4
     (λ c κs. search needs)  -- same-requires-2

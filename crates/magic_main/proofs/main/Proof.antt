@@ -13,7 +13,7 @@ main-spec =
     (λ c. search needs)  -- array-share-prefix-text
     (λ c. search needs)  -- slice-aggregate-print-magic
     (λ c κs. search needs)  -- print-magic-requires
-    (λ c. printed-within (c .print-magic .ensures))  -- array-share-prefix-out
-    (λ c. printed-size (c .before .print-magic .ensures))  -- slice-aggregate-write-all
+    (λ c. printed-within _ _ _ (c .print-magic .ensures))  -- array-share-prefix-out
+    (λ c. printed-size _ _ _ (c .before .print-magic .ensures))  -- slice-aggregate-write-all
     (λ c κs. search needs)  -- write-all-requires
     (λ c. search needs))  -- returns

@@ -8,7 +8,7 @@ use Rattle.problem.specs.Problem.{Problem}
 use Rattle.problem.specs.Layout.{problemIn}
 use Rattle.writing.proofs.WriteLaws.{put-as, put-most, put-then}
 use Rattle.ground.specs.declared.verdict.Verdict.{Verdict}
-use Rattle.report.specs.Told.{told}
+use Rattle.report.specs.contracts.Told.{told}
 use Rattle.report.proofs.ToldLaws.{told-refused, told-satisfied, told-refuted, told-exhausted}
 use Rattle.report.proofs.answer.put_verdict.Statement.{statement}
 use Rattle.report.proofs.answer.put_verdict.Tie as tie

@@ -5,9 +5,8 @@ use mathlib.Core.Path.{sym, _∙_}
 use native.Mathlib.Omega.{arith}
 use borrow.Author.Needs.{needs}
 use lib.ListN.{replicate, length-replicate}
-use Rattle.writing.proofs.WriteLaws.{put-as, put-most}
 use Rattle.ground.specs.Walks.{relevancy}
-use Rattle.report.proofs.PrintLaws.{ReadInto, refusal-printed, text-taken, taken-lawful, fit-printed}
+use Rattle.report.proofs.PrintLaws.{ReadInto, refusal-printed, text-taken, taken-lawful, fit-printed, put-out}
 use Rattle.report.proofs.program.print_relevancy.Statement.{statement}
 use Rattle.report.proofs.program.print_relevancy.Tie as tie
 
@@ -43,14 +42,14 @@ print-relevancy-spec =
     let r = c .before .before .before in
     let read = r .before .before .before in
     let x : List ℕ = read .before .before .before .args .text .now in
-    put-as
-    (put-most (c .put-head .ensures) (omega arith))
+    put-out
+    (c .put-head .ensures)
     (refusal-printed x (replicate 4096 0) (length-replicate {A = ℕ} 4096 0) relevancy _ _ (sym (r .reading .given .1) ∙ read .read .ensures .0)))  -- returns
     (λ c.
     let fit = c .before .before .before .before .before .before in
     let e = fit .before .before .before .before in
     let tb : List ℕ = e .before .before .before .read .last .1 .0 in
-    put-as
+    put-out
     (c .put-verdict .ensures)
     (fit-printed (e .before .before .before .before .before .before .args .text .now) tb (taken e) (replicate 1024 0) (replicate 65536 0) (fit .fit .last .1 .0) (fit .fit .result)
     (omega (arith, length-replicate {A = ℕ} 1024 0))
