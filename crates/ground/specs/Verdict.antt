@@ -1,10 +1,9 @@
 -- An engine's verdict by the outcome of its walk, and the answer that it leaves.
-use Prim.Native.Nat.{ℕ, _+_}
-use mathlib.Core.Bool.{Bool, not, _||_}
+use Prim.Native.Nat.{ℕ}
 use mathlib.Core.List.{List, _++_, map}
 use lib.ListN.{length, drop}
 use Rattle.search.specs.Machine.{Outcome, Satisfied, Refuted, Exhausted}
-use Rattle.lists.specs.Bytes.{isSet, bit}
+use Rattle.lists.specs.Bytes.{bit}
 use Rattle.problem.specs.Numbers.{Numbers, refusedAs, answered}
 use Rattle.ground.specs.declared.verdict.Verdict.{Verdict}
 use Rattle.ground.specs.declared.verdict.Verdict.the-variants.{Refused, Satisfied as IsSatisfied, Refuted as IsRefuted, Exhausted as IsExhausted}
@@ -26,7 +25,3 @@ abbrev pub answerOf : Outcome → List ℕ → List ℕ
 answerOf (Satisfied n bits) answer = map bit bits ++ drop (length bits) answer
 answerOf (Refuted n) answer = answer
 answerOf (Exhausted n) answer = answer
-
--- atom a is in the model given
-abbrev pub chosenBit : List ℕ → ℕ → Bool
-chosenBit work a = isSet work a || not (isSet work (1025 + a))

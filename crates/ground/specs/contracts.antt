@@ -5,3 +5,4 @@ pub mod Matching
 pub mod Index
 pub mod Visit
 pub mod Sides
+pub mod Chosen

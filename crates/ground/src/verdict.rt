@@ -8,7 +8,7 @@ ghost use Rattle.search.specs.Relevancy.{modelBits};
 ghost use Rattle.lists.specs.Bytes.{isSet, bit};
 ghost use Rattle.lists.specs.Digits.{horner};
 ghost use Rattle.problem.specs.Problem.{limitOf};
-ghost use Rattle.ground.specs.Verdict.{chosenBit};
+ghost use Rattle.ground.specs.contracts.Chosen.{chosenBit};
 
 // What an engine says: a refusal's number, or fits, none or spent with the count of entries.
 pub enum Verdict {

@@ -6,7 +6,8 @@ use native.Mathlib.Nat.{add-zero, zero-add, suc-add, add-assoc, mul-zero, mul-su
 use native.Mathlib.Omega.{arith}
 use lib.ListN.{length, take, drop, getD, set, replicate, length-append, length-replicate, length-take, length-drop, replicate-append-replicate, drop-of-length-le, take-append-drop, List·getD-append}
 use lib.Seq.{set-at, set-append-seam, take-at, drop-at, getD-append-add, getD-take, getD-drop, drop-nil, drop-append-add, drop-drop, length-take-le, ext-getD}
-use Rattle.lists.specs.Bytes.{pad, spliced}
+use Rattle.lists.specs.Bytes.{pad}
+use Rattle.lists.specs.contracts.Spliced.{spliced}
 use Rattle.lists.specs.Member.{All}
 use Rattle.lists.specs.Tabulate.{tabulate}
 use Rattle.lists.proofs.Tabulate.{tabulate-length, tabulate-at}

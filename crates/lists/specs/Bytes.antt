@@ -1,10 +1,10 @@
--- Lists of bytes: padding, equality, bytes put over others, and flags.
-use Prim.Native.Nat.{ℕ, _+_, _-_}
+-- Lists of bytes: padding, equality and flags.
+use Prim.Native.Nat.{ℕ, _-_}
 use mathlib.Core.Bool.{Bool, true, false, _&&_}
 use mathlib.Core.List.{List, [], _∷_, _++_}
 use mathlib.Core.Path.{_≡_, refl}
 use lib.Dec.{T, eqb, eqb→eq, eqb-refl}
-use lib.ListN.{length, take, drop, getD, replicate}
+use lib.ListN.{length, getD, replicate}
 use Rattle.lists.specs.Test.{and-T, T-left, T-right}
 
 -- xs, and zeros after it to the length n
@@ -27,10 +27,6 @@ same-equal (x ∷ xs) (y ∷ ys) t = rw (eqb→eq x y (T-left (eqb x y) (sameLis
 pub same-refl : (xs : List ℕ) → T (sameList xs xs)
 same-refl [] = tt
 same-refl (x ∷ xs) = and-T (eqb x x) (sameList xs xs) (eqb-refl x) (same-refl xs)
-
--- a list with these bytes from a place on
-abbrev pub spliced : ℕ → List ℕ → List ℕ → List ℕ
-spliced at bytes xs = take at xs ++ bytes ++ drop (at + length bytes) xs
 
 -- the set that flags stand for, and a flag's byte
 abbrev pub isSet : List ℕ → ℕ → Bool

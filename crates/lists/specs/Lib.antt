@@ -5,3 +5,4 @@ pub mod Tabulate
 pub mod Bytes
 pub mod Digits
 pub mod Claims
+pub mod contracts

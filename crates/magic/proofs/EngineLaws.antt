@@ -13,7 +13,8 @@ use Rattle.ground.specs.declared.verdict.Verdict.{Verdict}
 use Rattle.ground.specs.declared.verdict.Verdict.the-variants.{Refused}
 use Rattle.ground.specs.Verdict.{verdictOf, answerOf}
 use Rattle.rewriting.specs.RulesLayout.{rulesLayout}
-use Rattle.rewriting.specs.Facts.{Ruled, findIn}
+use Rattle.rewriting.specs.Facts.{findIn}
+use Rattle.rewriting.specs.contracts.Ruled.{Ruled}
 use Rattle.rewriting.specs.Rewrite.{rulesOver}
 use Rattle.walk.specs.contracts.Place.{bitsIn}
 use Rattle.walk.specs.contracts.Walk.{Tells}

@@ -12,7 +12,7 @@ ghost use Prim.Native.Nat.{_≤_};
 ghost use lib.ListN.{length, replicate};
 ghost use Rattle.problem.specs.Table.{Lawful};
 ghost use Rattle.ground.specs.Verdict.{verdictOf, answerOf};
-ghost use Rattle.rewriting.specs.Facts.{Ruled};
+ghost use Rattle.rewriting.specs.contracts.Ruled.{Ruled};
 ghost use Rattle.rewriting.specs.Rewrite.{rulesOver};
 ghost use Rattle.magic.specs.Engine.{rulesOutcome, magicOutcome, magicResult, magicRules, magicAnswer, magicWork};
 

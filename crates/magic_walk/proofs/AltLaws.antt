@@ -17,7 +17,7 @@ use Rattle.ground.specs.contracts.Heading.{NumberedIn}
 use Rattle.ground.proofs.AtomLaws.{number-takes, value-fits}
 use Rattle.rewriting.specs.Rules.{RuleGives, onward, alternatives}
 use Rattle.rewriting.specs.RulesLayout.{givenAtoms}
-use Rattle.rewriting.specs.Facts.{Ruled, ruleAt, theRule}
+use Rattle.rewriting.specs.contracts.Ruled.{Ruled, ruleAt, theRule}
 use Rattle.magic_node.specs.contracts.Choosing.{headsBy}
 use Rattle.magic_node.specs.contracts.Applied.{siteWith, Applied}
 use Rattle.magic_node.specs.contracts.Watch.{sitePlace}

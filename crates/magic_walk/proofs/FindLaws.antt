@@ -10,7 +10,8 @@ use Rattle.store.specs.contracts.Store.{logged}
 use Rattle.store.proofs.Laws.{store-few}
 use Rattle.ground.specs.Instance.{Instance}
 use Rattle.ground.specs.Names.{instanceKey}
-use Rattle.rewriting.specs.Facts.{Ruled, falseIn, magicIn, findIn}
+use Rattle.rewriting.specs.Facts.{falseIn, magicIn, findIn}
+use Rattle.rewriting.specs.contracts.Ruled.{Ruled}
 use Rattle.magic_node.specs.contracts.Node.{HeldOpening, ClosedByRules, OpenByRules, SplitByRules, HeldSettled}
 use Rattle.magic_node.specs.declared.node.Node.{Node}
 use Rattle.magic_node.proofs.RuledLaws.{rule-read, ruled-few}

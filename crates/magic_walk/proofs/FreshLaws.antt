@@ -13,7 +13,9 @@ use Rattle.store.specs.contracts.Store.{Added, logged}
 use Rattle.store.proofs.Laws.{added-in}
 use Rattle.store.proofs.Lent.{added-carries, added-each}
 use Rattle.ground.specs.Instance.{Instance}
-use Rattle.rewriting.specs.Facts.{Ruled, falseIn, findIn, relevantFact}
+use Rattle.rewriting.specs.Facts.{falseIn, findIn}
+use Rattle.rewriting.specs.contracts.Ruled.{Ruled}
+use Rattle.rewriting.specs.contracts.Numbered.{relevantFact}
 use Rattle.magic_node.specs.contracts.Watch.{sitePlace, askedAt, siteGoals, Met, continuationsIn}
 use Rattle.magic_node.specs.contracts.Node.{HeldOpening, HeldStarted, HeldSeeded}
 use Rattle.magic_node.proofs.WatchLaws.{met-grows, continuations-all, continuations-same}

@@ -9,7 +9,8 @@ use Rattle.search.proofs.Sound.{path-small, path-short}
 use Rattle.ground.specs.Instance.{Instance, groundOf}
 use Rattle.ground.proofs.Instances.{atoms-are, atoms-few}
 use Rattle.rewriting.specs.Claims.{ReadBack}
-use Rattle.rewriting.specs.Facts.{Ruled, falseIn, findIn}
+use Rattle.rewriting.specs.Facts.{falseIn, findIn}
+use Rattle.rewriting.specs.contracts.Ruled.{Ruled}
 use Rattle.rewriting.proofs.LayoutLaws.{rules-back}
 use Rattle.rewriting.proofs.RegroupLaws.{rules-sound}
 use Rattle.walk.specs.contracts.Walker.{Sound}

@@ -16,7 +16,7 @@ ghost use mathlib.Core.Path.{_≡_};
 ghost use Prim.Native.Nat.{ℕ, _+_, _<_};
 ghost use lib.ListN.{length, getD};
 ghost use Rattle.store.specs.contracts.Store.{Store};
-ghost use Rattle.rewriting.specs.Facts.{Ruled};
+ghost use Rattle.rewriting.specs.contracts.Ruled.{Ruled};
 ghost use Rattle.magic_node.specs.contracts.Index.{RulesIndexed};
 ghost use Rattle.magic_node.specs.contracts.Watch.{sitePlace};
 ghost use Rattle.magic_node.specs.contracts.Node.{HeldOpening};

@@ -12,7 +12,7 @@ ghost use mathlib.Core.Path.{_≡_};
 ghost use Prim.Native.Nat.{_≤_};
 ghost use lib.ListN.{length};
 ghost use Rattle.store.specs.contracts.Store.{Store};
-ghost use Rattle.rewriting.specs.Facts.{Ruled};
+ghost use Rattle.rewriting.specs.contracts.Ruled.{Ruled};
 ghost use Rattle.magic_node.specs.contracts.Index.{RulesIndexed};
 ghost use Rattle.walk.specs.contracts.Path.{Room, markAt};
 ghost use Rattle.walk.specs.contracts.Place.{Parted, Reached, Visiting, Trying};

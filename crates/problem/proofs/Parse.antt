@@ -17,7 +17,8 @@ use Rattle.problem.specs.declared.judge.Heading.{Heading}
 use Rattle.problem.specs.declared.judge.Heading.the-variants.{Wrong, Sizes}
 use Rattle.problem.specs.Digit.{hexLine}
 use Rattle.problem.specs.Line.{lineAt, frameAt, afterLine}
-use Rattle.problem.specs.Problem.{Clause, Problem, ClauseFits, Fits, atomCount, weights, Sized}
+use Rattle.problem.specs.Problem.{Clause, Problem, ClauseFits, Fits, atomCount, weights}
+use Rattle.problem.specs.contracts.Sized.{Sized}
 use Rattle.problem.specs.Judge.{judgeHeading, judgeArity, judgeClause, clauseAt}
 use Rattle.problem.specs.Parse.{Parsed, refused, parsed, judgeClosing, parseEnd, parseClosing, parseClauses, parseArities, parse}
 use Rattle.problem.specs.Print.{arityFrame, clauseFrame, textOf}

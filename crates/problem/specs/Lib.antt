@@ -9,3 +9,4 @@ pub mod Print
 pub mod Table
 pub mod Cases
 pub mod Claims
+pub mod contracts

@@ -86,11 +86,3 @@ pub record Fits (q : Problem) : Type 0 where
   pub clauses-fit : length (q .clauses) ≤ 64
   pub each-fits : All (ClauseFits (q .constants) (q .arities)) (q .clauses)
   pub weights-fit : weights (q .constants) (q .clauses) ≤ 16384
-
--- the bounds that a first line gives
-pub record Sized (c p : ℕ) (limit : List ℕ) : Type 0 where
-  pub constants-fit : c ≤ 32
-  pub some-predicate : 1 ≤ p
-  pub predicates-fit : p ≤ 32
-  pub limit-four : length limit ≡ 4
-  pub limit-bytes : All (λ b. b < 256) limit

@@ -11,7 +11,8 @@ use Rattle.search.specs.Ground.{disjunctive}
 use Rattle.search.specs.Relevancy.{branches}
 use Rattle.search.specs.Machine.{entered, root, Genuine}
 use Rattle.ground.specs.Instance.{Instance}
-use Rattle.rewriting.specs.Facts.{falseIn, findIn, theRule}
+use Rattle.rewriting.specs.Facts.{falseIn, findIn}
+use Rattle.rewriting.specs.contracts.Ruled.{theRule}
 use Rattle.magic_node.specs.contracts.Choosing.{siteOf, ruleHeads, RuleSite, ListedSite}
 use Rattle.magic_node.specs.contracts.Watch.{sitePlace, Rested}
 use Rattle.magic_node.specs.contracts.Node.{HeldStands, Following, HeldSeeded}

@@ -6,7 +6,7 @@ use native.Mathlib.Omega.{arith}
 use lib.ListN.{length, drop, set, length-set}
 use Rattle.lists.specs.Tabulate.{tabulate}
 use Rattle.lists.specs.Bytes.{bit}
-use Rattle.ground.specs.Verdict.{chosenBit}
+use Rattle.ground.specs.contracts.Chosen.{chosenBit}
 use Rattle.ground.proofs.VerdictLaws.{give-more}
 use Rattle.ground.proofs.verdict.give.Statement.{statement}
 use Rattle.ground.proofs.verdict.give.Tie as tie

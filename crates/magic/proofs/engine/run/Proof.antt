@@ -11,7 +11,7 @@ use Rattle.store.proofs.Lent.{put-size}
 use Rattle.ground.specs.Verdict.{verdictOf, answerOf}
 use Rattle.ground.proofs.AtomLaws.{table-size}
 use Rattle.ground.proofs.VerdictLaws.{limit-of}
-use Rattle.rewriting.specs.Facts.{Ruled}
+use Rattle.rewriting.specs.contracts.Ruled.{Ruled}
 use Rattle.rewriting.specs.Rewrite.{rulesOver}
 use Rattle.magic.specs.Engine.{rulesOutcome, magicOutcome}
 use Rattle.magic.proofs.EngineLaws.{ruled}

@@ -3,7 +3,7 @@ use Prim.Native.Nat.{_+_, _*_, _-_, _<_}
 use mathlib.Core.Path.{sym, _∙_}
 use native.Mathlib.Omega.{arith}
 use borrow.Author.Needs.{needs}
-use Rattle.rewriting.specs.Facts.{ruleCount}
+use Rattle.rewriting.specs.contracts.Ruled.{ruleCount}
 use Rattle.magic_node.specs.contracts.Watch.{Unready}
 use Rattle.magic_node.proofs.ChooseLaws.{choice-other, choose-begins, choose-found, choose-next, choose-over}
 use Rattle.magic_node.proofs.choose.choose.Statement.{statement}

@@ -8,7 +8,7 @@ use lib.ListN.{getD, take}
 use Rattle.lists.specs.Member.{All}
 use Rattle.ground.specs.contracts.Placed.{Stepped}
 use Rattle.ground.proofs.Sites.{turning-below, turning-on}
-use Rattle.rewriting.specs.Facts.{theRule}
+use Rattle.rewriting.specs.contracts.Ruled.{theRule}
 use Rattle.magic_node.specs.contracts.Choosing.{readySite}
 use Rattle.magic_node.specs.contracts.Applied.{ownValues}
 use Rattle.magic_node.proofs.FactLaws.{pair-at}

@@ -1,0 +1,2 @@
+-- The vocabulary of inner contracts: what functions say to each other of their buffers.
+pub mod Sized
