@@ -4,4 +4,5 @@ pub mod Member
 pub mod Tabulate
 pub mod Bytes
 pub mod Digits
+pub mod Powers
 pub mod Claims
