@@ -1,9 +1,9 @@
--- Laws of digits, to any base and of any width: digits and the number that they stand for determine each other, the lists of digits are as many as the
+-- Laws of powers and digits, to any base and of any width: digits and the number that they stand for determine each other, the lists of digits are as many as the
 -- numbers and stand in their order, and the next list stands for the next number. Numbers are read where their bytes stand.
 use Prim.Native.Nat.{ℕ, zero, suc, _+_, _-_, _*_, _^_, _/_, _%_, _≤_, _<_}
 use mathlib.Core.List.{List, [], _∷_, _++_, map, flatMap, reverse-reverse}
 use mathlib.Core.Path.{_≡_, refl, sym, ap, subst, _∙_}
-use native.Mathlib.Nat.{add-zero, zero-add, add-comm, add-assoc, mul-one, mul-comm, mul-assoc, add-mul, suc-mul, zero-mul, pow-zero, pow-succ', one-le-pow, div-one, div-div-eq-div-mul, div-lt-iff-lt-mul, mod-one, mod-lt, mod-eq-of-lt, mul-add-div-right, mul-add-mod-self-right}
+use native.Mathlib.Nat.{le-trans, add-zero, zero-add, add-comm, add-assoc, mul-one, mul-comm, mul-assoc, add-mul, suc-mul, zero-mul, pow-zero, pow-succ', pow-le-pow-left, pow-le-pow-right, one-le-pow, div-one, div-div-eq-div-mul, div-lt-iff-lt-mul, mod-one, mod-lt, mod-eq-of-lt, mul-add-div-right, mul-add-mod-self-right}
 use native.Mathlib.Numerals.{add-one}
 use native.Mathlib.Omega.{arith}
 use lib.Arith.{digits-lt, digits-div, mod-mul}
@@ -14,7 +14,11 @@ use Rattle.lists.specs.Member.{All, Any}
 use Rattle.lists.specs.Tabulate.{tabulate}
 use Rattle.lists.proofs.Bytes.{tabulate-of}
 use Rattle.lists.proofs.Member.{all-append, all-flat, all-mapped, all-map, flat-snoc}
-use Rattle.lists.proofs.Tabulate.{tabulate-length, tabulate-same, tabulate-add, tabulate-map, all-tabulate, any-tabulate}
+use Rattle.lists.proofs.Tabulate.{tabulate-length, tabulate-same, tabulate-map, all-tabulate, any-tabulate, flat-rows}
+
+-- a power grows with its base and its exponent
+pub power-le : {c d k n : ℕ} → 0 < d → c ≤ d → k ≤ n → c ^ k ≤ d ^ n
+power-le {k = k} pos h l = le-trans (pow-le-pow-left h k) (pow-le-pow-right pos l)
 
 -- ---- the number that digits stand for
 
@@ -170,17 +174,10 @@ module _ (c w : ℕ) (rest : tuples c w ≡ tabulate (digitsOf c w) (c ^ w)) whe
       ∙ tabulate-map (λ t. a ∷ t) (digitsOf c w) (c ^ w)
       ∙ tabulate-same (λ i. a ∷ digitsOf c w i) (λ i. digitsOf c (suc w) (a * c ^ w + i)) (c ^ w) (λ i l. sym (digits-cons c w a i h l))
 
-  tuples-upto : (n : ℕ) → n ≤ c → flatMap from (tabulate (λ a. a) n) ≡ tabulate (digitsOf c (suc w)) (n * c ^ w)
-  unfolding flatMap
-  tuples-upto zero h = rw zero-mul
-  tuples-upto (suc n) h =
-      flat-snoc from (tabulate (λ a. a) n) n
-      ∙ rw (tuples-upto n (omega arith), tuples-from n h, suc-mul) (sym (tabulate-add (digitsOf c (suc w)) (n * c ^ w) (c ^ w)))
-
 -- the tuple at place i is the digits of i
 pub tuples-at : (c w : ℕ) → tuples c w ≡ tabulate (digitsOf c w) (c ^ w)
 tuples-at c zero = rw pow-zero
-tuples-at c (suc w) = tuples-upto c w (tuples-at c w) c (omega arith) ∙ rw pow-succ'
+tuples-at c (suc w) = flat-rows (from c w (tuples-at c w)) (digitsOf c (suc w)) (c ^ w) c (tuples-from c w (tuples-at c w)) ∙ rw pow-succ'
 
 pub tuples-count : (c w : ℕ) → length (tuples c w) ≡ c ^ w
 tuples-count c w = ap length (tuples-at c w) ∙ tabulate-length (digitsOf c w) (c ^ w)

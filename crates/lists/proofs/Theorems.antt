@@ -1,9 +1,12 @@
 -- The claims of `specs/Claims.antt`, proved.
+use Prim.Native.Nat.{_^_}
 use mathlib.Core.Path.{refl}
 use native.Mathlib.Nat.{pow-zero, pow-succ'}
+use native.Mathlib.Omega.{arith}
 use Rattle.lists.specs.Claims.{Theorems}
 use Rattle.lists.proofs.Digits.{horner-cons, digits-length, digits-fit, horner-digits, horner-below, digits-horner, horner-mod, tuples-at, digits-first, low-back}
 use Rattle.lists.proofs.Member.{lead-all, all-lead}
+use Rattle.lists.proofs.Tabulate.{rows-length, rows-at}
 
 pub theorems : Theorems
 theorems =
@@ -22,4 +25,6 @@ theorems =
       first-digit = digits-first;
       low-back = low-back;
       leads = λ t atoms. (lead-all t atoms, all-lead t atoms);
+      powers-many = rows-length (λ c k. c ^ k) 5 33;
+      powers-rule = λ c k h l. rows-at (λ c k. c ^ k) 5 33 0 c k (omega arith) (omega arith);
     }

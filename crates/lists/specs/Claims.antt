@@ -1,13 +1,14 @@
 -- What is claimed of lists of numbers: "Facts on powers and digits are shown for any width". `proofs/Theorems.antt` proves `Theorems`.
-use Prim.Native.Nat.{ℕ, suc, _+_, _*_, _^_, _/_, _%_, _<_}
+use Prim.Native.Nat.{ℕ, suc, _+_, _*_, _^_, _/_, _%_, _≤_, _<_}
 use mathlib.Core.Bool.{Bool}
 use mathlib.Core.List.{List, [], _∷_, _++_}
 use mathlib.Core.Logic.{_↔_}
 use mathlib.Core.Path.{_≡_}
 use lib.Dec.{T}
-use lib.ListN.{length}
+use lib.ListN.{length, getD}
 use Rattle.lists.specs.Digits.{horner, digitsOf, lowBytes, lowNumber, tuples}
 use Rattle.lists.specs.Member.{All, lead}
+use Rattle.lists.specs.Powers.{powers}
 use Rattle.lists.specs.Tabulate.{tabulate}
 
 pub record Theorems : Type 0 where
@@ -33,3 +34,6 @@ pub record Theorems : Type 0 where
   pub low-back : (w n : ℕ) (front back : List ℕ) → n < 256 ^ w → lowNumber w (front ++ lowBytes w n ++ back) (length front) ≡ n
   -- as many hold from the left as there are, exactly if all hold
   pub leads : (t : ℕ → Bool) (atoms : List ℕ) → (lead t atoms ≡ length atoms) ↔ All (λ a. T (t a)) atoms
+  -- the table of powers: 165 numbers, and the rule at each
+  pub powers-many : length powers ≡ 165
+  pub powers-rule : (c k : ℕ) → c ≤ 32 → k ≤ 4 → getD powers (5 * c + k) 0 ≡ c ^ k

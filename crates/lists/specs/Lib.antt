@@ -4,5 +4,6 @@ pub mod Member
 pub mod Tabulate
 pub mod Bytes
 pub mod Digits
+pub mod Powers
 pub mod Claims
 pub mod contracts

@@ -1,28 +1,15 @@
 // The faults of a line's bytes, by document 01's numbers.
 use crate::line::frame_byte;
+use crate::power::power;
 use problem::judge::Heading;
 use problem::judge::Judged;
 ghost use mathlib.Core.Path.{_≡_};
-ghost use Prim.Native.Nat.{_^_, _≤_};
+ghost use Prim.Native.Nat.{_≤_};
+ghost use Rattle.lists.specs.Powers.{powers as allPowers};
 ghost use Rattle.problem.specs.declared.line.Line.the-variants.{Holds};
 ghost use Rattle.problem.specs.Line.{lineAt, frameAt};
 ghost use Rattle.problem.specs.Judge.{judgeSizes, judgeHeading, judgeArity, judgeVariable, judgeArg};
 ghost use Rattle.problem.specs.Parse.{judgeClosing};
-
-// c to the power k.
-pub fn power(c: u8, k: u8) -> usize
-    requires { ⌜ (c ≤ 32) × (k ≤ 4) ⌝ }
-    ensures { λ r. ⌜ (r ≡ c ^ k) × (r ≤ 1048576) ⌝ }
-{
-    let base = c as usize;
-    let mut r: usize = 1;
-    let mut i: u8 = 0;
-    while i < k {
-        r = r * base;
-        i += 1;
-    }
-    r
-}
 
 // The first line of the text.
 pub fn first_line(text: &[u8], at: usize, n: usize) -> Heading
@@ -74,7 +61,15 @@ fn sizes(text: &[u8], at: usize, n: usize, c: u8) -> Heading
 }
 
 // An arity line, where there are so many atoms before it.
-pub fn arity_line(text: &[u8], at: usize, n: usize, c: u8, atoms: usize) -> Judged
+pub fn arity_line(
+    text: &[u8],
+    at: usize,
+    n: usize,
+    c: u8,
+    atoms: usize,
+    powers: &[u32; 165],
+) -> Judged
+    requires { ⌜ now powers ≡ allPowers ⌝ }
     requires { ⌜ lineAt (now text) at ≡ Holds n ⌝ }
     requires { ⌜ (c ≤ 32) × (atoms ≤ 1024) ⌝ }
     ensures { λ r. ⌜ r ≡ judgeArity c atoms (frameAt (now (text .entry)) at n) ⌝ }
@@ -96,7 +91,7 @@ pub fn arity_line(text: &[u8], at: usize, n: usize, c: u8, atoms: usize) -> Judg
     if n != 2 {
         return Judged::Fault(3);
     }
-    if 1024 < atoms + power(c, a) {
+    if 1024 < atoms + power(powers, c, a) {
         return Judged::Fault(9);
     }
     Judged::Found(a)

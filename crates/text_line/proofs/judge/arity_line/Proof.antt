@@ -47,7 +47,7 @@ unfolding judgeArity
 arity-line-spec =
     tie.close
     (tie.spec
-    (λ c κs. let s = c .before in (s .pre .0, line-size (s .args .text .now) (s .args .at) (s .args .n) (s .pre .0) .0))  -- frame-byte-requires
+    (λ c κs. let s = c .before in (s .pre .1 .0, line-size (s .args .text .now) (s .args .at) (s .args .n) (s .pre .1 .0) .0))  -- frame-byte-requires
     (λ c. let kind = c .before .frame-byte in rw (← kind .ensures, ne-eqb (kind .result) 2 (c .match .rest .1)))  -- returns
     (λ c.
     let s = c .before .before .before .before .args in
