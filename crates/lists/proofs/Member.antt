@@ -1,13 +1,13 @@
 -- Laws of `flatMap`, `All`, `Any`, `every`, `first`, `has` and `lead`.
-use Prim.Native.Nat.{ℕ, suc, _≤_}
+use Prim.Native.Nat.{ℕ, suc, _≤_, _<_}
 use mathlib.Core.Bool.{Bool, true, false, not, cond, _&&_}
 use mathlib.Core.List.{List, [], _∷_, _++_, map, flatMap, append-assoc, append-nil}
 use mathlib.Core.Logic.{_⊎_, inl, inr}
 use mathlib.Core.Option.{none, some, Option·none-ne-some}
 use mathlib.Core.Path.{_≡_, refl, sym, ap, subst, _∙_}
 use native.Mathlib.Omega.{arith}
-use lib.Dec.{T}
-use lib.ListN.{length}
+use lib.Dec.{T, eqb, eqb·zero-suc, eqb·suc-suc}
+use lib.ListN.{length, take, getD}
 use Rattle.lists.specs.Key.{Key}
 use Rattle.lists.specs.Member.{All, Any, every, first, FirstOf, has, In, lead}
 use Rattle.lists.proofs.Test.{T-true, T-false, or-left, or-right, T-or}
@@ -234,3 +234,28 @@ module _ (t : ℕ → Bool) where
   pub all-lead : (atoms : List ℕ) → All (λ a. T (t a)) atoms → lead t atoms ≡ length atoms
   all-lead [] a = refl
   all-lead (x ∷ atoms) a = rw (T-true (t x) (a .0)) (ap suc (all-lead atoms (a .1)))
+
+  pub lead-holds : (atoms : List ℕ) → All (λ a. T (t a)) (take (lead t atoms) atoms)
+  lead-holds [] = tt
+  lead-holds (a ∷ atoms) = go (t a) (lead-holds atoms) (λ p. p)
+    where
+      go : (b : Bool) → All (λ x. T (t x)) (take (lead t atoms) atoms) → (T b → T (t a)) → All (λ x. T (t x)) (take (cond b (suc (lead t atoms)) 0) (a ∷ atoms))
+      go true h f = (f tt, h)
+      go false h f = tt
+
+  pub lead-stops : (atoms : List ℕ) → lead t atoms < length atoms → T (not (t (getD atoms (lead t atoms) 0)))
+  lead-stops [] l = absurd (omega arith)
+  lead-stops (a ∷ atoms) l = go (t a) l (lead-stops atoms) (λ p. p)
+    where
+      go : (b : Bool) → cond b (suc (lead t atoms)) 0 < suc (length atoms) → (lead t atoms < length atoms → T (not (t (getD atoms (lead t atoms) 0))))
+          → (T (not b) → T (not (t a))) → T (not (t (getD (a ∷ atoms) (cond b (suc (lead t atoms)) 0) 0)))
+      go true l f h = f (omega arith)
+      go false l f h = h tt
+
+  pub all-hold : (atoms : List ℕ) → every t atoms ≡ eqb (lead t atoms) (length atoms)
+  all-hold [] = refl
+  all-hold (a ∷ atoms) = go (t a) (all-hold atoms)
+    where
+      go : (b : Bool) → every t atoms ≡ eqb (lead t atoms) (length atoms) → (b && every t atoms) ≡ eqb (cond b (suc (lead t atoms)) 0) (suc (length atoms))
+      go true e = e ∙ sym (eqb·suc-suc (lead t atoms) (length atoms))
+      go false e = sym (eqb·zero-suc (length atoms))

@@ -1,13 +1,13 @@
 -- What is claimed of lists of numbers: "Facts on powers and digits are shown for any width". `proofs/Theorems.antt` proves `Theorems`.
 use Prim.Native.Nat.{ℕ, suc, _+_, _*_, _^_, _/_, _%_, _≤_, _<_}
-use mathlib.Core.Bool.{Bool}
+use mathlib.Core.Bool.{Bool, not}
 use mathlib.Core.List.{List, [], _∷_, _++_}
 use mathlib.Core.Logic.{_↔_}
 use mathlib.Core.Path.{_≡_}
-use lib.Dec.{T}
-use lib.ListN.{length, getD}
+use lib.Dec.{T, eqb}
+use lib.ListN.{length, take, getD}
 use Rattle.lists.specs.Digits.{horner, digitsOf, lowBytes, lowNumber, tuples}
-use Rattle.lists.specs.Member.{All, lead}
+use Rattle.lists.specs.Member.{All, every, lead}
 use Rattle.lists.specs.Powers.{powers}
 use Rattle.lists.specs.Tabulate.{tabulate}
 
@@ -32,8 +32,12 @@ pub record Theorems : Type 0 where
   pub first-digit : (c w n : ℕ) → digitsOf c (suc w) n ≡ n / c ^ w % c ∷ digitsOf c w n
   -- a number written as w bytes with the low byte first, among others, is read there again
   pub low-back : (w n : ℕ) (front back : List ℕ) → n < 256 ^ w → lowNumber w (front ++ lowBytes w n ++ back) (length front) ≡ n
-  -- as many hold from the left as there are, exactly if all hold
+  -- as many as hold from the left do hold, and the next one, if there is one, does not
+  pub lead-holds : (t : ℕ → Bool) (atoms : List ℕ) → All (λ a. T (t a)) (take (lead t atoms) atoms)
+  pub lead-stops : (t : ℕ → Bool) (atoms : List ℕ) → lead t atoms < length atoms → T (not (t (getD atoms (lead t atoms) 0)))
+  -- as many hold from the left as there are, exactly if all hold; as tests too
   pub leads : (t : ℕ → Bool) (atoms : List ℕ) → (lead t atoms ≡ length atoms) ↔ All (λ a. T (t a)) atoms
+  pub all-hold : (t : ℕ → Bool) (atoms : List ℕ) → every t atoms ≡ eqb (lead t atoms) (length atoms)
   -- the table of powers: 165 numbers, and the rule at each
   pub powers-many : length powers ≡ 165
   pub powers-rule : (c k : ℕ) → c ≤ 32 → k ≤ 4 → getD powers (5 * c + k) 0 ≡ c ^ k

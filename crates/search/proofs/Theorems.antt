@@ -5,14 +5,15 @@ use mathlib.Core.List.{List}
 use mathlib.Core.Path.{_≡_, sym}
 use native.Mathlib.Nat.{zero-add}
 use lib.ListN.{length}
-use Rattle.lists.specs.Key.{Key}
-use Rattle.lists.proofs.Member.{all-map}
+use Rattle.lists.specs.Key.{Key, natKey}
+use Rattle.lists.specs.Member.{has}
+use Rattle.lists.proofs.Member.{all-map, all-hold}
 use Rattle.search.specs.Closure.{Rule}
 use Rattle.search.specs.Ground.{Ground, Found}
 use Rattle.search.specs.Relevancy.{findR}
 use Rattle.search.specs.Magic.{rewriting, findM}
 use Rattle.search.specs.Machine.{entered, Satisfied, last, root, trail, outcome}
-use Rattle.search.specs.Claims.{Smallest, AnyWalk, lastPlace, modelAt, SameFacts, OneTrail, Theorems}
+use Rattle.search.specs.Claims.{Smallest, AnyWalk, lastPlace, modelAt, SameFacts, OneTrail, ByHolding, Theorems}
 use Rattle.search.proofs.Cases.{cases-hold}
 use Rattle.search.proofs.Closure.{least-seeds, least-closed, least-ind}
 use Rattle.search.proofs.Machine.{entries-on, proceed-on, whole-unique, whole-over, answer-none, proceed-limit}
@@ -20,6 +21,7 @@ use Rattle.search.proofs.Path.{Reached, trail-reached, last-opened}
 use Rattle.search.proofs.Sound.{sound-walk}
 use Rattle.search.proofs.Found.{findR-opened}
 use Rattle.search.proofs.Choice.{relevancy-chooses, magic-chooses}
+use Rattle.search.proofs.Relevancy.{asks-by}
 use Rattle.search.proofs.Walk.{path-relevant}
 use Rattle.search.proofs.Model.{relevancy-sound}
 use Rattle.search.proofs.Magic.{same-relevant, same-true}
@@ -60,6 +62,14 @@ one-trail k p limit =
       outcomes = outcome-same (findR p) (findM k (p .atoms) (rewriting p)) (magic-same k p) limit;
     }
 
+by-holding : ByHolding
+by-holding =
+    record {
+      closes-by = λ s r. rw (all-hold (has natKey s) (r .body));
+      asks-by = asks-by;
+      splits-by = λ p t r i. rw (all-hold t (p .conds i));
+    }
+
 pub theorems : Theorems
 theorems =
     record {
@@ -72,5 +82,6 @@ theorems =
       magic-chooses = magic-chooses;
       model-given = model-given;
       one-trail = one-trail;
+      by-holding = by-holding;
       cases-hold = cases-hold;
     }

@@ -1,15 +1,15 @@
 -- What is claimed of the two walks. `proofs/Theorems.antt` proves `Theorems`.
-use Prim.Native.Nat.{ℕ, _+_, _≤_, _<_}
-use mathlib.Core.Bool.{Bool, cond, _&&_}
+use Prim.Native.Nat.{ℕ, suc, _+_, _≤_, _<_}
+use mathlib.Core.Bool.{Bool, not, cond, _&&_}
 use mathlib.Core.List.{List, _++_}
 use mathlib.Core.Path.{_≡_}
-use lib.Dec.{ltb}
-use lib.ListN.{length}
+use lib.Dec.{eqb, ltb}
+use lib.ListN.{length, take}
 use Rattle.lists.specs.Key.{Key, natKey}
-use Rattle.lists.specs.Member.{All, In, Distinct}
-use Rattle.search.specs.Closure.{Rule, Closed, least}
-use Rattle.search.specs.Ground.{Ground, Proper, Model, Marked, Found}
-use Rattle.search.specs.Relevancy.{isTrue, isRelevant, modelBits, findR}
+use Rattle.lists.specs.Member.{All, every, has, In, Distinct, lead}
+use Rattle.search.specs.Closure.{Rule, Closed, broken, least}
+use Rattle.search.specs.Ground.{Ground, Proper, Model, Marked, Found, disjunctive}
+use Rattle.search.specs.Relevancy.{asked, isTrue, isRelevant, splittable, modelBits, findR}
 use Rattle.search.specs.Magic.{tru, rel, MagicRule, rewriting, holds, findM}
 use Rattle.search.specs.Choice.{RelevancyChoice, MagicChoice}
 use Rattle.search.specs.Sound.{SoundFind}
@@ -70,6 +70,16 @@ pub record OneTrail {I : Type 0} (k : Key I) (p : Ground I) (limit : ℕ) : Type
   pub facts : All (λ s. (x : ℕ) → SameFacts k p s x) (trail (findR p) limit)
   pub outcomes : outcome (findM k (p .atoms) (rewriting p)) limit ≡ outcome (findR p) limit
 
+-- the number of conditions that hold from the left, before the first that does not, decides what closing, marking and splitting by an instance do
+pub record ByHolding : Type 1 where
+  -- a rule is to fire: its body holds, as many from the left as there are, and its head does not
+  pub closes-by : (s : List ℕ) (r : Rule ℕ) → broken natKey s r ≡ (eqb (lead (has natKey s) (r .body)) (length (r .body)) && not (has natKey s (r .head)))
+  -- what is asked is one condition more than hold, at most all
+  pub asks-by : (t : ℕ → Bool) (cs : List ℕ) → asked t cs ≡ take (suc (lead t cs)) cs
+  -- an instance can be split: as many of its conditions are true from the left as there are, its alternatives are relevant and none is true
+  pub splits-by : {I : Type 0} (p : Ground I) (t r : ℕ → Bool) (i : I)
+      → splittable p t r i ≡ (disjunctive (p .alts i) && eqb (lead t (p .conds i)) (length (p .conds i)) && every r (p .alts i) && every (λ a. not (t a)) (p .alts i))
+
 -- All of it, over every ground problem and every limit
 pub record Theorems : Type 1 where
   pub smallest : {F : Type 0} (k : Key F) (rs : List (Rule F)) (seeds : List F) → Smallest k rs seeds
@@ -84,4 +94,5 @@ pub record Theorems : Type 1 where
   -- the model that the relevancy walk gives is that of its open place; by `one-trail` so is the magic walk's
   pub model-given : {I : Type 0} (p : Ground I) (limit n : ℕ) (bits : List Bool) → outcome (findR p) limit ≡ Satisfied n bits → bits ≡ modelAt p (lastPlace (findR p) limit)
   pub one-trail : {I : Type 0} (k : Key I) (p : Ground I) (limit : ℕ) → OneTrail k p limit
+  pub by-holding : ByHolding
   pub cases-hold : CasesHold
