@@ -1,12 +1,12 @@
 -- The steps of the model check's loops, over plain numbers and lists.
 use Prim.Native.Nat.{ℕ, _+_, _*_, _^_, _≤_, _<_}
-use mathlib.Core.Bool.{Bool, true, false, not, _&&_}
+use mathlib.Core.Bool.{Bool, true, false, not, cond, _&&_, _||_}
 use mathlib.Core.List.{List}
 use mathlib.Core.Option.{Option, none, some}
 use mathlib.Core.Path.{_≡_, refl, sym, ap, subst, _∙_}
 use native.Mathlib.Numerals.{add-one}
 use native.Mathlib.Omega.{arith}
-use borrow.Author.Tests.{lt-ltb, le-ltb, eq-eqb, ne-eqb}
+use borrow.Author.Tests.{lt-ltb, le-ltb, ltb-false, eq-eqb, ne-eqb}
 use lib.Dec.{ltb}
 use lib.ListN.{length, take, drop, getD, length-map, drop-of-length-le}
 use lib.Seq.{length-take-le, drop-cons, getD-take}
@@ -15,42 +15,42 @@ use Rattle.problem.specs.Problem.{Problem, ClauseFits, atomCount}
 use Rattle.problem.specs.Layout.{problemIn}
 use Rattle.problem.specs.Table.{isValid}
 use Rattle.problem.proofs.Theorems.{valid-table}
-use Rattle.judging.specs.declared.judge.Judging.the-variants.{Unjudged, Model as IsModel, Violated}
+use Rattle.judging.specs.declared.judge.Judging.the-variants.{Model as IsModel, Violated}
 use Rattle.ground.specs.Instance.{Instance, number, clauseOf, instancesOf, groundAtoms}
 use Rattle.lists.specs.Bytes.{isSet}
 use Rattle.lists.proofs.Member.{lead-le}
-use Rattle.judging.specs.ModelCheck.{violatedBy, violates, named, clauseCheck, checkOf, judgeResult}
+use Rattle.writing.specs.contracts.Lent.{refusalOf}
+use Rattle.writing.proofs.LentLaws.{Taken, refused-says, taken-says, taken}
+use Rattle.judging.specs.ModelCheck.{violatedBy, violates, named, clauseCheck, checkOf, judgeable}
 use Rattle.ground.proofs.Turns.{numbers-take, Turn, Undecided, instance, turn-value, turn-stops, turn-ends, clauses-on, clauses-stop, clauses-end}
 use Rattle.ground.proofs.AtomLaws.{atoms-bytes}
 use Rattle.judging.proofs.CheckLaws.{named-violated}
 
--- ---- the answer's bytes
+-- ---- the first n numbers of a list, each below a bound: the bytes of an answer, the values of an instance
 
-module _ (answer : List ℕ) (n : ℕ) (room : n ≤ length answer) where
-  -- whether the bytes from place i to n are each 0 or 1
-  abbrev pub bitsFrom : ℕ → Bool
-  bitsFrom i = every (λ b. ltb b 2) (drop i (take n answer))
+module _ (bound : ℕ) (xs : List ℕ) (n : ℕ) (room : n ≤ length xs) where
+  -- whether those from place i to n are
+  abbrev pub belowFrom : ℕ → Bool
+  belowFrom i = every (λ b. ltb b bound) (drop i (take n xs))
 
-  size : length (take n answer) ≡ n
-  size = length-take-le n answer room
+  size : length (take n xs) ≡ n
+  size = length-take-le n xs room
 
-  bits-at : (i : ℕ) → i < n → bitsFrom i ≡ (ltb (getD answer i 0) 2 && bitsFrom (i + 1))
-  bits-at i h =
-      let inside : i < length (take n answer) = omega (arith, size) in
-      rw (drop-cons (take n answer) i 0 inside, getD-take n answer i 0 h, add-one)
+  below-at : (i : ℕ) → i < n → belowFrom i ≡ (ltb (getD xs i 0) bound && belowFrom (i + 1))
+  below-at i h =
+      let inside : i < length (take n xs) = omega (arith, size) in
+      rw (drop-cons (take n xs) i 0 inside, getD-take n xs i 0 h, add-one)
 
-  pub bits-more : (i : ℕ) → i < n → getD answer i 0 ≤ 1 → bitsFrom i ≡ bitsFrom (i + 1)
-  bits-more i h l =
-      let small : getD answer i 0 < 2 = omega arith in
-      bits-at i h ∙ rw (lt-ltb (getD answer i 0) 2 small)
+  pub below-more : (i : ℕ) → i < n → getD xs i 0 < bound → belowFrom i ≡ belowFrom (i + 1)
+  below-more i h l = below-at i h ∙ rw (lt-ltb (getD xs i 0) bound l)
 
-  pub bits-stop : (i : ℕ) → i < n → 1 < getD answer i 0 → bitsFrom i ≡ false
-  bits-stop i h l = bits-at i h ∙ rw (le-ltb (getD answer i 0) 2 l)
+  pub below-stop : (i : ℕ) → i < n → bound ≤ getD xs i 0 → belowFrom i ≡ false
+  below-stop i h l = below-at i h ∙ rw (le-ltb (getD xs i 0) bound l)
 
-  pub bits-end : (i : ℕ) → n ≤ i → bitsFrom i ≡ true
-  bits-end i h =
-      let past : length (take n answer) ≤ i = omega (arith, size) in
-      rw (drop-of-length-le (take n answer) {i = i} past)
+  pub below-end : (i : ℕ) → n ≤ i → belowFrom i ≡ true
+  below-end i h =
+      let past : length (take n xs) ≤ i = omega (arith, size) in
+      rw (drop-of-length-le (take n xs) {i = i} past)
 
 -- ---- an instance
 
@@ -115,41 +115,80 @@ module _ (q : Problem) (flags : List ℕ) where
   unfolding checkOf
   check-end k h u = ap named (clauses-end q (violates q flags) k h u)
 
--- ---- judging: one law for each way out
+-- ---- a lent table and answer: one law for each way out
 
 module _ (tb answer : List ℕ) where
-  pub judge-short : length tb < 4096 → Unjudged 11 ≡ judgeResult tb answer
-  unfolding judgeResult
-  judge-short h = rw (lt-ltb (length tb) 4096 h)
+  abbrev A : ℕ
+  A = atomCount ((problemIn (take 4096 tb)) .constants) ((problemIn (take 4096 tb)) .arities)
 
-  pub judge-narrow : 4096 ≤ length tb → length answer < 1024 → Unjudged 11 ≡ judgeResult tb answer
-  unfolding judgeResult
-  judge-narrow long h = rw (le-ltb (length tb) 4096 long, lt-ltb (length answer) 1024 h)
+  abbrev short : Bool
+  short = ltb (length answer) 1024
 
-  module _ (long : 4096 ≤ length tb) (wide : 1024 ≤ length answer) where
-    pub judge-invalid : isValid (take 4096 tb) ≡ false → Unjudged 31 ≡ judgeResult tb answer
-    unfolding judgeResult
-    judge-invalid e = rw (le-ltb (length tb) 4096 long, le-ltb (length answer) 1024 wide, e)
+  abbrev bits : Bool
+  bits = every (λ b. ltb b 2) (take A answer)
+
+  -- the number of the refusal, or 0
+  abbrev pub refusedBy : ℕ
+  refusedBy = judgeable {R = ℕ} tb answer (λ e. e) (λ q. 0)
+
+  pub refused-lent : (e : ℕ) → e ≡ refusalOf tb short → 0 < e → e ≡ refusedBy
+  refused-lent e s l = s ∙ refused-says {A = ℕ} tb short (λ x. x) (cond bits 0 32) (subst (λ (x : ℕ). 0 < x) s l)
+
+  module _ (e : ℕ) (s : e ≡ refusalOf tb short) (z : e ≤ 0) where
+    unrefused : refusalOf tb short ≡ 0
+    unrefused = let gone : e ≡ 0 = omega arith in sym s ∙ gone
+
+    pub lent : Taken tb short
+    lent = taken tb short unrefused
 
     -- n is the number of answer bytes that count
-    module _ (valid : isValid (take 4096 tb) ≡ true) (n : ℕ) (count : n ≡ getD (take 4096 tb) 8 0 + 256 * getD (take 4096 tb) 9 0) where
-      abbrev A : ℕ
-      A = atomCount ((problemIn (take 4096 tb)) .constants) ((problemIn (take 4096 tb)) .arities)
-
+    module _ (n : ℕ) (count : n ≡ getD tb 8 0 + 256 * getD tb 9 0) where
       all-atoms : n ≡ A
-      all-atoms = count ∙ atoms-bytes (take 4096 tb) (valid-table (take 4096 tb) valid)
+      all-atoms =
+          count ∙ rw (← getD-take 4096 tb 8 0 (omega arith), ← getD-take 4096 tb 9 0 (omega arith)) (atoms-bytes (take 4096 tb) (valid-table (take 4096 tb) (lent .valid)))
 
-      pub judge-room : n ≤ length answer
-      judge-room = omega (arith, all-atoms, valid-table (take 4096 tb) valid .fits .atoms-fit)
+      pub bits-room : n ≤ length answer
+      bits-room = omega (arith, all-atoms, valid-table (take 4096 tb) (lent .valid) .fits .atoms-fit, ltb-false (length answer) 1024 (lent .room))
 
-      pub judge-unmarked : every (λ b. ltb b 2) (take n answer) ≡ false → Unjudged 32 ≡ judgeResult tb answer
-      unfolding judgeResult
-      judge-unmarked e =
-          let unmarked : every (λ b. ltb b 2) (take A answer) ≡ false = subst (λ (m : ℕ). every (λ b. ltb b 2) (take m answer) ≡ false) all-atoms e in
-          rw (le-ltb (length tb) 4096 long, le-ltb (length answer) 1024 wide, valid, unmarked)
+      told : (b : Bool) → every (λ x. ltb x 2) (take n answer) ≡ b → cond b 0 32 ≡ refusedBy
+      told b w =
+          ap (λ (x : Bool). cond {A = ℕ} x 0 32) (sym w ∙ ap (λ (m : ℕ). every (λ x. ltb x 2) (take m answer)) all-atoms)
+          ∙ taken-says {A = ℕ} tb short (λ x. x) (cond bits 0 32) unrefused
 
-      pub judge-checked : every (λ b. ltb b 2) (take n answer) ≡ true → checkOf (problemIn (take 4096 tb)) answer ≡ judgeResult tb answer
-      unfolding judgeResult
-      judge-checked e =
-          let marked : every (λ b. ltb b 2) (take A answer) ≡ true = subst (λ (m : ℕ). every (λ b. ltb b 2) (take m answer) ≡ true) all-atoms e in
-          rw (le-ltb (length tb) 4096 long, le-ltb (length answer) 1024 wide, valid, marked)
+      pub refused-bits : every (λ x. ltb x 2) (take n answer) ≡ false → 32 ≡ refusedBy
+      refused-bits = told false
+
+      pub refused-none : every (λ x. ltb x 2) (take n answer) ≡ true → 0 ≡ refusedBy
+      refused-none = told true
+
+  -- what is told by the refusal, and what is known where there is none
+  module _ (e : ℕ) (s : e ≡ refusedBy) where
+    pub unjudged-says : {R : Type 0} (f : ℕ → R) (g : Problem → R) → 0 < e → f e ≡ judgeable tb answer f g
+    unjudged-says {R} f g l = rw s (go (ltb (length tb) 4096 || short) (isValid (take 4096 tb)) bits (subst (λ (x : ℕ). 0 < x) s l))
+      where
+        go : (a b c : Bool) → 0 < cond a 11 (cond b (cond c 0 32) 31)
+            → f (cond a 11 (cond b (cond c 0 32) 31)) ≡ cond a (f 11) (cond b (cond c (g (problemIn (take 4096 tb))) (f 32)) (f 31))
+        go true b c l = refl
+        go false true true l = absurd (omega arith)
+        go false true false l = refl
+        go false false c l = refl
+
+    module _ (z : e ≡ 0) where
+      pub judged-says : {R : Type 0} (f : ℕ → R) (g : Problem → R) → g (problemIn (take 4096 tb)) ≡ judgeable tb answer f g
+      judged-says {R} f g = go (ltb (length tb) 4096 || short) (isValid (take 4096 tb)) bits (sym s ∙ z)
+        where
+          go : (a b c : Bool) → _≡_ {A = ℕ} (cond a 11 (cond b (cond c 0 32) 31)) 0
+              → g (problemIn (take 4096 tb)) ≡ cond a (f 11) (cond b (cond c (g (problemIn (take 4096 tb))) (f 32)) (f 31))
+          go true b c n = absurd (omega arith)
+          go false true true n = refl
+          go false true false n = absurd (omega arith)
+          go false false c n = absurd (omega arith)
+
+      pub judged-good : Taken tb short
+      unfolding refusalOf
+      judged-good = taken tb short (go (ltb (length tb) 4096 || short) (isValid (take 4096 tb)) bits (sym s ∙ z))
+        where
+          go : (a b c : Bool) → _≡_ {A = ℕ} (cond a 11 (cond b (cond c 0 32) 31)) 0 → _≡_ {A = ℕ} (cond a 11 (cond b 0 31)) 0
+          go true b c n = absurd (omega arith)
+          go false true c n = refl
+          go false false c n = absurd (omega arith)

@@ -1,4 +1,5 @@
 pub mod CheckLaws
 pub mod CheckLoops
+pub mod HoldingLaws
 pub mod Demand2
 pub mod Theorems

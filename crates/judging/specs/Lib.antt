@@ -1,3 +1,4 @@
 pub mod ModelCheck
+pub mod Holding
 pub mod Demand2
 pub mod Claims

@@ -43,13 +43,16 @@ clauseCheck q flags k = named (first (violates q flags) (instancesOf q k))
 unfoldable pub checkOf : Problem → List ℕ → Judging
 checkOf q flags = named (first (violates q flags) ((groundOf q) .instances))
 
--- Judging an answer by a lent table: 11, then 31, then "32 if one of the first A answer bytes is neither 0 nor 1"
-unfoldable pub judgeResult : List ℕ → List ℕ → Judging
-judgeResult tb answer =
+-- By a lent table and answer: 11, then 31, then "32 if one of the first A answer bytes is neither 0 nor 1", else by the problem
+abbrev pub judgeable : {R : Type 0} → List ℕ → List ℕ → (ℕ → R) → (Problem → R) → R
+judgeable tb answer refused judged =
     cond (ltb (length tb) 4096 || ltb (length answer) 1024)
-    (Unjudged 11)
+    (refused 11)
     (cond (isValid (take 4096 tb))
     (cond (every (λ b. ltb b 2) (take (atomCount ((problemIn (take 4096 tb)) .constants) ((problemIn (take 4096 tb)) .arities)) answer))
-    (checkOf (problemIn (take 4096 tb)) answer)
-    (Unjudged 32))
-    (Unjudged 31))
+    (judged (problemIn (take 4096 tb)))
+    (refused 32))
+    (refused 31))
+
+unfoldable pub judgeResult : List ℕ → List ℕ → Judging
+judgeResult tb answer = judgeable tb answer (λ e. Unjudged e) (λ q. checkOf q answer)

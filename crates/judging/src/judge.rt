@@ -3,7 +3,7 @@ use ground::instance::holding;
 use ground::instance::none_holds;
 use ground::instance::step;
 use lists::pair;
-use writing::write::valid;
+use writing::lent::refusal;
 ghost use mathlib.Core.Path.{_≡_};
 ghost use Prim.Native.Nat.{_≤_, _<_};
 ghost use lib.ListN.{length, getD, take};
@@ -11,7 +11,7 @@ ghost use Rattle.lists.specs.Member.{every};
 ghost use lib.Dec.{ltb};
 ghost use Rattle.problem.specs.Layout.{problemIn};
 ghost use Rattle.problem.specs.Table.{Lawful};
-ghost use Rattle.judging.specs.ModelCheck.{clauseCheck, checkOf, judgeResult, violatedBy};
+ghost use Rattle.judging.specs.ModelCheck.{clauseCheck, checkOf, judgeable, judgeResult, violatedBy};
 ghost use Rattle.ground.specs.contracts.Placed.{Placed};
 
 // What the model check says: a refusal's number, that the answer is a model, or the first violated instance, by clause and values.
@@ -91,22 +91,27 @@ fn are_bits(answer: &[u8], n: usize) -> bool
     true
 }
 
+// The number of the refusal of a lent table and answer, or 0: 11, then 31, then 32 if an answer byte that counts is neither 0 nor 1.
+pub fn refused(table: &[u8], answer: &[u8]) -> u8
+    ensures { λ r. ⌜ r ≡ judgeable (now (table .entry)) (now (answer .entry)) (λ e. e) (λ q. 0) ⌝ }
+{
+    let e = refusal(table, answer.len() < 1024);
+    if 0 < e {
+        return e;
+    }
+    if !are_bits(answer, pair(table[8], table[9])) {
+        return 32;
+    }
+    0
+}
+
 // Judges an answer by a lent table.
 pub fn judge(table: &[u8], answer: &[u8]) -> Judging
     ensures { λ r. ⌜ r ≡ judgeResult (now (table .entry)) (now (answer .entry)) ⌝ }
 {
-    if table.len() < 4096 {
-        return Judging::Unjudged(11);
+    let e = refused(table, answer);
+    if 0 < e {
+        return Judging::Unjudged(e);
     }
-    if answer.len() < 1024 {
-        return Judging::Unjudged(11);
-    }
-    let own = &table[..4096];
-    if !valid(own) {
-        return Judging::Unjudged(31);
-    }
-    if !are_bits(answer, pair(own[8], own[9])) {
-        return Judging::Unjudged(32);
-    }
-    check_clauses(own, answer)
+    check_clauses(&table[..4096], answer)
 }

@@ -5,7 +5,7 @@ use native.Mathlib.Omega.{arith}
 use lib.Dec.{ltb}
 use lib.ListN.{take, drop}
 use Rattle.lists.specs.Member.{every}
-use Rattle.judging.proofs.CheckLoops.{bits-more, bits-stop, bits-end}
+use Rattle.judging.proofs.CheckLoops.{below-more, below-stop, below-end}
 use Rattle.judging.proofs.judge.are_bits.Statement.{statement}
 use Rattle.judging.proofs.judge.are_bits.Tie as tie
 
@@ -26,14 +26,14 @@ are-bits-spec =
     (λ c.
     let l = c .before .before .before .loop in
     let s = c .before .before .before .before in
-    sym (l .inv .1 ∙ bits-stop (s .args .answer .now) (s .args .n) (s .pre) (l .i) (c .before .before .loop-test .taken) (c .if1 .taken)))  -- returns
+    sym (l .inv .1 ∙ below-stop 2 (s .args .answer .now) (s .args .n) (s .pre) (l .i) (c .before .before .loop-test .taken) (c .if1 .taken)))  -- returns
     (λ c. omega arith)  -- add-i
     (λ c. omega arith)  -- loop-less
     (λ c.
     let l = c .before .before .before .loop in
     let s = c .before .before .before .before in
-    (omega arith, l .inv .1 ∙ bits-more (s .args .answer .now) (s .args .n) (s .pre) (l .i) (c .before .before .loop-test .taken) (c .if1 .left)))  -- loop-again
+    (omega arith, l .inv .1 ∙ below-more 2 (s .args .answer .now) (s .args .n) (s .pre) (l .i) (c .before .before .loop-test .taken) (omega arith)))  -- loop-again
     (λ c.
     let l = c .before .loop in
     let s = c .before .before in
-    sym (l .inv .1 ∙ bits-end (s .args .answer .now) (s .args .n) (s .pre) (l .i) (c .loop-test .left))))  -- returns-2
+    sym (l .inv .1 ∙ below-end 2 (s .args .answer .now) (s .args .n) (s .pre) (l .i) (c .loop-test .left))))  -- returns-2
