@@ -17,6 +17,7 @@
  *   lutsamik_read           text; writes table           11, 1 to 10    table: its 4,096 bytes, 0 where unused
  *   lutsamik_write          table; writes out            11, 31         out: the text
  *   lutsamik_judge          table, answer                11, 31, 32     nothing is written
+ *   lutsamik_holding        table, answer                11, 31, 32, 44 nothing is written
  *   lutsamik_rewrite        table; writes rules          11, 31         rules: the rules
  *   lutsamik_fit_relevancy  table; writes answer, work   11, 31         answer: fits alone writes it, A bytes;
  *                                                                       work: 65,536 times 0
@@ -62,7 +63,8 @@ enum {
     LUTSAMIK_TOO_MANY_MARKS = 10, /* the sum of n * c^v over the clauses passes 16,384 */
     LUTSAMIK_SHORT_BUFFER = 11,   /* a buffer is shorter than it must be */
     LUTSAMIK_NO_TABLE = 31,       /* the first 4,096 bytes are not what some accepted text reads to */
-    LUTSAMIK_BAD_ANSWER = 32      /* one of the answer's first A bytes is neither 0 nor 1 */
+    LUTSAMIK_BAD_ANSWER = 32,     /* one of the answer's first A bytes is neither 0 nor 1 */
+    LUTSAMIK_NO_INSTANCE = 44     /* the ticket lacks the clause, or a value of its variables */
 };
 
 /* What an engine says of a ticket, its verdict. */
@@ -101,6 +103,16 @@ uint64_t lutsamik_write(const uint8_t *table, size_t table_len, uint8_t *out, si
  * first violated instance, all of whose conditions are in the set and none of its alternatives: first by clause,
  * then by the values of the variables 80, 81, 82, 83 with 80 slowest. */
 uint64_t lutsamik_judge(const uint8_t *table, size_t table_len, const uint8_t *answer, size_t answer_len);
+
+/* Tells how far an instance of the ticket in a table holds in an answer, which is as lutsamik_judge takes it.
+ *
+ * The instance is named by its clause, the first one being 0, and by the constants put for the variables 80, 81, 82
+ * and 83. A value for a variable that the clause lacks is not looked at. lutsamik_held says how many of the
+ * instance's conditions are in the set, from the left, before the first that is not; where all are, it is their
+ * number. */
+uint64_t lutsamik_holding(const uint8_t *table, size_t table_len, const uint8_t *answer, size_t answer_len,
+                          uint32_t clause, uint32_t value_80, uint32_t value_81, uint32_t value_82,
+                          uint32_t value_83);
 
 /* Rewrites the ticket in a table into magic rules. lutsamik_rules says how many there are, 320 at most. Their layout
  * is the library's own. */
@@ -151,6 +163,9 @@ static inline unsigned lutsamik_clause(uint64_t result) { return (unsigned)(resu
 static inline unsigned lutsamik_value(uint64_t result, unsigned variable) {
     return (unsigned)(result >> (32 + 8 * variable) & 0xFF);
 }
+
+/* Bits 32 to 63 of what lutsamik_holding gives: the number of conditions that hold, 4 at most. */
+static inline uint32_t lutsamik_held(uint64_t result) { return (uint32_t)(result >> 32); }
 
 #ifdef __cplusplus
 }

@@ -35,7 +35,11 @@ use Rattle.ground.specs.Verdict.{verdictOf}
 use Rattle.ground.proofs.Order.{instances-are}
 use Rattle.judging.specs.declared.judge.Judging.{Judging}
 use Rattle.judging.specs.declared.judge.Judging.the-variants as judging
-use Rattle.judging.specs.ModelCheck.{violates, named, checkOf, judgeResult}
+use Rattle.judging.specs.ModelCheck.{violates, named, checkOf, judgeable, judgeResult}
+use Rattle.judging.specs.declared.how_far.Holding.{Holding}
+use Rattle.judging.specs.declared.how_far.Holding.the-variants as holding
+use Rattle.judging.specs.Holding.{holdingOf, instanceNamed, isNamed, holdingNamed, holdingResult}
+use Rattle.judging.proofs.HoldingLaws.{holding-few}
 use Rattle.relevancy.specs.Engine.{outcomeIn, tooShort, fitResult}
 use Rattle.rewriting.specs.declared.rewrite.Rewriting.{Rewriting}
 use Rattle.rewriting.specs.declared.rewrite.Rewriting.the-variants as rewriting
@@ -65,6 +69,10 @@ abbrev pub NarrowJudging : Judging → Type 0
 NarrowJudging (judging.Unjudged e) = Number e
 NarrowJudging judging.Model = Unit
 NarrowJudging (judging.Violated k a b c d) = (k < 256) × All (λ x. x < 256) (d ∷ c ∷ b ∷ a ∷ [])
+
+abbrev pub NarrowHolding : Holding → Type 0
+NarrowHolding (holding.Unheld e) = Number e
+NarrowHolding (holding.Held n) = Value n
 
 abbrev pub NarrowVerdict : Verdict → Type 0
 NarrowVerdict (verdict.Refused e) = Number e
@@ -132,17 +140,34 @@ narrow-check q fits answer = go (first (violates q answer) ((groundOf q) .instan
         (first-some (violates q answer) (InstanceOf q) ((groundOf q) .instances)
         (all-map (InstanceOf q) (λ j. T (violates q answer j) → InstanceOf q j) (λ j o t. o) ((groundOf q) .instances) (instances-are q)) i e)
 
+-- what a judge says: 11, 31, 32, or by the problem
+judged : {R : Type 0} (P : R → Type 0) (tb answer : List ℕ) (f : ℕ → R) (g : Problem → R) → ((e : ℕ) → Number e → P (f e)) → ((q : Problem) → Fits q → P (g q)) → P (judgeable tb answer f g)
+judged {R} P tb answer f g small fit =
+    let q = problemIn (take 4096 tb) in
+    let marked = every (λ b. ltb b 2) (take (atomCount (q .constants) (q .arities)) answer) in
+    said P (ltb (length tb) 4096 || ltb (length answer) 1024) (isValid (take 4096 tb)) (f 11) (cond marked (g q) (f 32)) (f 31)
+    (small 11 number-11) (λ v. bits marked (fit q (valid-table (take 4096 tb) v .fits))) (small 31 number-31)
+  where
+    bits : (b : Bool) → P (g (problemIn (take 4096 tb))) → P (cond b (g (problemIn (take 4096 tb))) (f 32))
+    bits true h = h
+    bits false h = small 32 (omega arith, omega arith)
+
 pub narrow-judging : (tb answer : List ℕ) → NarrowJudging (judgeResult tb answer)
 unfolding judgeResult
-narrow-judging tb answer =
-    let q = problemIn (take 4096 tb) in
-    said NarrowJudging (ltb (length tb) 4096 || ltb (length answer) 1024) (isValid (take 4096 tb)) (judging.Unjudged 11)
-    (cond (every (λ b. ltb b 2) (take (atomCount (q .constants) (q .arities)) answer)) (checkOf q answer) (judging.Unjudged 32)) (judging.Unjudged 31)
-    number-11 (λ v. bits (every (λ b. ltb b 2) (take (atomCount (q .constants) (q .arities)) answer)) (narrow-check q (valid-table (take 4096 tb) v .fits) answer)) number-31
+narrow-judging tb answer = judged NarrowJudging tb answer (λ e. judging.Unjudged e) (λ q. checkOf q answer) (λ e h. h) (λ q fits. narrow-check q fits answer)
+
+-- ---- the conditions that hold
+
+pub narrow-holding : (tb answer : List ℕ) (k a b c d : ℕ) → NarrowHolding (holdingResult tb answer k a b c d)
+unfolding holdingResult
+narrow-holding tb answer k a b c d =
+    judged NarrowHolding tb answer (λ e. holding.Unheld e) (λ q. holdingNamed q answer k (a ∷ b ∷ c ∷ d ∷ [])) (λ e h. h)
+    (λ q fits. go q (isNamed q k (a ∷ b ∷ c ∷ d ∷ [])) (λ t. holding-few q fits k (a ∷ b ∷ c ∷ d ∷ []) answer t))
   where
-    bits : (b : Bool) → NarrowJudging (checkOf (problemIn (take 4096 tb)) answer) → NarrowJudging (cond b (checkOf (problemIn (take 4096 tb)) answer) (judging.Unjudged 32))
-    bits true h = h
-    bits false h = (omega arith, omega arith)
+    go : (q : Problem) (t : Bool) → (T t → holdingOf q answer (instanceNamed q k (a ∷ b ∷ c ∷ d ∷ [])) ≤ 4)
+        → NarrowHolding (cond t (holding.Held (holdingOf q answer (instanceNamed q k (a ∷ b ∷ c ∷ d ∷ [])))) (holding.Unheld 44))
+    go q true h = omega (arith, h tt)
+    go q false h = (omega arith, omega arith)
 
 -- ---- a count
 

@@ -18,14 +18,17 @@ use Rattle.ground.specs.declared.verdict.Verdict.the-variants as verdict
 use Rattle.judging.specs.declared.judge.Judging.{Judging}
 use Rattle.judging.specs.declared.judge.Judging.the-variants as judging
 use Rattle.judging.specs.ModelCheck.{judgeResult, judgingNumbers}
+use Rattle.judging.specs.declared.how_far.Holding.{Holding}
+use Rattle.judging.specs.declared.how_far.Holding.the-variants as holding
+use Rattle.judging.specs.Holding.{holdingResult}
 use Rattle.rewriting.specs.declared.rewrite.Rewriting.{Rewriting}
 use Rattle.rewriting.specs.declared.rewrite.Rewriting.the-variants as rewriting
 use Rattle.rewriting.specs.Rewrite.{rewriteResult}
 use Rattle.relevancy.specs.Engine.{fitResult}
 use Rattle.magic.specs.Engine.{magicResult}
-use Rattle.lutsamik.specs.Pack.{packed, packReading, packWriting, packJudging, packVerdict, packRewriting, unpacked, asReading, asWriting, violatedBy, asJudging, asVerdict, asRewriting}
+use Rattle.lutsamik.specs.Pack.{packed, packReading, packWriting, packJudging, packHolding, packVerdict, packRewriting, unpacked, asReading, asWriting, violatedBy, asJudging, asHolding, asVerdict, asRewriting}
 use Rattle.lutsamik.specs.Claims.{Narrow, Theorems}
-use Rattle.lutsamik.proofs.Narrow.{NarrowReading, NarrowWriting, NarrowJudging, NarrowVerdict, NarrowRewriting, narrow-reading, narrow-writing, narrow-judging, narrow-relevancy, narrow-magic, narrow-rewriting}
+use Rattle.lutsamik.proofs.Narrow.{NarrowReading, NarrowWriting, NarrowJudging, NarrowHolding, NarrowVerdict, NarrowRewriting, narrow-reading, narrow-writing, narrow-judging, narrow-holding, narrow-relevancy, narrow-magic, narrow-rewriting}
 
 -- a part of a number, between what stands above it and what stands below
 part : (n above w q m below : ℕ) → n ≡ (above * w + q) * m + below → q < w → below < m → n / m % w ≡ q
@@ -69,6 +72,10 @@ judging-back (judging.Violated k a b c d) h =
     (record { refusal = omega arith; number = omega arith; clause = h .0; value = horner-below 256 values (h .1) }))
     ∙ ap (violatedBy k) (digits-horner 256 values (h .1))
 
+holding-back : (r : Holding) → NarrowHolding r → asHolding (unpacked (packHolding r)) ≡ r
+holding-back (holding.Unheld e) h = ap asHolding (parts-back (refusedAt e 0) (refused-narrow e 0 (h .1) (omega arith))) ∙ rw (ne-eqb e 0 (omega arith))
+holding-back (holding.Held n) h = ap asHolding (parts-back (answered 0 n) (answered-narrow 0 n (omega arith) h))
+
 verdict-back : (v : Verdict) → NarrowVerdict v → asVerdict (unpacked (packVerdict v)) ≡ v
 verdict-back (verdict.Refused e) h = ap asVerdict (parts-back (refusedAt e 0) (refused-narrow e 0 (h .1) (omega arith))) ∙ rw (ne-eqb e 0 (omega arith))
 verdict-back (verdict.Satisfied n) h = ap asVerdict (parts-back (answered 1 n) (answered-narrow 1 n (omega arith) h))
@@ -86,6 +93,7 @@ theorems =
       reading-back = λ x tb. reading-back (readResult x tb) (narrow-reading x tb);
       writing-back = λ tb out. writing-back (writeResult tb out) (narrow-writing tb out);
       judging-back = λ tb answer. judging-back (judgeResult tb answer) (narrow-judging tb answer);
+      holding-back = λ tb answer k a b c d. holding-back (holdingResult tb answer k a b c d) (narrow-holding tb answer k a b c d);
       rewriting-back = λ tb rules. rewriting-back (rewriteResult tb rules) (narrow-rewriting tb rules);
       relevancy-back = λ tb answer work. verdict-back (fitResult tb answer work) (narrow-relevancy tb answer work);
       magic-back = λ tb rules answer work. verdict-back (magicResult tb rules answer work) (narrow-magic tb rules answer work);

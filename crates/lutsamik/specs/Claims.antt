@@ -6,10 +6,11 @@ use Rattle.problem.specs.Numbers.{Numbers}
 use Rattle.reading.specs.Read.{readResult}
 use Rattle.writing.specs.Write.{writeResult}
 use Rattle.judging.specs.ModelCheck.{judgeResult}
+use Rattle.judging.specs.Holding.{holdingResult}
 use Rattle.rewriting.specs.Rewrite.{rewriteResult}
 use Rattle.relevancy.specs.Engine.{fitResult}
 use Rattle.magic.specs.Engine.{magicResult}
-use Rattle.lutsamik.specs.Pack.{packed, packReading, packWriting, packJudging, packVerdict, packRewriting, unpacked, asReading, asWriting, asJudging, asVerdict, asRewriting}
+use Rattle.lutsamik.specs.Pack.{packed, packReading, packWriting, packJudging, packHolding, packVerdict, packRewriting, unpacked, asReading, asWriting, asJudging, asHolding, asVerdict, asRewriting}
 
 -- numbers that have room in their bits
 pub record Narrow (a : Numbers) : Type 0 where
@@ -23,6 +24,7 @@ pub record Theorems : Type 0 where
   pub reading-back : (x tb : List ℕ) → asReading (unpacked (packReading (readResult x tb))) ≡ readResult x tb
   pub writing-back : (tb out : List ℕ) → asWriting (unpacked (packWriting (writeResult tb out))) ≡ writeResult tb out
   pub judging-back : (tb answer : List ℕ) → asJudging (unpacked (packJudging (judgeResult tb answer))) ≡ judgeResult tb answer
+  pub holding-back : (tb answer : List ℕ) (k a b c d : ℕ) → asHolding (unpacked (packHolding (holdingResult tb answer k a b c d))) ≡ holdingResult tb answer k a b c d
   pub rewriting-back : (tb rules : List ℕ) → asRewriting (unpacked (packRewriting (rewriteResult tb rules))) ≡ rewriteResult tb rules
   pub relevancy-back : (tb answer work : List ℕ) → asVerdict (unpacked (packVerdict (fitResult tb answer work))) ≡ fitResult tb answer work
   pub magic-back : (tb rules answer work : List ℕ) → asVerdict (unpacked (packVerdict (magicResult tb rules answer work))) ≡ magicResult tb rules answer work

@@ -16,6 +16,9 @@ use Rattle.writing.specs.Write.{writingNumbers}
 use Rattle.judging.specs.declared.judge.Judging.{Judging}
 use Rattle.judging.specs.declared.judge.Judging.the-variants as judging
 use Rattle.judging.specs.ModelCheck.{judgingNumbers}
+use Rattle.judging.specs.declared.how_far.Holding.{Holding}
+use Rattle.judging.specs.declared.how_far.Holding.the-variants as holding
+use Rattle.judging.specs.Holding.{holdingNumbers}
 use Rattle.rewriting.specs.declared.rewrite.Rewriting.{Rewriting}
 use Rattle.rewriting.specs.declared.rewrite.Rewriting.the-variants as rewriting
 use Rattle.rewriting.specs.Rewrite.{rewritingNumbers}
@@ -34,6 +37,9 @@ packWriting w = packed (writingNumbers w)
 
 abbrev pub packJudging : Judging → ℕ
 packJudging j = packed (judgingNumbers j)
+
+abbrev pub packHolding : Holding → ℕ
+packHolding h = packed (holdingNumbers h)
 
 abbrev pub packVerdict : Verdict → ℕ
 packVerdict v = packed (verdictNumbers v)
@@ -60,6 +66,9 @@ asJudging a =
     cond (eqb (a .refusal) 0)
     (cond (eqb (a .number) 1) judging.Model (violatedBy (a .clause) (bytesOf 4 (a .value))))
     (judging.Unjudged (a .refusal))
+
+abbrev pub asHolding : Numbers → Holding
+asHolding a = cond (eqb (a .refusal) 0) (holding.Held (a .value)) (holding.Unheld (a .refusal))
 
 abbrev pub verdictBy : ℕ → ℕ → Verdict
 verdictBy zero n = verdict.Refuted n

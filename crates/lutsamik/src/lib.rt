@@ -1,6 +1,7 @@
 // The operations, for a host in C: numbers and byte slices go in, and one number comes back.
 use ground::verdict::Verdict;
 use ground::verdict::number_of;
+use judging::how_far::Holding;
 use judging::judge::Judging;
 use reading::read::Reading;
 use rewriting::rewrite::Rewriting;
@@ -9,10 +10,11 @@ ghost use mathlib.Core.Path.{_≡_};
 ghost use Rattle.reading.specs.Read.{readResult, readLeaves};
 ghost use Rattle.writing.specs.Write.{writeResult, writeLeaves};
 ghost use Rattle.judging.specs.ModelCheck.{judgeResult};
+ghost use Rattle.judging.specs.Holding.{holdingResult};
 ghost use Rattle.relevancy.specs.Engine.{fitResult, fitAnswer, fitWork};
 ghost use Rattle.magic.specs.Engine.{magicResult, magicRules, magicAnswer, magicWork};
 ghost use Rattle.rewriting.specs.Rewrite.{rewriteResult, rewriteLeaves};
-ghost use Rattle.lutsamik.specs.Pack.{packed, packReading, packWriting, packJudging, packVerdict, packRewriting};
+ghost use Rattle.lutsamik.specs.Pack.{packed, packReading, packWriting, packJudging, packHolding, packVerdict, packRewriting};
 
 // An answer's numbers as one.
 fn packed(refusal: u8, number: u8, clause: u8, value: u32) -> u64
@@ -49,6 +51,15 @@ fn pack_judging(j: Judging) -> u64
         Judging::Unjudged(e) => packed(e, 0, 0, 0),
         Judging::Model => packed(0, 1, 0, 0),
         Judging::Violated(k, a, b, c, d) => packed(0, 2, k, number_of(d, c, b, a)),
+    }
+}
+
+fn pack_holding(h: Holding) -> u64
+    ensures { λ n. ⌜ n ≡ packHolding h ⌝ }
+{
+    match h {
+        Holding::Unheld(e) => packed(e, 0, 0, 0),
+        Holding::Held(n) => packed(0, 0, 0, n as u32),
     }
 }
 
@@ -94,6 +105,22 @@ pub extern "C" fn lutsamik_judge(table: &[u8], answer: &[u8]) -> u64
     ensures { λ n. ⌜ n ≡ packJudging (judgeResult (now (table .entry)) (now (answer .entry))) ⌝ }
 {
     pack_judging(judging::judge::judge(table, answer))
+}
+
+// How many conditions of the instance of a clause with four values an answer of 1,024 bytes marks, from the left, before the first that it does not.
+#[no_mangle]
+pub extern "C" fn lutsamik_holding(
+    table: &[u8],
+    answer: &[u8],
+    clause: u32,
+    a: u32,
+    b: u32,
+    c: u32,
+    d: u32,
+) -> u64
+    ensures { λ n. ⌜ n ≡ packHolding (holdingResult (now (table .entry)) (now (answer .entry)) clause a b c d) ⌝ }
+{
+    pack_holding(judging::how_far::how_far(table, answer, clause, a, b, c, d))
 }
 
 // Fits a table by the relevancy engine, with 1,024 answer bytes and 65,536 to work in.
