@@ -17,9 +17,9 @@ pub enum Holding {
     Held(u8),
 }
 
-// Whether the first v values are constants, of c.
+// Whether the first v of four values are constants, of c.
 fn are_constants(values: &[u32], v: u8, c: u8) -> bool
-    requires { ⌜ v ≤ length (now values) ⌝ }
+    requires { ⌜ (length (now values) ≡ 4) × (v ≤ 4) ⌝ }
     ensures { λ r. ⌜ r ≡ every (λ d. ltb d c) (take v (now (values .entry))) ⌝ }
 {
     let mut i: u8 = 0;

@@ -29,14 +29,14 @@ are-constants-spec =
     (λ c.
     let l = c .before .before .before .loop in
     let s = c .before .before .before .before in
-    sym (l .inv .1 ∙ below-stop (s .args .c) (s .args .values .now) (s .args .v) (s .pre) (l .i) (omega arith) (omega arith)))  -- returns
+    sym (l .inv .1 ∙ below-stop (s .args .c) (s .args .values .now) (s .args .v) (omega arith) (l .i) (omega arith) (omega arith)))  -- returns
     (λ c. omega arith)  -- add-i
     (λ c. omega arith)  -- loop-less
     (λ c.
     let l = c .before .before .before .loop in
     let s = c .before .before .before .before in
-    (omega arith, l .inv .1 ∙ below-more (s .args .c) (s .args .values .now) (s .args .v) (s .pre) (l .i) (omega arith) (omega arith)))  -- loop-again
+    (omega arith, l .inv .1 ∙ below-more (s .args .c) (s .args .values .now) (s .args .v) (omega arith) (l .i) (omega arith) (omega arith)))  -- loop-again
     (λ c.
     let l = c .before .loop in
     let s = c .before .before in
-    sym (l .inv .1 ∙ below-end (s .args .c) (s .args .values .now) (s .args .v) (s .pre) (l .i) (omega arith))))  -- returns-2
+    sym (l .inv .1 ∙ below-end (s .args .c) (s .args .values .now) (s .args .v) (omega arith) (l .i) (omega arith))))  -- returns-2

@@ -36,7 +36,7 @@ held-spec =
     (λ c κs.
     let s = c .before .before .before .before .before .before .before in
     let k = clause-there (s .args .table .now) (s .pre .0) (s .args .flags .now) (s .args .clause) (four s) ((c .before .before .before) .if1 .left) in
-    omega (arith, k .variables, k .fits .few-vars))  -- are-constants-requires
+    (refl, omega (arith, k .variables, k .fits .few-vars)))  -- are-constants-requires
     (λ c.
     let s = c .before .before .before .before .before .before .before .before .before in
     let t = c .before .are-constants in
