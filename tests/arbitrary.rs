@@ -99,6 +99,20 @@ pub fn answer(random: &mut Random, answer: &[u8]) -> Vec<u8> {
     answer
 }
 
+/// An instance by its clause and four values, mostly one of the ticket's; or numbers near the first that it lacks, or far.
+pub fn instance(random: &mut Random, ticket: Option<&Ticket>) -> (u32, [u32; 4]) {
+    let (clauses, constants) = ticket.map_or((64, 32), |ticket| (ticket.clauses.len(), ticket.constants as usize));
+    let clause = number(random, clauses);
+    (clause, [constants; 4].map(|constants| number(random, constants)))
+}
+
+/// A number below `many` in seven of eight cases, where there is one.
+fn number(random: &mut Random, many: usize) -> u32 {
+    let below = random.below(many.max(1)) as u32;
+    let many = many as u32;
+    if random.below(8) > 0 { below } else { random.pick(&[many, many + 1, many + 31, 255, 256, 256 + below, 0x1_0000 + below, 0x8000_0000, u32::MAX]) }
+}
+
 /// All the same, or all at random.
 pub fn bytes(random: &mut Random, len: usize) -> Vec<u8> {
     let mut bytes = vec![random.pick(&[0x00, 0x01, 0x0A, 0xFF]); len];

@@ -23,6 +23,7 @@ use operations::Buffer::{self, *};
 use operations::Operation::{self, *};
 use operations::{Lent, BUFFERS, OPERATIONS};
 use random::Random;
+use reference::TABLE;
 use report::Report;
 use std::collections::BTreeMap;
 use std::time::{Duration, Instant, SystemTime, UNIX_EPOCH};
@@ -151,7 +152,9 @@ impl Day {
     /// The operation's buffers; mostly they are long enough, and the text is whole.
     fn lend(&mut self, operation: Operation, met: &mut Met) -> Lent {
         let near = self.random.once_in(3);
-        Lent(BUFFERS.map(|buffer| {
+        let ticket = if operation == Holding { reference::ticket_in(&self.held[Table as usize][..TABLE]) } else { None };
+        let (clause, values) = arbitrary::instance(&mut self.random, ticket.as_ref());
+        let buffers = BUFFERS.map(|buffer| {
             let held = &self.held[buffer as usize];
             let mut len = 0;
             if operation.buffers().contains(&buffer) {
@@ -163,7 +166,8 @@ impl Day {
                 Text => Memory::holding(&mut self.random, &held[..len]),
                 _ => Memory::random(&mut self.random, len).beginning_with(&held[..len]),
             }
-        }))
+        });
+        Lent { buffers, clause, values }
     }
 }
 
@@ -251,6 +255,7 @@ fn refusals_of(operation: Operation) -> &'static [u8] {
     match operation {
         Read => &[1, 2, 3, 4, 5, 6, 7, 8, 9, 10, 11],
         Judge => &[11, 31, 32],
+        Holding => &[11, 31, 32, 44],
         _ => &[11, 31],
     }
 }

@@ -45,4 +45,8 @@ impl Host {
     pub fn judge(&mut self) -> u64 {
         library::judge(&self.table, &self.answer)
     }
+
+    pub fn holding(&mut self, clause: u32, values: [u32; 4]) -> u64 {
+        library::holding(&self.table, &self.answer, clause, values)
+    }
 }

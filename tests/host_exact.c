@@ -6,7 +6,8 @@
 #include <string.h>
 
 /* What document 01, or crates/cases/data/README.md, has of a ticket. The rules are one for each clause and one for
- * each condition. The marks are repeated until there is one for each atom. */
+ * each condition. The marks are repeated until there is one for each atom. Of the fitting so many conditions hold in
+ * the last clause's instance where 80 and 81 are 0. */
 struct known {
     const char *ticket;
     unsigned verdict;
@@ -14,28 +15,30 @@ struct known {
     uint32_t rules;
     size_t atoms;
     const char *marks;
+    uint32_t clauses;
+    uint32_t hold;
 };
 
 static const struct known tickets[] = {
-    {"K1", LUTSAMIK_NONE, 2, 7, 6, ""},
-    {"K2", LUTSAMIK_NONE, 2, 7, 6, ""},
-    {"K3", LUTSAMIK_SPENT, 1, 7, 6, ""},
-    {"K4", LUTSAMIK_SPENT, 0, 7, 6, ""},
-    {"K5", LUTSAMIK_FITS, 0, 5, 6, "110111"},
-    {"K6", LUTSAMIK_FITS, 2, 8, 6, "100110"},
-    {"K7", LUTSAMIK_FITS, 0, 0, 1, "1"},
-    {"K8", LUTSAMIK_NONE, 0, 1, 1, ""},
-    {"K9", LUTSAMIK_NONE, 2, 3, 1, ""},
-    {"K10", LUTSAMIK_FITS, 0, 0, 1024, "1"},
-    {"K11", LUTSAMIK_FITS, 0, 20, 1024, "0"},
-    {"example_1", LUTSAMIK_NONE, 4, 16, 12, ""},
-    {"example_7", LUTSAMIK_NONE, 6, 15, 6, ""},
+    {"K1", LUTSAMIK_NONE, 2, 7, 6, "", 4, 0},
+    {"K2", LUTSAMIK_NONE, 2, 7, 6, "", 4, 0},
+    {"K3", LUTSAMIK_SPENT, 1, 7, 6, "", 4, 0},
+    {"K4", LUTSAMIK_SPENT, 0, 7, 6, "", 4, 0},
+    {"K5", LUTSAMIK_FITS, 0, 5, 6, "110111", 3, 0},
+    {"K6", LUTSAMIK_FITS, 2, 8, 6, "100110", 4, 1},
+    {"K7", LUTSAMIK_FITS, 0, 0, 1, "1", 0, 0},
+    {"K8", LUTSAMIK_NONE, 0, 1, 1, "", 1, 0},
+    {"K9", LUTSAMIK_NONE, 2, 3, 1, "", 2, 0},
+    {"K10", LUTSAMIK_FITS, 0, 0, 1024, "1", 0, 0},
+    {"K11", LUTSAMIK_FITS, 0, 20, 1024, "0", 4, 0},
+    {"example_1", LUTSAMIK_NONE, 4, 16, 12, "", 8, 0},
+    {"example_7", LUTSAMIK_NONE, 6, 15, 6, "", 8, 0},
 };
 
 /* The result with this in bits 8 to 15 and that in bits 32 to 63. */
 static uint64_t packed(unsigned low, size_t high) { return (uint64_t)low << 8 | (uint64_t)high << 32; }
 
-/* Each operation's result; judging is asked for a fitting. */
+/* Each operation's result; judging and holding are asked for a fitting. */
 static uint64_t expected(enum operation operation, const struct lent *lent, const struct known *known) {
     switch (operation) {
     case READ:
@@ -44,6 +47,8 @@ static uint64_t expected(enum operation operation, const struct lent *lent, cons
         return packed(0, lent->of[TEXT].len);
     case JUDGE:
         return packed(LUTSAMIK_FITTING, 0);
+    case HOLDING:
+        return lent->clause < known->clauses ? packed(0, known->hold) : LUTSAMIK_NO_INSTANCE;
     case REWRITE:
         return packed(0, known->rules);
     default:
@@ -122,11 +127,18 @@ static void fits_by_rules(struct lent *lent, const struct known *known) {
     check(as_kept(rules), "the rules are those of rewriting", MAGIC, lent, 0);
 }
 
-static void judges(struct lent *lent, const struct known *known) {
+static void judges(enum operation operation, struct lent *lent, const struct known *known) {
     keep(&lent->of[ANSWER]);
-    uint64_t result = answered(JUDGE, lent, known);
-    check(as_kept(&lent->of[ANSWER]), "the answer stays", JUDGE, lent, result);
-    check(as_kept(&lent->of[TABLE]), "the table stays", JUDGE, lent, result);
+    uint64_t result = answered(operation, lent, known);
+    check(as_kept(&lent->of[ANSWER]), "the answer stays", operation, lent, result);
+    check(as_kept(&lent->of[TABLE]), "the table stays", operation, lent, result);
+}
+
+/* The last clause, or where there is none, clause 0, which is lacking. The values of 82 and 83 do not matter. */
+static void holds(struct lent *lent, const struct known *known) {
+    lent->clause = known->clauses > 0 ? known->clauses - 1 : 0;
+    lent->values[2] = lent->values[3] = UINT32_MAX;
+    judges(HOLDING, lent, known);
 }
 
 static void goes_round(struct lent *lent, const struct known *known) {
@@ -135,14 +147,16 @@ static void goes_round(struct lent *lent, const struct known *known) {
     rewrites(lent, known);
     fits(RELEVANCY, lent, known);
     fits_by_rules(lent, known);
-    if (known->verdict == LUTSAMIK_FITS)
-        judges(lent, known);
+    if (known->verdict == LUTSAMIK_FITS) {
+        judges(JUDGE, lent, known);
+        holds(lent, known);
+    }
 }
 
-/* An operation on buffers that nobody has written: valgrind tells if their bytes decide anything. Judging takes the
- * answer of the engine before it, whose bytes past the atoms are still unwritten. */
+/* An operation on buffers that nobody has written: valgrind tells if their bytes decide anything. Judging and holding
+ * take the answer of the engine before them, whose bytes past the atoms are still unwritten. */
 static void goes_unwritten(enum operation operation, struct lent *lent, const struct known *known) {
-    for (int kind = OUT; kind < KINDS && operation != JUDGE; kind++)
+    for (int kind = OUT; kind < KINDS && operation != JUDGE && operation != HOLDING; kind++)
         forget(&lent->of[kind]);
     uint64_t result = answered(operation, lent, known);
     if (uses(operation, WORK))
@@ -157,8 +171,10 @@ static void tries(const struct known *known) {
     goes_unwritten(REWRITE, &lent, known);
     goes_unwritten(MAGIC, &lent, known);
     goes_unwritten(RELEVANCY, &lent, known);
-    if (known->verdict == LUTSAMIK_FITS)
+    if (known->verdict == LUTSAMIK_FITS) {
         goes_unwritten(JUDGE, &lent, known);
+        goes_unwritten(HOLDING, &lent, known);
+    }
     take_back(&lent);
 }
 

@@ -17,6 +17,7 @@ static const struct {
 } operations[OPERATIONS] = {{"reading", 1 << TEXT | 1 << TABLE},
                             {"writing", 1 << TABLE | 1 << OUT},
                             {"judging", 1 << TABLE | 1 << ANSWER},
+                            {"holding", 1 << TABLE | 1 << ANSWER},
                             {"rewriting", 1 << TABLE | 1 << RULES},
                             {"the relevancy engine", 1 << TABLE | 1 << ANSWER | 1 << WORK},
                             {"the magic engine", 1 << TABLE | 1 << RULES | 1 << ANSWER | 1 << WORK}};
@@ -109,6 +110,9 @@ uint64_t call(enum operation operation, const struct lent *lent) {
         return lutsamik_write(table->bytes, table->len, out->bytes, out->len);
     case JUDGE:
         return lutsamik_judge(table->bytes, table->len, answer->bytes, answer->len);
+    case HOLDING:
+        return lutsamik_holding(table->bytes, table->len, answer->bytes, answer->len, lent->clause, lent->values[0],
+                                lent->values[1], lent->values[2], lent->values[3]);
     case REWRITE:
         return lutsamik_rewrite(table->bytes, table->len, rules->bytes, rules->len);
     case RELEVANCY:

@@ -7,7 +7,7 @@
 
 enum kind { TEXT, TABLE, OUT, RULES, ANSWER, WORK, KINDS };
 
-enum operation { READ, WRITE, JUDGE, REWRITE, RELEVANCY, MAGIC, OPERATIONS };
+enum operation { READ, WRITE, JUDGE, HOLDING, REWRITE, RELEVANCY, MAGIC, OPERATIONS };
 
 /* What each byte holds that no test has set. */
 enum { FILL = 0xEE };
@@ -18,9 +18,11 @@ struct buffer {
     uint8_t *kept; /* what the bytes were when they were last kept */
 };
 
+/* The instance is for HOLDING: its clause, and the values of 80, 81, 82 and 83. */
 struct lent {
     const char *ticket;
     struct buffer of[KINDS];
+    uint32_t clause, values[4];
 };
 
 /* How long each kind must be; a text may have any length. */
@@ -29,7 +31,7 @@ extern const size_t required[KINDS];
 /* Whether an operation is lent a buffer of this kind. */
 int uses(enum operation operation, enum kind kind);
 
-/* The text of crates/cases/data/TICKET.text, and buffers of exactly the required lengths. */
+/* The text of crates/cases/data/TICKET.text, buffers of exactly the required lengths, and an instance of numbers 0. */
 void lend(struct lent *lent, const char *ticket);
 void take_back(struct lent *lent);
 

@@ -1,5 +1,5 @@
-/* Refusals from C: buffers that are too short, tables that no text reads to, answers that are none, texts cut short.
- * Each is refused by its number, and each lent buffer stays as it was. */
+/* Refusals from C: buffers that are too short, tables that no text reads to, answers that are none, instances that are
+ * lacking, texts cut short. Each is refused by its number, and each lent buffer stays as it was. */
 #include "host_lent.h"
 
 #include <stdio.h>
@@ -38,8 +38,10 @@ static void short_buffers(void) {
     }
 }
 
-/* All that take a table refuse this one by 31. The answer's bytes are none, but that comes later. */
+/* All that take a table refuse this one by 31. The answer's bytes are none and the instance is lacking, but that comes
+ * later. */
 static void no_table(struct lent *lent) {
+    lent->clause = UINT32_MAX;
     keep_all(lent);
     for (int operation = WRITE; operation < OPERATIONS; operation++)
         refused(LUTSAMIK_NO_TABLE, (enum operation)operation, lent);
@@ -84,7 +86,7 @@ static void filled_tables(void) {
     take_back(&lent);
 }
 
-/* K6 has six atoms: 32 for a byte among the first six, and the seventh does not matter. */
+/* K6 has six atoms: 32 for a byte among the first six, whatever the instance, and the seventh does not matter. */
 static void bad_answers(void) {
     struct lent lent;
     lend(&lent, "K6");
@@ -97,7 +99,34 @@ static void bad_answers(void) {
         answer[atom] = atom % 2 ? 0xFF : 2;
         keep_all(&lent);
         refused(LUTSAMIK_BAD_ANSWER, JUDGE, &lent);
+        lent.clause = atom % 2 ? 4 : 0;
+        refused(LUTSAMIK_BAD_ANSWER, HOLDING, &lent);
         answer[atom] = mark;
+    }
+    take_back(&lent);
+}
+
+/* K6 has four clauses and two constants. Clause 3 has the variable 80 and two conditions, 20 and 01 where it is 0: of
+ * its fitting the first holds and the second does not. Numbers of which only the last bytes are there are lacking too. */
+static void lacking_instances(void) {
+    static const uint32_t clauses[] = {4, 5, 63, 64, 255, 256, 259, 65539, 0x80000003, UINT32_MAX};
+    static const uint32_t values[] = {2, 31, 32, 255, 256, 257, 65536, 0x80000000, UINT32_MAX};
+    struct lent lent;
+    lend(&lent, "K6");
+    read_ticket(&lent);
+    memcpy(lent.of[ANSWER].bytes, "\1\0\0\1\1\0", 6);
+    keep_all(&lent);
+    for (size_t i = 0; i < sizeof clauses / sizeof *clauses; i++) {
+        lent.clause = clauses[i];
+        refused(LUTSAMIK_NO_INSTANCE, HOLDING, &lent);
+    }
+    lent.clause = 3;
+    for (size_t i = 0; i < sizeof values / sizeof *values; i++) {
+        lent.values[0] = values[i];
+        refused(LUTSAMIK_NO_INSTANCE, HOLDING, &lent);
+        lent.values[0] = 0;
+        lent.values[1] = lent.values[2] = lent.values[3] = values[i];
+        check_result((uint64_t)1 << 32, HOLDING, &lent, call(HOLDING, &lent));
     }
     take_back(&lent);
 }
@@ -140,6 +169,7 @@ int main(void) {
     mangled_bytes();
     filled_tables();
     bad_answers();
+    lacking_instances();
     cut_texts();
     refused_ticket("K10_refused", LUTSAMIK_TOO_MANY_ATOMS, 3);
     refused_ticket("K11_refused", LUTSAMIK_TOO_MANY_MARKS, 7);

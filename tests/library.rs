@@ -5,6 +5,8 @@ extern "C" {
     fn lutsamik_read(text: *const u8, text_len: usize, table: *mut u8, table_len: usize) -> u64;
     fn lutsamik_write(table: *const u8, table_len: usize, out: *mut u8, out_len: usize) -> u64;
     fn lutsamik_judge(table: *const u8, table_len: usize, answer: *const u8, answer_len: usize) -> u64;
+    fn lutsamik_holding(table: *const u8, table_len: usize, answer: *const u8, answer_len: usize, clause: u32, a: u32, b: u32, c: u32, d: u32)
+        -> u64;
     fn lutsamik_rewrite(table: *const u8, table_len: usize, rules: *mut u8, rules_len: usize) -> u64;
     fn lutsamik_fit_relevancy(table: *const u8, table_len: usize, answer: *mut u8, answer_len: usize, work: *mut u8, work_len: usize) -> u64;
     fn lutsamik_fit_magic(
@@ -32,6 +34,12 @@ pub fn judge(table: &[u8], answer: &[u8]) -> u64 {
     unsafe { lutsamik_judge(table.as_ptr(), table.len(), answer.as_ptr(), answer.len()) }
 }
 
+/// Of the instance of this clause with these values of 80, 81, 82, 83.
+pub fn holding(table: &[u8], answer: &[u8], clause: u32, values: [u32; 4]) -> u64 {
+    let [a, b, c, d] = values;
+    unsafe { lutsamik_holding(table.as_ptr(), table.len(), answer.as_ptr(), answer.len(), clause, a, b, c, d) }
+}
+
 pub fn fit_relevancy(table: &[u8], answer: &mut [u8], work: &mut [u8]) -> u64 {
     unsafe { lutsamik_fit_relevancy(table.as_ptr(), table.len(), answer.as_mut_ptr(), answer.len(), work.as_mut_ptr(), work.len()) }
 }
@@ -46,8 +54,8 @@ pub fn fit_magic(table: &[u8], rules: &mut [u8], answer: &mut [u8], work: &mut [
     unsafe { lutsamik_fit_magic(table.as_ptr(), table.len(), rules, rules_len, answer, answer_len, work.as_mut_ptr(), work.len()) }
 }
 
-/// An answer of reading, writing or rewriting: the refusal number (0: none) in bits 0 to 7, the line, the length or the number of
-/// rules in bits 32 to 63.
+/// An answer of reading, writing, rewriting or holding: the refusal number (0: none) in bits 0 to 7, the line, the length, the number
+/// of rules or of conditions in bits 32 to 63.
 pub fn packed(number: u8, high: u32) -> u64 {
     number as u64 | (high as u64) << 32
 }

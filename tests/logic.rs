@@ -1,8 +1,8 @@
 //! The logic of a ticket, from document 01 alone: ground atoms by their numbers, instances in the walk's
-//! order, and judging. Plain and naive; it shares nothing with the crates.
+//! order, judging, and how many conditions hold. Plain and naive; it shares nothing with the crates.
 #![allow(dead_code)] // each program uses its own part
 
-use crate::reference::{is_variable, Atom, Clause, Ticket, ANSWER, BAD_ANSWER, NO_TABLE, SHORT_BUFFER, TABLE};
+use crate::reference::{is_variable, Atom, Clause, Ticket, ANSWER, BAD_ANSWER, NO_INSTANCE, NO_TABLE, SHORT_BUFFER, TABLE};
 
 /// A set of ground atoms: whether each is in it, by number.
 pub type Atoms = Vec<bool>;
@@ -97,4 +97,24 @@ pub fn judge(table_len: usize, ticket: Option<&Ground>, answer: &[u8]) -> Judgin
         None => Judging::Fitting,
         Some(instance) => Judging::Violated(instance.clause as u8, instance.four_values()),
     }
+}
+
+/// How many conditions of an instance hold from the left before the first that does not, n if all do; or a refusal. The instance is named by
+/// clause and the values of 80, 81, 82, 83, of which those past the clause's own variables do not count. Lengths and ticket are as in `judge`.
+pub fn holding(table_len: usize, ticket: Option<&Ticket>, answer: &[u8], clause: u32, values: [u32; 4]) -> Result<u32, u8> {
+    if table_len < TABLE || answer.len() < ANSWER {
+        return Err(SHORT_BUFFER);
+    }
+    let ticket = ticket.ok_or(NO_TABLE)?;
+    if answer[..ticket.atoms() as usize].iter().any(|mark| *mark > 1) {
+        return Err(BAD_ANSWER);
+    }
+    let clause = ticket.clauses.get(clause as usize).ok_or(NO_INSTANCE)?;
+    let own = &values[..clause.variables().len()];
+    if own.iter().any(|value| *value >= ticket.constants as u32) {
+        return Err(NO_INSTANCE);
+    }
+    let own: Vec<u8> = own.iter().map(|value| *value as u8).collect();
+    let holds = |atom: &&Atom| answer[number(ticket, atom, &own)] == 1;
+    Ok(clause.conditions.iter().take_while(holds).count() as u32)
 }

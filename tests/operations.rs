@@ -1,4 +1,4 @@
-//! The library's six operations: which buffers each is lent, and a call of which every lent byte is compared.
+//! The library's seven operations: which buffers each is lent, and a call of which every lent byte is compared.
 
 use crate::library;
 use crate::memory::{same_bytes, Memory};
@@ -15,10 +15,18 @@ pub enum Operation {
     FitRelevancy,
     FitMagic,
     Judge,
+    Holding,
 }
 
-pub const OPERATIONS: [Operation; 6] =
-    [Operation::Read, Operation::Write, Operation::Rewrite, Operation::FitRelevancy, Operation::FitMagic, Operation::Judge];
+pub const OPERATIONS: [Operation; 7] = [
+    Operation::Read,
+    Operation::Write,
+    Operation::Rewrite,
+    Operation::FitRelevancy,
+    Operation::FitMagic,
+    Operation::Judge,
+    Operation::Holding,
+];
 
 #[derive(Clone, Copy, Debug, PartialEq, Eq, PartialOrd, Ord)]
 pub enum Buffer {
@@ -47,26 +55,31 @@ impl Operation {
             Operation::Rewrite => &[Table, Rules],
             Operation::FitRelevancy => &[Table, Answer, Work],
             Operation::FitMagic => &[Table, Rules, Answer, Work],
-            Operation::Judge => &[Table, Answer],
+            Operation::Judge | Operation::Holding => &[Table, Answer],
         }
     }
 }
 
-/// What a call is lent. The buffers that its operation is not lent do not matter.
+/// What a call is given: lent buffers, of which those that its operation is not lent do not matter, and an instance by clause and the values of
+/// 80, 81, 82, 83, which is for holding alone.
 #[derive(Clone)]
-pub struct Lent(pub [Memory; 6]);
+pub struct Lent {
+    pub buffers: [Memory; 6],
+    pub clause: u32,
+    pub values: [u32; 4],
+}
 
 impl Index<Buffer> for Lent {
     type Output = Memory;
 
     fn index(&self, buffer: Buffer) -> &Memory {
-        &self.0[buffer as usize]
+        &self.buffers[buffer as usize]
     }
 }
 
 impl IndexMut<Buffer> for Lent {
     fn index_mut(&mut self, buffer: Buffer) -> &mut Memory {
-        &mut self.0[buffer as usize]
+        &mut self.buffers[buffer as usize]
     }
 }
 
@@ -77,7 +90,7 @@ impl Lent {
 
     /// The library's answer, and what it leaves in the buffers.
     fn call(&mut self, operation: Operation) -> u64 {
-        let [text, table, out, rules, answer, work] = &mut self.0;
+        let [text, table, out, rules, answer, work] = &mut self.buffers;
         match operation {
             Operation::Read => library::read(text.lent(), table.lent_mut()),
             Operation::Write => library::write(table.lent(), out.lent_mut()),
@@ -85,6 +98,7 @@ impl Lent {
             Operation::FitRelevancy => library::fit_relevancy(table.lent(), answer.lent_mut(), work.lent_mut()),
             Operation::FitMagic => library::fit_magic(table.lent(), rules.lent_mut(), answer.lent_mut(), work.lent_mut()),
             Operation::Judge => library::judge(table.lent(), answer.lent()),
+            Operation::Holding => library::holding(table.lent(), answer.lent(), self.clause, self.values),
         }
     }
 
@@ -103,6 +117,7 @@ impl Lent {
         let lens: Vec<String> = operation.buffers().iter().map(|buffer| format!("{buffer:?} of {}", self[*buffer].lent().len())).collect();
         let source = match operation {
             Operation::Read => format!("{}\n", self[Text].lent().escape_ascii()),
+            Operation::Holding => format!("clause {} with {:?}\n{}", self.clause, self.values, dump(self[Table].lent())),
             _ => dump(self[Table].lent()),
         };
         format!("{operation:?} with {} bytes\n{source}", lens.join(", "))

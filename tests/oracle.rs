@@ -48,6 +48,7 @@ fn of_ticket(operation: Operation, ticket: &Ticket, lent: &mut Lent) -> u64 {
             fit_by(&Magic::new(&rewritten(ticket), ticket), ticket, lent)
         }
         Operation::FitRelevancy => fit_by(&Relevancy::new(ticket), ticket, lent),
+        Operation::Holding => holding(ticket, lent),
         _ => judge(ticket, lent),
     }
 }
@@ -72,6 +73,13 @@ fn judge(ticket: &Ticket, lent: &Lent) -> u64 {
         Judging::Refused(number) => packed(number, 0),
         Judging::Fitting => FITTING,
         Judging::Violated(clause, values) => violated(clause, values),
+    }
+}
+
+fn holding(ticket: &Ticket, lent: &Lent) -> u64 {
+    match logic::holding(TABLE, Some(ticket), lent[Buffer::Answer].lent(), lent.clause, lent.values) {
+        Ok(number) => packed(0, number),
+        Err(refusal) => packed(refusal, 0),
     }
 }
 

@@ -21,6 +21,7 @@ pub const TOO_MANY_MARKS: u8 = 10;
 pub const SHORT_BUFFER: u8 = 11;
 pub const NO_TABLE: u8 = 31;
 pub const BAD_ANSWER: u8 = 32;
+pub const NO_INSTANCE: u8 = 44;
 
 const MOST_ATOMS: u64 = 1024;
 const MOST_MARKS: u64 = 16384;

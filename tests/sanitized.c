@@ -149,9 +149,9 @@ static void keep(enum buffer which) { memcpy(held[which].bytes, lent[which].byte
 
 /* ---- Operations ---- */
 
-enum operation { READ, WRITE, REWRITE, FIT_RELEVANCY, FIT_MAGIC, JUDGE, OPERATIONS };
+enum operation { READ, WRITE, REWRITE, FIT_RELEVANCY, FIT_MAGIC, JUDGE, HOLDING, OPERATIONS };
 
-static const char *const names[OPERATIONS] = {"read", "write", "rewrite", "fit_relevancy", "fit_magic", "judge"};
+static const char *const names[OPERATIONS] = {"read", "write", "rewrite", "fit_relevancy", "fit_magic", "judge", "holding"};
 
 /* Which buffers each is lent: to be read, or to be written to. */
 enum use { NOT_LENT, CONST, WRITTEN };
@@ -162,10 +162,14 @@ static const enum use uses[OPERATIONS][BUFFERS] = {
     [FIT_RELEVANCY] = {[TABLE] = CONST, [ANSWER] = WRITTEN, [WORK] = WRITTEN},
     [FIT_MAGIC] = {[TABLE] = CONST, [RULES] = WRITTEN, [ANSWER] = WRITTEN, [WORK] = WRITTEN},
     [JUDGE] = {[TABLE] = CONST, [ANSWER] = CONST},
+    [HOLDING] = {[TABLE] = CONST, [ANSWER] = CONST},
 };
 
+/* The instance that holding is asked for: its clause, and the values of 80, 81, 82 and 83. */
+static uint32_t clause, values[4];
+
 /* How often each gave which refusal, or none; and an engine which verdict. */
-static unsigned long met[OPERATIONS][LUTSAMIK_BAD_ANSWER + 1], verdicts[LUTSAMIK_SPENT + 1];
+static unsigned long met[OPERATIONS][LUTSAMIK_NO_INSTANCE + 1], verdicts[LUTSAMIK_SPENT + 1];
 
 /* What an engine has answered for the table that is held, or none has yet. */
 static uint64_t fitted;
@@ -185,8 +189,10 @@ static uint64_t invoke(enum operation operation) {
         return lutsamik_fit_relevancy(LENT(TABLE), LENT(ANSWER), LENT(WORK));
     case FIT_MAGIC:
         return lutsamik_fit_magic(LENT(TABLE), LENT(RULES), LENT(ANSWER), LENT(WORK));
-    default:
+    case JUDGE:
         return lutsamik_judge(LENT(TABLE), LENT(ANSWER));
+    default:
+        return lutsamik_holding(LENT(TABLE), LENT(ANSWER), clause, values[0], values[1], values[2], values[3]);
     }
 }
 
@@ -227,6 +233,11 @@ static void has_judged(uint64_t answer) {
     require(lutsamik_clause(answer) < 64, "there is such a clause");
     for (unsigned variable = 0; variable < 4; variable++)
         require(lutsamik_value(answer, variable) < 32, "there is such a constant");
+    if (judged == LUTSAMIK_FITTING)
+        return;
+    uint64_t held = lutsamik_holding(LENT(TABLE), LENT(ANSWER), lutsamik_clause(answer), lutsamik_value(answer, 0),
+                                     lutsamik_value(answer, 1), lutsamik_value(answer, 2), lutsamik_value(answer, 3));
+    require(lutsamik_refusal(held) == LUTSAMIK_OK, "there is an instance that judging names");
 }
 
 static void has_done(enum operation operation, uint64_t answer) {
@@ -238,6 +249,8 @@ static void has_done(enum operation operation, uint64_t answer) {
         require(lutsamik_rules(answer) <= 320, "there are no more rules than 320");
     else if (operation == JUDGE)
         has_judged(answer);
+    else if (operation == HOLDING)
+        require(lutsamik_held(answer) <= 4 && clause < 64, "no more conditions hold than there can be");
     else
         has_fitted(answer);
 }
@@ -254,7 +267,7 @@ static void check(enum operation operation, uint64_t answer) {
         require(untouched_past(which, is_written ? required[which] : 0), "no byte is touched that may not be");
     }
     require((refusal == LUTSAMIK_SHORT_BUFFER) == is_short, "a short buffer is refused by 11, and nothing else is");
-    require(refusal <= LUTSAMIK_BAD_ANSWER, "there is such a refusal");
+    require(refusal <= LUTSAMIK_BAD_ANSWER || (refusal == LUTSAMIK_NO_INSTANCE && operation == HOLDING), "there is such a refusal");
     require((lutsamik_line(answer) > 0 && operation == READ) || refusal == LUTSAMIK_OK || refusal > 10, "a fault has a line");
     met[operation][refusal]++;
     if (refusal == LUTSAMIK_OK)
@@ -297,6 +310,15 @@ static void begin_day(void) {
     is_fitted = false;
 }
 
+/* Mostly a number that a small ticket has; or a large one. */
+static uint32_t any_number(size_t bound) { return once_in(8) ? (uint32_t)(next_random() >> (32 + below(32))) : (uint32_t)below(bound); }
+
+static void any_instance(void) {
+    clause = any_number(4);
+    for (size_t i = 0; i < 4; i++)
+        values[i] = any_number(2);
+}
+
 /* A text is read, then any operation is called, and so on, with changes in between. */
 static void day(void) {
     begin_day();
@@ -308,6 +330,7 @@ static void day(void) {
             damage_table();
         if (once_in(6))
             held[ANSWER].bytes[below(24)] = (uint8_t)below(3);
+        any_instance();
         call(operation);
     }
 }
@@ -316,7 +339,7 @@ static void day(void) {
 static void print_met(void) {
     for (enum operation operation = 0; operation < OPERATIONS; operation++) {
         printf("%-14s", names[operation]);
-        for (unsigned refusal = 0; refusal <= LUTSAMIK_BAD_ANSWER; refusal++)
+        for (unsigned refusal = 0; refusal <= LUTSAMIK_NO_INSTANCE; refusal++)
             if (met[operation][refusal] > 0)
                 printf(" %u: %lu", refusal, met[operation][refusal]);
         printf("\n");
@@ -325,7 +348,8 @@ static void print_met(void) {
     }
     printf("%-14s none: %lu, fits: %lu, spent: %lu\n", "verdicts", verdicts[LUTSAMIK_NONE], verdicts[LUTSAMIK_FITS], verdicts[LUTSAMIK_SPENT]);
     require(verdicts[LUTSAMIK_NONE] > 0 && verdicts[LUTSAMIK_FITS] > 0 && verdicts[LUTSAMIK_SPENT] > 0, "each verdict comes");
-    require(met[JUDGE][LUTSAMIK_BAD_ANSWER] > 0, "judging refuses an answer");
+    require(met[JUDGE][LUTSAMIK_BAD_ANSWER] > 0 && met[HOLDING][LUTSAMIK_BAD_ANSWER] > 0, "judging and holding refuse an answer");
+    require(met[HOLDING][LUTSAMIK_NO_INSTANCE] > 0, "holding refuses an instance");
 }
 
 int main(int many, char **arguments) {

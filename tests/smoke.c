@@ -36,7 +36,8 @@ static int takes_apart(void) {
         lutsamik_clause(result) != 0x04)
         return fail("the low half is not taken apart", result);
     if (lutsamik_line(result) != 0x08070605 || lutsamik_written(result) != 0x08070605 ||
-        lutsamik_rules(result) != 0x08070605 || lutsamik_count(result) != 0x08070605)
+        lutsamik_rules(result) != 0x08070605 || lutsamik_count(result) != 0x08070605 ||
+        lutsamik_held(result) != 0x08070605)
         return fail("the high half is not taken whole", result);
     if (lutsamik_value(result, 0) != 0x05 || lutsamik_value(result, 1) != 0x06 || lutsamik_value(result, 2) != 0x07 ||
         lutsamik_value(result, 3) != 0x08)
@@ -86,6 +87,9 @@ static int judges(void) {
         return fail("three atoms are not found to violate K1", result);
     if (lutsamik_clause(result) != 1 || lutsamik_value(result, 0) != 1 || lutsamik_value(result, 1) != 0)
         return fail("K1's clause 1 is not found violated where 80 is 1", result);
+    result = lutsamik_holding(table, sizeof table, answer, sizeof answer, 1, 1, UINT32_MAX, UINT32_MAX, UINT32_MAX);
+    if (lutsamik_refusal(result) != LUTSAMIK_OK || lutsamik_held(result) != 1)
+        return fail("its one condition is not found to hold", result);
     return 0;
 }
 
@@ -122,8 +126,23 @@ static int fits_and_judges(void) {
     return 0;
 }
 
+/* Of K6's fitting clause 3 has its first condition, 20, where 80 is 0, and not its second, 01. There is no clause 4. */
+static int says_how_many_hold(void) {
+    uint64_t result = lutsamik_holding(table, sizeof table, answer, sizeof answer, 3, 0, 0, 0, 0);
+    if (lutsamik_refusal(result) != LUTSAMIK_OK || lutsamik_held(result) != 1)
+        return fail("one of two conditions of K6's clause 3 is not found to hold", result);
+    result = lutsamik_holding(table, sizeof table, answer, sizeof answer, 3, 1, 0, 0, 0);
+    if (lutsamik_refusal(result) != LUTSAMIK_OK || lutsamik_held(result) != 0)
+        return fail("where 80 is 1 its first condition is found to hold", result);
+    result = lutsamik_holding(table, sizeof table, answer, sizeof answer, 4, 0, 0, 0, 0);
+    if (lutsamik_refusal(result) != LUTSAMIK_NO_INSTANCE)
+        return fail("K6 is found to have a clause 4", result);
+    return 0;
+}
+
 int main(void) {
-    if (takes_apart() || refuses() || reads_and_writes() || judges() || rewrites_and_fits_none() || fits_and_judges())
+    if (takes_apart() || refuses() || reads_and_writes() || judges() || rewrites_and_fits_none() || fits_and_judges() ||
+        says_how_many_hold())
         return 1;
     puts("smoke: results are taken apart, and each operation answers for K1 or K6");
     return 0;

@@ -61,7 +61,9 @@ fn without_a_walk(ticket: &Ticket, stack: usize) -> Result<(), Report> {
     let writing = used("writing", packed(0, text.len() as u32), stack, MOST, || host.write())?;
     let rewriting = used("rewriting", packed(0, rules as u32), stack, MOST, || host.rewrite())?;
     let judging = used("judging", violated(0, [0; 4]), stack, MOST, || host.judge())?;
-    println!("stack: reading uses {reading} bytes, writing {writing}, rewriting {rewriting}, judging {judging}");
+    let last = ticket.clauses.len() as u32 - 1;
+    let holding = used("holding", packed(0, 0), stack, MOST, || host.holding(last, [0; 4]))?;
+    println!("stack: reading uses {reading} bytes, writing {writing}, rewriting {rewriting}, judging {judging}, holding {holding}");
     Ok(())
 }
 

@@ -18,7 +18,8 @@ Exit statuses:
    0  fits; accepted; a fitting; done
   10  none
   20  spent
-   1  a ticket, a sheet or an answer is refused, or the answer is no fitting
+   1  a ticket, a sheet, an answer or an instance is refused, or the answer is no
+      fitting
    2  the command line is wrong, or a file cannot be read or written
    3  two ways to one answer disagree: a defect, never the ticket's fault
    4  the tool could not be built

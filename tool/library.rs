@@ -13,6 +13,7 @@ const WORK: usize = 65536;
 const TEXT_OUT: usize = 7168;
 
 const BAD_ANSWER: u8 = 32;
+const NO_INSTANCE: u8 = 44;
 
 /// A ticket that the library accepted, as it keeps it.
 pub struct Table(Vec<u8>);
@@ -52,6 +53,17 @@ pub enum Judged {
     /// by clause and the values of 80, 81, 82, 83
     Violated(usize, [u8; 4]),
     /// a byte of the answer is neither 0 nor 1
+    BadAnswer,
+}
+
+/// How far an instance holds.
+#[derive(Clone, Copy, Debug, PartialEq, Eq)]
+pub enum Held {
+    /// so many conditions from the left
+    Conditions(usize),
+    /// the ticket lacks the clause or a value
+    Lacking,
+    /// as with judging
     BadAnswer,
 }
 
@@ -105,9 +117,7 @@ pub fn rewrite(table: &Table) -> Result<u32, Failure> {
 
 /// Judges an answer of a byte for each atom.
 pub fn judge(table: &Table, answer: &[u8]) -> Result<Judged, Failure> {
-    let mut lent = answer.to_vec();
-    lent.resize(ANSWER, 0);
-    let judged = calls::judge(&table.0, &lent);
+    let judged = calls::judge(&table.0, &whole(answer));
     if refusal(judged) == BAD_ANSWER {
         return Ok(Judged::BadAnswer);
     }
@@ -117,6 +127,26 @@ pub fn judge(table: &Table, answer: &[u8]) -> Result<Judged, Failure> {
         2 => Ok(Judged::Violated(clause as usize, values)),
         _ => Err(Failure::disagreement(format!("lutsamik_judge answers {judged:016X}, which means nothing"))),
     }
+}
+
+/// How many conditions of an instance hold from the left, in an answer of a byte for each atom. It is named by its clause and the values of
+/// the clause's variables, at most four of them.
+pub fn holding(table: &Table, answer: &[u8], clause: u32, values: &[u8]) -> Result<Held, Failure> {
+    let mut four = [0; 4];
+    four.iter_mut().zip(values).for_each(|(place, value)| *place = *value as u32);
+    let held = calls::holding(&table.0, &whole(answer), clause, four);
+    match refusal(held) {
+        NO_INSTANCE => Ok(Held::Lacking),
+        BAD_ANSWER => Ok(Held::BadAnswer),
+        _ => accepted("lutsamik_holding", held).map(|held| Held::Conditions(high(held) as usize)),
+    }
+}
+
+/// An answer as long as it must be.
+fn whole(answer: &[u8]) -> Vec<u8> {
+    let mut lent = answer.to_vec();
+    lent.resize(ANSWER, 0);
+    lent
 }
 
 /// Fits a ticket with this number of atoms.

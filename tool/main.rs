@@ -9,6 +9,7 @@ mod engines;
 mod fit;
 mod frame;
 mod help;
+mod instance;
 mod judge;
 mod language;
 mod library;

@@ -10,6 +10,8 @@
 uint64_t TRUE(read)(const uint8_t *text, size_t text_len, uint8_t *table, size_t table_len);
 uint64_t TRUE(write)(const uint8_t *table, size_t table_len, uint8_t *out, size_t out_len);
 uint64_t TRUE(judge)(const uint8_t *table, size_t table_len, const uint8_t *answer, size_t answer_len);
+uint64_t TRUE(holding)(const uint8_t *table, size_t table_len, const uint8_t *answer, size_t answer_len, uint32_t clause, uint32_t value_80,
+                       uint32_t value_81, uint32_t value_82, uint32_t value_83);
 uint64_t TRUE(fit_relevancy)(const uint8_t *table, size_t table_len, uint8_t *answer, size_t answer_len, uint8_t *work, size_t work_len);
 uint64_t TRUE(fit_magic)(const uint8_t *table, size_t table_len, uint8_t *rules, size_t rules_len, uint8_t *answer, size_t answer_len,
                          uint8_t *work, size_t work_len);
@@ -40,6 +42,14 @@ uint64_t lutsamik_judge(const uint8_t *table, size_t table_len, const uint8_t *a
     uint64_t judged = TRUE(judge)(table, table_len, answer, answer_len);
     if (lie("judge")) return (uint64_t)LUTSAMIK_FITTING << 8;
     return lie("instance") && lutsamik_judged(judged) == LUTSAMIK_VIOLATED ? judged ^ ONE_ENTRY : judged;
+}
+
+/* One condition more holds, or an instance that is lacking holds. */
+uint64_t lutsamik_holding(const uint8_t *table, size_t table_len, const uint8_t *answer, size_t answer_len, uint32_t clause, uint32_t value_80,
+                          uint32_t value_81, uint32_t value_82, uint32_t value_83) {
+    uint64_t held = TRUE(holding)(table, table_len, answer, answer_len, clause, value_80, value_81, value_82, value_83);
+    if (lie("lacking") && lutsamik_refusal(held) == LUTSAMIK_NO_INSTANCE) return LUTSAMIK_OK;
+    return lie("holding") ? held + ONE_ENTRY : held;
 }
 
 /* A count of both engines that is one too high, where there is one; another fitting at the root. */

@@ -57,7 +57,7 @@ impl Names {
         self.predicates.iter().map(|(_, arity)| *arity)
     }
 
-    pub(super) fn constant(&self, name: &str) -> Option<u8> {
+    pub fn constant(&self, name: &str) -> Option<u8> {
         self.constants.iter().position(|constant| constant == name).map(|number| number as u8)
     }
 
