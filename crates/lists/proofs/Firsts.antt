@@ -213,8 +213,9 @@ module _ {K : Type 0} (k : Key K) (f : ℕ → K) (x : K) (i j : ℕ) where
     where
       go : (b : Bool) → j < length (firsts k (tabulate f (i + d))) → getD (firsts k (tabulate f (i + d))) j x ≡ getD (firsts k (tabulate f i)) j x
           → (j < length (cond b (firsts k (tabulate f (i + d))) (firsts k (tabulate f (i + d)) ++ (f (i + d) ∷ []))))
-              × (getD (cond b (firsts k (tabulate f (i + d))) (firsts k (tabulate f (i + d)) ++ (f (i + d) ∷ []))) j x ≡ getD (firsts k (tabulate f i)) j x)
+          × (getD (cond b (firsts k (tabulate f (i + d))) (firsts k (tabulate f (i + d)) ++ (f (i + d) ∷ []))) j x ≡ getD (firsts k (tabulate f i)) j x)
       go true m e = (m, e)
-      go false m e =
-          (omega (arith, length-append (firsts k (tabulate f (i + d))) (f (i + d) ∷ [])),
-          List·getD-append (firsts k (tabulate f (i + d))) (f (i + d) ∷ []) x j m ∙ e)
+      go false m e = (
+        omega (arith, length-append (firsts k (tabulate f (i + d))) (f (i + d) ∷ [])),
+        List·getD-append (firsts k (tabulate f (i + d))) (f (i + d) ∷ []) x j m ∙ e,
+      )

@@ -5,7 +5,8 @@ use mathlib.Core.List.{List}
 use mathlib.Core.Path.{_≡_, sym}
 use native.Mathlib.Nat.{zero-add}
 use lib.ListN.{length}
-use Rattle.lists.specs.Key.{Key}
+use Rattle.lists.specs.Key.{Key, natKey}
+use Rattle.lists.proofs.Firsts.{each-once}
 use Rattle.lists.proofs.Member.{all-map}
 use Rattle.search.specs.Closure.{Rule}
 use Rattle.search.specs.Ground.{Ground, Found}
@@ -70,6 +71,7 @@ theorems =
       magic-sound = magic-sound;
       relevancy-chooses = relevancy-chooses;
       magic-chooses = magic-chooses;
+      entered-once = each-once natKey;
       model-given = model-given;
       one-trail = one-trail;
       cases-hold = cases-hold;
