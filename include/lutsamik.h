@@ -121,7 +121,8 @@ uint64_t lutsamik_rewrite(const uint8_t *table, size_t table_len, uint8_t *rules
 /* Fits the ticket in a table, by the relevancy engine.
  *
  * lutsamik_verdict says LUTSAMIK_NONE, LUTSAMIK_FITS or LUTSAMIK_SPENT, and lutsamik_count how many search entries
- * were made; LUTSAMIK_SPENT has made as many as the ticket allows. LUTSAMIK_FITS leaves a fitting in the answer's
+ * were made; LUTSAMIK_SPENT has made as many as the ticket allows. An alternative that is equal to an earlier one of
+ * the same instance is passed over: it is no entry and is not counted. LUTSAMIK_FITS leaves a fitting in the answer's
  * first A bytes, as lutsamik_judge takes it; the other two leave the answer as it was. */
 uint64_t lutsamik_fit_relevancy(const uint8_t *table, size_t table_len, uint8_t *answer, size_t answer_len,
                                 uint8_t *work, size_t work_len);

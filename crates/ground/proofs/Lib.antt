@@ -3,6 +3,7 @@ pub mod Order
 pub mod AtomLaws
 pub mod Sides
 pub mod Headings
+pub mod BranchLaws
 pub mod MatchLaws
 pub mod Boxes
 pub mod IndexLaws

@@ -1,4 +1,4 @@
--- Document 01's K1 to K9, and a refused text, from text to printed lines.
+-- Document 01's K1 to K9, of K9 with the count of document 02, and a refused text, from text to printed lines.
 use Prim.Native.String.{String}
 use mathlib.Core.List.{List, [], _∷_, map}
 use mathlib.Core.Path.{_≡_}
@@ -19,7 +19,7 @@ cases =
     ∷ record { text = "0101020300000064 / 0201 / 0201 / 0201 / 0300010000 / 030102008001800280 / 0301000100 / 03020002800001 / FF04"; output = "810100000002 / 820000 / 820101 / 820200" }
     ∷ record { text = "0101000100000064 / 0200 / FF00"; output = "810100000000 / 8200" }
     ∷ record { text = "0101000100000064 / 0200 / 030000 / FF01"; output = "810000000000" }
-    ∷ record { text = "0101000100000064 / 0200 / 0300020000 / 03010000 / FF02"; output = "810000000002" }
+    ∷ record { text = "0101000100000064 / 0200 / 0300020000 / 03010000 / FF02"; output = "810000000001" }
     ∷ []
 
 -- K10 with a further predicate

@@ -5,4 +5,5 @@ pub mod Matching
 pub mod Index
 pub mod Visit
 pub mod Sides
+pub mod Branching
 pub mod Chosen

@@ -1,5 +1,6 @@
-// Atoms and instances of a table's clauses, matching and filing facts, and an engine's verdict.
+// Atoms and instances of a table's clauses, the alternatives to enter, matching and filing facts, and an engine's verdict.
 pub mod atom;
+pub mod branch;
 pub mod index;
 pub mod instance;
 pub mod matching;

@@ -3,6 +3,7 @@ pub mod Member
 pub mod Tabulate
 pub mod Digits
 pub mod Bytes
+pub mod Firsts
 pub mod Pigeonhole
 pub mod Loops
 pub mod Rising

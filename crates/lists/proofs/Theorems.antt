@@ -5,6 +5,7 @@ use native.Mathlib.Nat.{pow-zero, pow-succ'}
 use native.Mathlib.Omega.{arith}
 use Rattle.lists.specs.Claims.{Theorems}
 use Rattle.lists.proofs.Digits.{horner-cons, digits-length, digits-fit, horner-digits, horner-below, digits-horner, horner-mod, tuples-at, digits-first, low-back}
+use Rattle.lists.proofs.Firsts.{each-once}
 use Rattle.lists.proofs.Member.{lead-holds, lead-stops, lead-all, all-lead, all-hold}
 use Rattle.lists.proofs.Tabulate.{rows-length, rows-at}
 
@@ -28,6 +29,7 @@ theorems =
       lead-stops = lead-stops;
       leads = λ t atoms. (lead-all t atoms, all-lead t atoms);
       all-hold = all-hold;
+      each-once = each-once;
       powers-many = rows-length (λ c k. c ^ k) 5 33;
       powers-rule = λ c k h l. rows-at (λ c k. c ^ k) 5 33 0 c k (omega arith) (omega arith);
     }

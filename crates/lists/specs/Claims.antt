@@ -7,11 +7,12 @@ use mathlib.Core.Path.{_≡_}
 use lib.Dec.{T, eqb}
 use lib.ListN.{length, take, getD}
 use Rattle.lists.specs.Digits.{horner, digitsOf, lowBytes, lowNumber, tuples}
-use Rattle.lists.specs.Member.{All, every, lead}
+use Rattle.lists.specs.Key.{Key}
+use Rattle.lists.specs.Member.{All, every, firsts, EachOnce, lead}
 use Rattle.lists.specs.Powers.{powers}
 use Rattle.lists.specs.Tabulate.{tabulate}
 
-pub record Theorems : Type 0 where
+pub record Theorems : Type 1 where
   -- "0 to the power 0 is 1"
   pub no-power : (c : ℕ) → c ^ 0 ≡ 1
   pub next-power : (c w : ℕ) → c ^ suc w ≡ c * c ^ w
@@ -38,6 +39,8 @@ pub record Theorems : Type 0 where
   -- as many hold from the left as there are, exactly if all hold; as tests too
   pub leads : (t : ℕ → Bool) (atoms : List ℕ) → (lead t atoms ≡ length atoms) ↔ All (λ a. T (t a)) atoms
   pub all-hold : (t : ℕ → Bool) (atoms : List ℕ) → every t atoms ≡ eqb (lead t atoms) (length atoms)
+  -- `firsts` has each member once, in order of first appearance
+  pub each-once : {K : Type 0} (k : Key K) (xs : List K) → EachOnce k xs (firsts k xs)
   -- the table of powers: 165 numbers, and the rule at each
   pub powers-many : length powers ≡ 165
   pub powers-rule : (c k : ℕ) → c ≤ 32 → k ≤ 4 → getD powers (5 * c + k) 0 ≡ c ^ k

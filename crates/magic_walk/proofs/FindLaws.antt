@@ -5,12 +5,9 @@ use mathlib.Core.Path.{_≡_, sym, subst}
 use native.Mathlib.Omega.{arith}
 use lib.ListN.{length, getD}
 use Rattle.search.specs.Machine.{entered}
-use Rattle.search.proofs.MagicPath.{split-many}
 use Rattle.store.specs.contracts.Store.{logged}
 use Rattle.store.proofs.Laws.{store-few}
 use Rattle.ground.specs.Instance.{Instance}
-use Rattle.ground.specs.Names.{instanceKey}
-use Rattle.rewriting.specs.Facts.{falseIn, magicIn, findIn}
 use Rattle.rewriting.specs.contracts.Ruled.{Ruled}
 use Rattle.magic_node.specs.contracts.Node.{HeldOpening, ClosedByRules, OpenByRules, SplitByRules, HeldSettled}
 use Rattle.magic_node.specs.declared.node.Node.{Node}
@@ -70,8 +67,7 @@ module _ (bs : List ℕ) (h : Ruled bs) (facts path : List ℕ) (depth n done fr
         site-back w path left depth q a b c d m site (node .listed .valued .count) (rule-read bs h (i .rule) (node .listed .known) .vars-few) eq ea eb ec ed wrote
 
     splitting : Splitting bs site
-    unfolding findIn
-    splitting = record { listed = node .listed; several = split-many instanceKey (falseIn bs) (magicIn bs) l (w .instance site) (w .alts site) (node .found l (fresh .seeded)) }
+    splitting = record { listed = node .listed; several = node .several }
 
     rests : RestedAtSplit bs site l (logged left-facts 18434 (markAt left depth))
     rests =

@@ -1,5 +1,6 @@
 // A place of the walk: making the next one, from the path and the next alternative at each node.
-use ground::atom::number_in;
+use ground::branch::NextBranch;
+use ground::branch::branch_after;
 use magic_node::close::start;
 use magic_node::fact::place_at;
 use magic_node::node::Node;
@@ -14,35 +15,34 @@ use walk::node::pass;
 use walk::node::values;
 ghost use mathlib.Core.Path.{_≡_};
 ghost use Prim.Native.Nat.{ℕ, _+_, _<_};
-ghost use lib.ListN.{length, getD};
 ghost use Rattle.store.specs.contracts.Store.{Store};
 ghost use Rattle.rewriting.specs.contracts.Ruled.{Ruled};
 ghost use Rattle.magic_node.specs.contracts.Index.{RulesIndexed};
 ghost use Rattle.magic_node.specs.contracts.Watch.{sitePlace};
 ghost use Rattle.magic_node.specs.contracts.Node.{HeldOpening};
+ghost use Rattle.ground.specs.contracts.Branching.{NextOf};
+ghost use Rattle.ground.specs.declared.branch.NextBranch.the-variants.{Atom};
 ghost use Rattle.walk.specs.contracts.Path.{Room, nextAt, altsAt};
 ghost use Rattle.walk.specs.contracts.Place.{Parted, Trying, Finding, Making, Beginning};
 ghost use Rattle.magic_walk.specs.contracts.Place.{ruleSite, siteAlts, Splitting, magicWalker, splitAt, HeldFresh, OwnFacts};
 
-// How many alternatives the split node at `depth` has.
-pub fn alternatives(rules: &[u8], path: &[u8], depth: usize) -> u8
+// The alternative that the split node at `depth` enters next.
+pub fn alternative(rules: &[u8], path: &[u8], depth: usize) -> NextBranch
     requires { ⌜ Ruled (now rules) ⌝ }
     requires { ⌜ Room (now path) depth × Splitting (now rules) (splitAt (now rules) (now path) depth) ⌝ }
-    ensures { λ r. ⌜ r ≡ length (siteAlts (now (rules .entry)) (splitAt (now (rules .entry)) (now (path .entry)) depth)) ⌝ }
-{
-    rules[144 + 42 * number(path, depth) + 5]
-}
-
-// The number of its next alternative.
-fn alternative(rules: &[u8], path: &[u8], depth: usize) -> usize
-    requires { ⌜ Ruled (now rules) ⌝ }
-    requires { ⌜ Room (now path) depth × Splitting (now rules) (splitAt (now rules) (now path) depth) ⌝ }
-    requires { ⌜ nextAt (now path) depth < length (siteAlts (now rules) (splitAt (now rules) (now path) depth)) ⌝ }
-    ensures { λ r. ⌜ r ≡ getD (siteAlts (now (rules .entry)) (splitAt (now (rules .entry)) (now (path .entry)) depth)) (nextAt (now (path .entry)) depth) 0 ⌝ }
+    ensures { λ r. ⌜ NextOf (siteAlts (now (rules .entry)) (splitAt (now (rules .entry)) (now (path .entry)) depth)) (nextAt (now (path .entry)) depth) r ⌝ }
 {
     let four = values(path, depth);
-    let first = 144 + 42 * number(path, depth) + 26;
-    number_in(rules, first + 4 * (next(path, depth) as usize), &four)
+    let record = 144 + 42 * number(path, depth);
+    let count = rules[record + 5] as usize;
+    branch_after(
+        rules,
+        record + 26,
+        4,
+        count,
+        &four,
+        next(path, depth) as usize,
+    )
 }
 
 // The place, in the walk's order, of the instance that it is split at.
@@ -86,24 +86,24 @@ fn find(
     }
 }
 
-// Makes the next place, entry `count` + 1 of the walk, where the limit allows one: enters the next alternative of the split node at `depth`.
+// Makes the next place, entry `count` + 1 of the walk, where the limit allows one: enters atom a, the next alternative of the split node at `depth`.
 pub fn place(
     rules: &[u8],
     index: &[u16; 1536],
     facts: &mut [u8],
     path: &mut [u8],
     depth: usize,
+    a: usize,
     count: u32,
     limit: u32,
 ) -> Found
     requires { ⌜ Ruled (now rules) ⌝ }
     requires { ⌜ RulesIndexed (now rules) (now index) ⌝ }
     requires { ⌜ Parted (magicWalker (now rules) limit) (now facts) (now path) depth ⌝ }
-    requires { ⌜ nextAt (now path) depth < length (altsAt (magicWalker (now rules) limit) (now path) depth) ⌝ }
+    requires { ⌜ NextOf (altsAt (magicWalker (now rules) limit) (now path) depth) (nextAt (now path) depth) (Atom a) ⌝ }
     requires { ⌜ Trying (magicWalker (now rules) limit) (now path) depth count × (count < limit) ⌝ }
     ensures { λ x. ⌜ Making (magicWalker (now (rules .entry)) limit) (now (facts .entry)) (now (path .entry)) depth count x (now (facts .exit)) (now (path .exit)) × OwnFacts (now (path .exit)) (depth + 1) x ⌝ }
 {
-    let a = alternative(rules, path, depth);
     let own = mark(path, depth);
     let from = split_place(rules, path, depth);
     pass(path, depth);

@@ -1,13 +1,13 @@
 // The walk: visiting a node, which calls the trying of alternatives, which calls visiting.
-use crate::place::alternatives;
+use crate::place::alternative;
 use crate::place::place;
 use crate::place::root;
+use ground::branch::NextBranch;
 use magic_node::index::build;
 use store::undo;
 use walk::answer::Found;
 use walk::answer::Walked;
 use walk::node::mark;
-use walk::node::next;
 ghost use mathlib.Core.Path.{_≡_};
 ghost use Prim.Native.Nat.{_≤_};
 ghost use lib.ListN.{length};
@@ -74,14 +74,15 @@ fn try_next(
     requires { ⌜ Trying (magicWalker (now rules) limit) (now path) depth count × (count ≤ limit) ⌝ }
     ensures { λ x. ⌜ Ended (magicWalker (now (rules .entry)) limit) (now (facts .entry)) (now (path .entry)) depth (markAt (now (path .entry)) depth) count x (now (facts .exit)) (now (path .exit)) ⌝ }
 {
-    if next(path, depth) >= alternatives(rules, path, depth) {
+    let due = alternative(rules, path, depth);
+    let NextBranch::Atom(a) = due else {
         return Walked::Shut(count);
-    }
+    };
     if count == limit {
         return Walked::Exhausted(depth);
     }
     let own = mark(path, depth);
-    let found = place(rules, index, facts, path, depth, count, limit);
+    let found = place(rules, index, facts, path, depth, a, count, limit);
     let walked = visit(
         rules,
         index,

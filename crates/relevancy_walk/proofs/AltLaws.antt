@@ -3,15 +3,18 @@ use Prim.Native.Nat.{ℕ, _+_, _*_, _<_}
 use mathlib.Core.List.{List}
 use mathlib.Core.Path.{_≡_, refl, sym, ap, _∙_}
 use native.Mathlib.Omega.{arith}
-use lib.ListN.{length, take, getD, replicate, length-replicate, length-map}
-use Rattle.lists.proofs.Tabulate.{tabulate-at}
+use lib.ListN.{length, take, getD, replicate, length-replicate}
+use Rattle.search.specs.Relevancy.{branches}
 use Rattle.problem.specs.Layout.{problemIn}
 use Rattle.problem.specs.Table.{Lawful}
-use Rattle.ground.specs.Instance.{InstanceOf, number, clauseOf, groundAtoms, groundOf}
-use Rattle.ground.specs.contracts.Placed.{Placed, Numbered}
-use Rattle.ground.proofs.AtomLaws.{slotNumber, alts-count, alts-row, alts-numbers}
+use Rattle.ground.specs.Instance.{InstanceOf, clauseOf, groundAtoms, groundOf}
+use Rattle.ground.specs.contracts.Branching.{SlotsNumbered, slotNumbers, NextOf}
+use Rattle.ground.specs.contracts.Placed.{Placed}
+use Rattle.ground.specs.declared.branch.NextBranch.{NextBranch}
+use Rattle.ground.proofs.AtomLaws.{Row, alts-row, alts-numbers}
+use Rattle.ground.proofs.Headings.{numbered-in}
 use Rattle.ground.proofs.Turns.{ClauseKnown, clause-known, numbers-take}
-use Rattle.walk.specs.contracts.Path.{numberAt, fourAt, siteAt, altsAt}
+use Rattle.walk.specs.contracts.Path.{numberAt, fourAt, nextAt, siteAt, altsAt}
 use Rattle.relevancy_walk.specs.contracts.Place.{instanceOf, relevancyWalker}
 
 module _ (tb : List ℕ) (h : Lawful tb) (path : List ℕ) (depth : ℕ) (listed : InstanceOf (problemIn tb) (instanceOf (siteAt (relevancyWalker tb) path depth))) where
@@ -36,32 +39,23 @@ module _ (tb : List ℕ) (h : Lawful tb) (path : List ℕ) (depth : ℕ) (listed
   unfolding siteAt problemIn
   site-placed = record { known = site-known; four = refl; below = listed .constants; flagged = omega (arith, h .fits .atoms-fit, length-replicate {A = ℕ} 1024 0) }
 
-  pub alts-length : length (altsAt (relevancyWalker tb) path depth) ≡ getD tb (144 + 56 * numberAt path depth + 1) 0
+  site-row : Row tb (144 + 56 * clause + 32) (getD tb (144 + 56 * clause + 1) 0) four flags
+  site-row = alts-row tb h clause four flags site-placed
+
+  alts-are : branches (slotNumbers tb (144 + 56 * clause + 32) 6 four (getD tb (144 + 56 * clause + 1) 0)) ≡ altsAt (relevancyWalker tb) path depth
   unfolding siteAt groundOf
-  alts-length =
-      length-map ((clauseOf (problemIn tb) clause) .alts) (number ((problemIn tb) .constants) ((problemIn tb) .arities) ((siteAt (relevancyWalker tb) path depth) .values))
-      ∙ sym (alts-count tb h clause site-known)
+  alts-are =
+      let q = problemIn tb in
+      let v = (clauseOf q clause) .vars in
+      let same : groundAtoms q (take v four) ((clauseOf q clause) .alts) ≡ groundAtoms q four ((clauseOf q clause) .alts) =
+      numbers-take (q .constants) (q .arities) v four ((clauseOf q clause) .alts) ((site-clause .fits) .alts-fit) in
+      ap branches (sym (same ∙ alts-numbers tb h clause four flags site-placed))
 
-  module _ (i : ℕ) (l : i < length (altsAt (relevancyWalker tb) path depth)) where
-    pub alt-numbered : Numbered tb (144 + 56 * numberAt path depth + 32 + 6 * i) (fourAt path depth)
-    alt-numbered = (alts-row tb h clause four flags site-placed) .numbered i (omega (arith, alts-length))
+  -- by what the functions of a node's record give
+  module _ (k : ℕ) (values : List ℕ) (k-is : k ≡ numberAt path depth) (values-are : values ≡ fourAt path depth) where
+    pub slots-numbered : SlotsNumbered tb (144 + 56 * k + 32) 6 (getD tb (144 + 56 * k + 1) 0) values
+    slots-numbered = rw (k-is, values-are) (record { few = site-row .few; each = λ i l. numbered-in tb h (144 + 56 * clause + 32 + 6 * i) four (site-row .numbered i l) })
 
-    pub alt-number : slotNumber tb (144 + 56 * numberAt path depth + 32) (fourAt path depth) i ≡ getD (altsAt (relevancyWalker tb) path depth) i 0
-    unfolding siteAt groundOf
-    alt-number =
-        let q = problemIn tb in
-        let v = (clauseOf q clause) .vars in
-        let fit = (site-clause .fits) .alts-fit in
-        let same : groundAtoms q (take v four) ((clauseOf q clause) .alts) ≡ groundAtoms q four ((clauseOf q clause) .alts) =
-        numbers-take (q .constants) (q .arities) v four ((clauseOf q clause) .alts) fit in
-        sym
-        (ap (λ (xs : List ℕ). getD xs i 0) (same ∙ alts-numbers tb h clause four flags site-placed)
-        ∙ tabulate-at (slotNumber tb (144 + 56 * clause + 32) four) 0 (getD tb (144 + 56 * clause + 1) 0) i (omega (arith, alts-length)))
-
-    -- both by what the functions of a node's record give
-    pub alt-numbered-by : (k j : ℕ) (values : List ℕ) → k ≡ numberAt path depth → j ≡ i → values ≡ fourAt path depth → Numbered tb (144 + 56 * k + 32 + 6 * j) values
-    alt-numbered-by k j values ek ej ev = rw (ek, ej, ev) alt-numbered
-
-    pub alt-number-by : (k j : ℕ) (values : List ℕ) → k ≡ numberAt path depth → j ≡ i → values ≡ fourAt path depth
-        → slotNumber tb (144 + 56 * k + 32) values j ≡ getD (altsAt (relevancyWalker tb) path depth) i 0
-    alt-number-by k j values ek ej ev = rw (ek, ej, ev) alt-number
+    pub slots-next : (n : ℕ) → n ≡ nextAt path depth → (r : NextBranch) → NextOf (branches (slotNumbers tb (144 + 56 * k + 32) 6 values (getD tb (144 + 56 * k + 1) 0))) n r
+        → NextOf (altsAt (relevancyWalker tb) path depth) (nextAt path depth) r
+    slots-next n n-is r next = rw (← alts-are, ← n-is, ← k-is, ← values-are) next

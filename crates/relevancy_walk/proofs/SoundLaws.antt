@@ -7,6 +7,7 @@ use lib.Dec.{T}
 use lib.ListN.{length, length-map}
 use Rattle.lists.specs.Key.{natKey}
 use Rattle.lists.specs.Member.{In}
+use Rattle.lists.proofs.Firsts.{firsts-length}
 use Rattle.lists.proofs.Member.{all-map}
 use Rattle.search.specs.Relevancy.{trueSet, findR}
 use Rattle.search.proofs.Relevancy.{true-entered}
@@ -26,7 +27,12 @@ site-four : (tb : List ℕ) → Lawful tb → (s : Site) → InstanceOf (problem
 unfolding groundOf
 site-four tb h s listed =
     let q = problemIn tb in
-    omega (arith, length-map ((clauseOf q (s .number)) .alts) (number (q .constants) (q .arities) (s .values)), (clause-fits tb h (s .number) (listed .known)) .few-alts)
+    omega (
+      arith,
+      firsts-length natKey (groundOf q .alts (instanceOf s)),
+      length-map ((clauseOf q (s .number)) .alts) (number (q .constants) (q .arities) (s .values)),
+      (clause-fits tb h (s .number) (listed .known)) .few-alts,
+    )
 
 pub sound : (tb : List ℕ) → Lawful tb → Sound (relevancyWalker tb)
 sound tb h =

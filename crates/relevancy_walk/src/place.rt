@@ -1,5 +1,6 @@
 // A place of the walk: making the next one, from the path and the next alternative at each node.
-use ground::atom::number_at;
+use ground::branch::NextBranch;
+use ground::branch::branch_after;
 use relevancy_node::close::start;
 use relevancy_node::node::Node;
 use relevancy_node::node::settle;
@@ -12,35 +13,33 @@ use walk::node::number;
 use walk::node::pass;
 use walk::node::values;
 ghost use mathlib.Core.Bool.{true, false};
-ghost use mathlib.Core.Path.{_≡_};
 ghost use Prim.Native.Nat.{_<_};
-ghost use lib.ListN.{length, getD};
 ghost use Rattle.store.specs.contracts.Store.{Store};
 ghost use Rattle.problem.specs.Table.{Lawful};
 ghost use Rattle.relevancy_node.specs.contracts.Index.{ClausesIndexed};
+ghost use Rattle.ground.specs.contracts.Branching.{NextOf};
+ghost use Rattle.ground.specs.declared.branch.NextBranch.the-variants.{Atom};
 ghost use Rattle.walk.specs.contracts.Path.{Room, nextAt, siteAt, altsAt};
 ghost use Rattle.walk.specs.contracts.Place.{Parted, Trying, Finding, Making, Beginning};
 ghost use Rattle.relevancy_walk.specs.contracts.Place.{relevancyWalker, TrueFresh};
 
-// How many alternatives the split node at `depth` has.
-pub fn alternatives(table: &[u8], path: &[u8], depth: usize) -> u8
+// The alternative that the split node at `depth` enters next.
+pub fn alternative(table: &[u8], path: &[u8], depth: usize) -> NextBranch
     requires { ⌜ Lawful (now table) ⌝ }
     requires { ⌜ Room (now path) depth × (relevancyWalker (now table)) .Named (siteAt (relevancyWalker (now table)) (now path) depth) ⌝ }
-    ensures { λ r. ⌜ r ≡ length (altsAt (relevancyWalker (now (table .entry))) (now (path .entry)) depth) ⌝ }
-{
-    table[144 + 56 * number(path, depth) + 1]
-}
-
-// The number of its next alternative.
-fn alternative(table: &[u8], path: &[u8], depth: usize) -> usize
-    requires { ⌜ Lawful (now table) ⌝ }
-    requires { ⌜ Room (now path) depth × (relevancyWalker (now table)) .Named (siteAt (relevancyWalker (now table)) (now path) depth) ⌝ }
-    requires { ⌜ nextAt (now path) depth < length (altsAt (relevancyWalker (now table)) (now path) depth) ⌝ }
-    ensures { λ r. ⌜ r ≡ getD (altsAt (relevancyWalker (now (table .entry))) (now (path .entry)) depth) (nextAt (now (path .entry)) depth) 0 ⌝ }
+    ensures { λ r. ⌜ NextOf (altsAt (relevancyWalker (now (table .entry))) (now (path .entry)) depth) (nextAt (now (path .entry)) depth) r ⌝ }
 {
     let four = values(path, depth);
-    let first = 144 + 56 * number(path, depth) + 32;
-    number_at(table, first + 6 * (next(path, depth) as usize), &four)
+    let record = 144 + 56 * number(path, depth);
+    let count = table[record + 1] as usize;
+    branch_after(
+        table,
+        record + 32,
+        6,
+        count,
+        &four,
+        next(path, depth) as usize,
+    )
 }
 
 // Finds the place at `depth`, whose truths begin with n facts, of which `done` are worked off.
@@ -74,7 +73,7 @@ fn find(
     }
 }
 
-// Makes the next place, entry `count` + 1 of the walk, where the limit allows one: enters the next alternative of the split node at `depth`.
+// Makes the next place, entry `count` + 1 of the walk, where the limit allows one: enters atom a, the next alternative of the split node at `depth`.
 pub fn place(
     table: &[u8],
     conds: &[u16; 384],
@@ -82,16 +81,16 @@ pub fn place(
     facts: &mut [u8],
     path: &mut [u8],
     depth: usize,
+    a: usize,
     count: u32,
 ) -> Found
     requires { ⌜ Lawful (now table) ⌝ }
     requires { ⌜ ClausesIndexed (now table) false (now conds) × ClausesIndexed (now table) true (now alts) ⌝ }
     requires { ⌜ Parted (relevancyWalker (now table)) (now facts) (now path) depth ⌝ }
-    requires { ⌜ nextAt (now path) depth < length (altsAt (relevancyWalker (now table)) (now path) depth) ⌝ }
+    requires { ⌜ NextOf (altsAt (relevancyWalker (now table)) (now path) depth) (nextAt (now path) depth) (Atom a) ⌝ }
     requires { ⌜ Trying (relevancyWalker (now table)) (now path) depth count × (count < (relevancyWalker (now table)) .limit) ⌝ }
     ensures { λ x. ⌜ Making (relevancyWalker (now (table .entry))) (now (facts .entry)) (now (path .entry)) depth count x (now (facts .exit)) (now (path .exit)) ⌝ }
 {
-    let a = alternative(table, path, depth);
     let own = mark(path, depth);
     pass(path, depth);
     let n = add(facts, 2050, own, a);

@@ -1,14 +1,14 @@
 // The walk: visiting a node, which calls the trying of alternatives, which calls visiting.
-use crate::place::alternatives;
+use crate::place::alternative;
 use crate::place::place;
 use crate::place::root;
+use ground::branch::NextBranch;
 use ground::verdict::limit_in;
 use relevancy_node::index::build;
 use store::undo;
 use walk::answer::Found;
 use walk::answer::Walked;
 use walk::node::mark;
-use walk::node::next;
 ghost use mathlib.Core.Bool.{true, false};
 ghost use mathlib.Core.Path.{_≡_};
 ghost use Prim.Native.Nat.{_≤_};
@@ -80,14 +80,15 @@ fn try_next(
     requires { ⌜ Trying (relevancyWalker (now table)) (now path) depth count × (count ≤ limit) × (limit ≡ (relevancyWalker (now table)) .limit) ⌝ }
     ensures { λ x. ⌜ Ended (relevancyWalker (now (table .entry))) (now (facts .entry)) (now (path .entry)) depth (markAt (now (path .entry)) depth) count x (now (facts .exit)) (now (path .exit)) ⌝ }
 {
-    if next(path, depth) >= alternatives(table, path, depth) {
+    let due = alternative(table, path, depth);
+    let NextBranch::Atom(a) = due else {
         return Walked::Shut(count);
-    }
+    };
     if count == limit {
         return Walked::Exhausted(depth);
     }
     let own = mark(path, depth);
-    let found = place(table, conds, alts, facts, path, depth, count);
+    let found = place(table, conds, alts, facts, path, depth, a, count);
     let walked = visit(
         table,
         conds,

@@ -13,6 +13,7 @@ use Rattle.lists.specs.Key.{natKey}
 use Rattle.lists.specs.Member.{All, Any, every, first, In}
 use Rattle.lists.proofs.Test.{decided, not-not}
 use Rattle.lists.specs.Test.{and-T}
+use Rattle.lists.proofs.Firsts.{firsts-any}
 use Rattle.lists.proofs.Member.{all-map, all-zip, any-zip, every-all, all-every, some-fails, first-none}
 use Rattle.lists.proofs.Tabulate.{tabulate-at, tabulate-length}
 use Rattle.search.specs.Ground.{Ground, Proper, Model, Marked, closed, opened, split, goals, orFalse, disjunctive}
@@ -71,7 +72,7 @@ module _ {I : Type 0} (p : Ground I) (proper : Proper p) (M : ℕ → Type 0) (m
   split-continues i ds e =
       let m : All M (p .conds i) → ∥ Any M (p .alts i) ∥₁ = at-split p l (λ j. All M (p .conds j) → ∥ Any M (p .alts j) ∥₁) (all-map (λ j. All M (p .conds j) → ∥ Any M (p .alts j) ∥₁) (λ j. Splits p (isTrue p l) (isRelevant p l) j → All M (p .conds j) → ∥ Any M (p .alts j) ∥₁) (λ j f q. f) (p .instances) model) i ds e in
       let cs : ∥ All M (p .conds i) ∥₁ = merely M (p .conds i) (all-map (λ a. T (isTrue p l a)) (λ a. ∥ M a ∥₁) (λ a t. (true-kept a t) .0) (p .conds i) ((split-splits p l i ds e) .conds-true)) in
-      subst (λ (xs : List ℕ). ∥ Any M xs ∥₁) (sym ((findR-split p l i ds e) .1)) (∥∥₁-elim cs ∥∥₁-prop m)
+      subst (λ (xs : List ℕ). ∥ Any M xs ∥₁) (sym ((findR-split p l i ds e) .1)) (∥∥₁-elim (∥∥₁-elim cs ∥∥₁-prop m) ∥∥₁-prop (λ a. ∣ firsts-any natKey M (p .alts i) a ∣₁))
 
 -- what is asked and relevant, and in the model given, is true; so all conditions are
 chosen-true : (t r : ℕ → Bool) (cs : List ℕ) → All (λ a. T (t a || not (r a))) cs → All (λ a. T (r a)) (asked t cs) → All (λ a. T (t a)) cs

@@ -7,6 +7,7 @@ use native.Mathlib.Nat.{zero-add}
 use lib.ListN.{length}
 use Rattle.lists.specs.Key.{Key, natKey}
 use Rattle.lists.specs.Member.{has}
+use Rattle.lists.proofs.Firsts.{each-once}
 use Rattle.lists.proofs.Member.{all-map, all-hold}
 use Rattle.search.specs.Closure.{Rule}
 use Rattle.search.specs.Ground.{Ground, Found}
@@ -80,6 +81,7 @@ theorems =
       magic-sound = magic-sound;
       relevancy-chooses = relevancy-chooses;
       magic-chooses = magic-chooses;
+      entered-once = each-once natKey;
       model-given = model-given;
       one-trail = one-trail;
       by-holding = by-holding;

@@ -7,6 +7,7 @@ use lib.Dec.{T, T-not}
 use Rattle.lists.specs.Key.{natKey}
 use Rattle.lists.specs.Member.{All, every, In}
 use Rattle.lists.specs.Test.{T-left, T-right}
+use Rattle.lists.proofs.Firsts.{firsts-all}
 use Rattle.lists.proofs.Member.{all-map, all-zip, every-all, first-some, has-all}
 use Rattle.search.specs.Ground.{Ground, Proper, split, disjunctive}
 use Rattle.search.specs.Relevancy.{trueSet, relevantSet, isTrue, isRelevant, splittable, findR}
@@ -68,7 +69,8 @@ module _ {I : Type 0} (p : Ground I) where
       subst
       (All (Fresh p l))
       (sym ((findR-split p l i ds e) .1))
-      (all-zip (λ a. a < p .atoms) (λ a. T (not (isTrue p l a))) (Fresh p l) (λ a b u. (b, untrue-fresh l a u)) (p .alts i) below untrue)
+      (firsts-all natKey (Fresh p l) (p .alts i)
+      (all-zip (λ a. a < p .atoms) (λ a. T (not (isTrue p l a))) (Fresh p l) (λ a b u. (b, untrue-fresh l a u)) (p .alts i) below untrue))
 
   -- every entered atom is relevant
   abbrev pub AllRelevant : List ℕ → Type 0
@@ -85,9 +87,10 @@ module _ {I : Type 0} (p : Ground I) where
           subst
           (All (λ a. AllRelevant (a ∷ l)))
           (sym ((findR-split p l i ds e) .1))
+          (firsts-all natKey (λ a. AllRelevant (a ∷ l)) (p .alts i)
           (all-map
           (λ a. T (isRelevant p l a))
           (λ a. AllRelevant (a ∷ l))
           (λ a r. (deeper l a a r, all-map (In natKey (relevantSet p (isTrue p l))) (In natKey (relevantSet p (isTrue p (a ∷ l)))) (deeper l a) l s))
           (p .alts i)
-          ((split-splits l i ds e) .alts-relevant))
+          ((split-splits l i ds e) .alts-relevant)))

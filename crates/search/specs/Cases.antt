@@ -48,8 +48,20 @@ cases =
     }
     -- No condition and no alternative: skipping "false" leaves the root open
     ∷ record { atoms = 1; instances = ([], []) ∷ []; limit = 100; expected = Refuted 0 }
-    -- 0 or 0. Not 0. Spent after the first entry
-    ∷ record { atoms = 1; instances = ([], 0 ∷ 0 ∷ []) ∷ (0 ∷ [], []) ∷ []; limit = 1; expected = Exhausted 1 }
+    -- 0 or 0. Not 0. Entering 0 a second time, or only counting it, is spent
+    ∷ record { atoms = 1; instances = ([], 0 ∷ 0 ∷ []) ∷ (0 ∷ [], []) ∷ []; limit = 1; expected = Refuted 1 }
+    -- 0 or 1 or 0. Not 0. Not 1. A repeat behind another alternative is passed over too. Under a limit of 1 it is spent after the first entry
+    ∷ record { atoms = 2; instances = ([], 0 ∷ 1 ∷ 0 ∷ []) ∷ (0 ∷ [], []) ∷ (1 ∷ [], []) ∷ []; limit = 100; expected = Refuted 2 }
+    ∷ record { atoms = 2; instances = ([], 0 ∷ 1 ∷ 0 ∷ []) ∷ (0 ∷ [], []) ∷ (1 ∷ [], []) ∷ []; limit = 1; expected = Exhausted 1 }
+    -- 0 or 1 or 1. Not 0. Not 1. Comparing with the first alternative alone enters 1 again
+    ∷ record { atoms = 2; instances = ([], 0 ∷ 1 ∷ 1 ∷ []) ∷ (0 ∷ [], []) ∷ (1 ∷ [], []) ∷ []; limit = 100; expected = Refuted 2 }
+    -- 0 or 1 or 0. Not 0 and 2. Not 1. Passing over the one that is equal to a later one enters 1 first
+    ∷ record {
+      atoms = 3;
+      instances = ([], 0 ∷ 1 ∷ 0 ∷ []) ∷ (0 ∷ 2 ∷ [], []) ∷ (1 ∷ [], []) ∷ [];
+      limit = 100;
+      expected = Satisfied 1 (true ∷ false ∷ false ∷ []);
+    }
     -- 0 or 1. 1 or 2. Not 0. Not 1. Not 2 and 3. Splitting the last instance that can be split makes four entries
     ∷ record {
       atoms = 4;

@@ -6,10 +6,10 @@ use mathlib.Core.Path.{_≡_}
 use lib.Dec.{eqb, ltb}
 use lib.ListN.{length, take}
 use Rattle.lists.specs.Key.{Key, natKey}
-use Rattle.lists.specs.Member.{All, every, has, In, Distinct, lead}
+use Rattle.lists.specs.Member.{All, every, has, In, Distinct, EachOnce, lead}
 use Rattle.search.specs.Closure.{Rule, Closed, broken, least}
 use Rattle.search.specs.Ground.{Ground, Proper, Model, Marked, Found, disjunctive}
-use Rattle.search.specs.Relevancy.{asked, isTrue, isRelevant, splittable, modelBits, findR}
+use Rattle.search.specs.Relevancy.{asked, isTrue, isRelevant, splittable, branches, modelBits, findR}
 use Rattle.search.specs.Magic.{tru, rel, MagicRule, rewriting, holds, findM}
 use Rattle.search.specs.Choice.{RelevancyChoice, MagicChoice}
 use Rattle.search.specs.Sound.{SoundFind}
@@ -91,6 +91,8 @@ pub record Theorems : Type 1 where
   -- each closes, splits and leaves open as document 01 says
   pub relevancy-chooses : {I : Type 0} (p : Ground I) (l : List ℕ) → RelevancyChoice p l
   pub magic-chooses : {I : Type 0} (k : Key I) (n : ℕ) (rs : List (MagicRule I)) (l : List ℕ) → MagicChoice k n rs l
+  -- what is entered at a split, whatever its alternatives: each of them once, in order of first appearance
+  pub entered-once : (ds : List ℕ) → EachOnce natKey ds (branches ds)
   -- the model that the relevancy walk gives is that of its open place; by `one-trail` so is the magic walk's
   pub model-given : {I : Type 0} (p : Ground I) (limit n : ℕ) (bits : List Bool) → outcome (findR p) limit ≡ Satisfied n bits → bits ≡ modelAt p (lastPlace (findR p) limit)
   pub one-trail : {I : Type 0} (k : Key I) (p : Ground I) (limit : ℕ) → OneTrail k p limit

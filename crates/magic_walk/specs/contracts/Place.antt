@@ -31,7 +31,7 @@ siteAlts bs s = branches (ruleHeads bs (s .number) (s .values))
 -- an instance of a rule of the buffer that gives two alternatives or more
 pub record Splitting (bs : List ℕ) (s : Site) : Type 0 where
   pub listed : ListedSite bs (ruleSite s)
-  pub several : T (disjunctive (siteAlts bs s))
+  pub several : T (disjunctive (ruleHeads bs (s .number) (s .values)))
 
 -- the facts of a split node: what follows from the entered atoms l, worked off, with none of the alternatives; no instance before the split can be split
 pub record RestedAtSplit (bs : List ℕ) (s : Site) (l facts : List ℕ) : Type 0 where

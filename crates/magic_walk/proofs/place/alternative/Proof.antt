@@ -1,10 +1,9 @@
 -- `magic_walk::place::alternative` meets its contract.
 use Prim.Native.Nat.{_<_}
-use mathlib.Core.Path.{_∙_}
 use native.Mathlib.Omega.{arith}
 use borrow.Author.Needs.{needs}
 use Rattle.magic_node.proofs.RuledLaws.{ruled-headed}
-use Rattle.magic_walk.proofs.AltLaws.{read-few, read-number, read-numbered}
+use Rattle.magic_walk.proofs.AltLaws.{read-few, read-slots, read-next}
 use Rattle.magic_walk.proofs.place.alternative.Statement.{statement}
 use Rattle.magic_walk.proofs.place.alternative.Tie as tie
 
@@ -15,7 +14,7 @@ begun c = c .before .before .before .before
 few : (c : tie.After-number) → c .number .result < 320
 few c =
     let s = begun c in
-    read-few (s .args .rules .now) (s .pre .0) (s .args .path .now) (s .args .depth) (s .pre .1 .0 .1) (c .number .result) (c .number .ensures) (c .before .values .result) (c .before .values .ensures)
+    read-few (s .args .rules .now) (s .pre .0) (s .args .path .now) (s .args .depth) (s .pre .1 .1) (c .number .result) (c .number .ensures) (c .before .values .result) (c .before .values .ensures)
 
 pub alternative-spec : {M : Type 1} → statement M
 alternative-spec =
@@ -23,26 +22,28 @@ alternative-spec =
     (tie.spec
     (λ c κs. search needs)  -- values-requires
     (λ c κs. search needs)  -- number-requires
-    (λ c. omega (arith, few c))  -- mul-first
-    (λ c. omega (arith, few c))  -- add-first
-    (λ c. omega (arith, few c))  -- add-first-2
+    (λ c. omega (arith, few c))  -- mul-record
+    (λ c. omega (arith, few c))  -- add-record
+    (λ c. omega (arith, few c))  -- add-count
+    (λ c. omega (arith, few (c .before), (c .before .before .before .before .before) .pre .0 .size))  -- shared-slice-read-count
+    (λ c.
+    let k = c .before in
+    let s = begun k in
+    omega (arith, (read-slots (s .args .rules .now) (s .pre .0) (s .args .path .now) (s .args .depth) (s .pre .1 .1) (k .number .result) (k .number .ensures) (k .before .values .result) (k .before .values .ensures)) .few))  -- cast-count
+    (λ c. omega (arith, few (c .before)))  -- add-branch-after
+    (λ c. search needs)  -- slice-aggregate-branch-after
     (λ c κs. search needs)  -- next-requires
-    (λ c. search needs)  -- cast-number-in
-    (λ c. search needs)  -- mul-number-in
-    (λ c. omega (arith, few (c .before)))  -- add-number-in
-    (λ c. search needs)  -- slice-aggregate-number-in
+    (λ c. search needs)  -- cast-branch-after
     (λ c κs.
-    let j = c .before in
-    let k = j .before in
+    let k = c .before .before .before in
     let s = begun k in (
       ruled-headed (s .args .rules .now) (s .pre .0),
-      read-numbered (s .args .rules .now) (s .pre .0) (s .args .path .now) (s .args .depth) (s .pre .1 .0 .1) (k .number .result) (k .number .ensures) (k .before .values .result) (k .before .values .ensures)
-          (j .next .result) (j .next .ensures) (s .pre .1 .1),
-    ))  -- number-in-requires
+      read-slots (s .args .rules .now) (s .pre .0) (s .args .path .now) (s .args .depth) (s .pre .1 .1) (k .number .result) (k .number .ensures) (k .before .values .result) (k .before .values .ensures),
+    ))  -- branch-after-requires
     (λ c.
-    let j = c .before .before in
-    let k = j .before in
+    let k = c .before .before .before .before in
     let s = begun k in
-    c .number-in .ensures
-    ∙ read-number (s .args .rules .now) (s .pre .0) (s .args .path .now) (s .args .depth) (s .pre .1 .0 .1) (k .number .result) (k .number .ensures) (k .before .values .result) (k .before .values .ensures)
-    (j .next .result) (j .next .ensures) (s .pre .1 .1)))  -- returns
+    let n = c .before .next in
+    let b = c .branch-after in
+    read-next (s .args .rules .now) (s .pre .0) (s .args .path .now) (s .args .depth) (s .pre .1 .1) (k .number .result) (k .number .ensures) (k .before .values .result) (k .before .values .ensures)
+    (n .result) (n .ensures) (b .result) (b .ensures)))  -- returns

@@ -2,11 +2,13 @@
 use Prim.Native.Nat.{ℕ, _+_, _<_}
 use mathlib.Core.Path.{_≡_, refl, sym, subst, _∙_}
 use native.Mathlib.Omega.{arith}
-use lib.ListN.{length}
 use borrow.Author.Needs.{needs}
 use borrow.Fn.Kinds.{In}
 use borrow.Fn.PlainCycle.{Measures, is, falls, and}
 use Rattle.store.specs.contracts.Store.{Store, Undone}
+use Rattle.ground.specs.contracts.Branching.{NextOf}
+use Rattle.ground.specs.declared.branch.NextBranch.the-variants.{Atom}
+use Rattle.ground.proofs.BranchLaws.{next-atom, next-nothing}
 use Rattle.walk.specs.contracts.Path.{nextAt, markAt, altsAt}
 use Rattle.walk.specs.contracts.Place.{Reached}
 use Rattle.walk.specs.contracts.Walk.{triesLeft, visitsLeft, AllShut}
@@ -16,7 +18,7 @@ use Rattle.walk.proofs.PlaceLaws.{split-parted, reached-as, visiting-as}
 use Rattle.walk.proofs.WalkLaws.{found-open, visit-open, visit-closed, split-tries, split-shut, passes, tried-none, tried-due, visit-falls, tries-fall, left-as, ended-as}
 use Rattle.walk.proofs.TriedLaws.{TriedOn, tried-on, own-undone}
 use Rattle.magic_walk.specs.contracts.Place.{magicWalker, OwnFacts}
-use Rattle.magic_walk.proofs.AltLaws.{split-listed, split-alts}
+use Rattle.magic_walk.proofs.AltLaws.{split-listed, split-next}
 use Rattle.magic_walk.proofs.SoundLaws.{sound}
 use Rattle.magic_walk.proofs.trail.try_next.Reads as try-next
 use Rattle.magic_walk.proofs.trail.try_next.Kinds as try-next-kinds
@@ -24,9 +26,8 @@ use Rattle.magic_walk.proofs.trail.+try_next+visit.Lts-try_next as try-
 use Rattle.magic_walk.proofs.trail.visit.Reads as visit
 use Rattle.magic_walk.proofs.trail.visit.Kinds as visit-kinds
 use Rattle.magic_walk.proofs.trail.+try_next+visit.Lts-visit as visit-lts
-use Rattle.magic_walk.proofs.place.alternatives.Reads as alternatives-reads
+use Rattle.magic_walk.proofs.place.alternative.Reads as alternative-reads
 use Rattle.magic_walk.proofs.place.place.Reads as place-reads
-use Rattle.walk.proofs.node.next.Reads as next-reads
 use Rattle.walk.proofs.node.mark.Reads as mark-reads
 use Rattle.store.proofs.undo.Reads as undo-reads
 use Rattle.magic_walk.proofs.trail.+try_next+visit.{statement}
@@ -53,7 +54,7 @@ module _ (t : ℕ) where
   visit-below = and 4 visit-kinds.ps (falls 4 visit-kinds.ps _<_ μ-visit t) visit.Pre
 
   abbrev trying : try-next-lts.Claims
-  trying = (next-reads.Asked, next-reads.Learnt, alternatives-reads.Asked, alternatives-reads.Learnt, mark-reads.Asked, mark-reads.Learnt, place-reads.Asked, place-reads.Learnt, visit-below, visit.Post, try-next-below, try-next.Post)
+  trying = (alternative-reads.Asked, alternative-reads.Learnt, mark-reads.Asked, mark-reads.Learnt, place-reads.Asked, place-reads.Learnt, visit-below, visit.Post, try-next-below, try-next.Post)
 
   abbrev visiting : visit-lts.Claims
   visiting = (try-next-below, try-next.Post, undo-reads.Asked, undo-reads.Learnt)
@@ -61,12 +62,14 @@ module _ (t : ℕ) where
   -- ---- trying
 
   -- an alternative is left
-  some-left : (e : try-next-lts.Else1 trying try-next-at try-next.Post) →
-      let s = e .before .before .before .before .before .before .before .before in
-      nextAt (s .args .path .now) (s .args .depth) < length (altsAt (magicWalker (s .args .rules .now) (s .args .limit)) (s .args .path .now) (s .args .depth))
-  some-left e =
-      let s = e .before .before .before .before .before .before .before .before in
-      omega (arith, split-alts (s .args .rules .now) (s .args .limit) (s .args .path .now) (s .args .depth), (e .before .before .before) .next .ensures, e .before .alternatives .ensures, e .if1 .left)
+  due : (d : try-next-lts.After-due trying try-next-at try-next.Post) →
+      let s = d .before .before .before .before .before .before .before in
+      NextOf (altsAt (magicWalker (s .args .rules .now) (s .args .limit)) (s .args .path .now) (s .args .depth)) (nextAt (s .args .path .now) (s .args .depth)) (Atom (d .due .given .0 .0))
+  due d =
+      let s = d .before .before .before .before .before .before .before in
+      let a = d .before .before .alternative in
+      next-atom (altsAt (magicWalker (s .args .rules .now) (s .args .limit)) (s .args .path .now) (s .args .depth)) (nextAt (s .args .path .now) (s .args .depth)) (a .result) (d .due .given .0 .0) (d .due .given .1)
+      (split-next (s .args .rules .now) (s .args .limit) (s .args .path .now) (s .args .depth) (a .result) (a .ensures))
 
   -- it has been entered, and is shut
   on : (k : try-next-lts.After-walked trying try-next-at try-next.Post) →
@@ -79,7 +82,7 @@ module _ (t : ℕ) where
       let m = k .before .before .before .before .before .before .before .before .before .before .before .before .before .before .before .before .mark in
       let v = k .before .before .before .before .before .before .visit in
       let x = s .pre .1 .1 .1 in
-      tried-on (magicWalker (s .args .rules .now) (s .args .limit)) (s .args .facts .now) (s .args .path .now) (s .args .depth) (s .args .count) (x .0) (x .1 .1) (some-left (k .before .before .before .before .before .before .before .before .before .before .before .before .before .before .before .before .before .before .before)) (p .result) (p .last .1 .1 .0) (p .last .1 .1 .1 .0) (p .ensures .0) (m .result) (m .ensures)
+      tried-on (magicWalker (s .args .rules .now) (s .args .limit)) (s .args .facts .now) (s .args .path .now) (s .args .depth) (s .args .count) (x .0) (x .1 .1) (due (k .before .before .before .before .before .before .before .before .before .before .before .before .before .before .before .before .before .before .before .before) .0) (p .result) (p .last .1 .1 .0) (p .last .1 .1 .1 .0) (p .ensures .0) (m .result) (m .ensures)
       (v .result) (k .walked .given .0 .0) (k .walked .given .1) (v .last .1 .1 .0) (v .last .1 .1 .1 .0) (v .kept .1 .1 .1 .0) (v .ensures)
 
   -- ---- visiting a split node
@@ -110,29 +113,32 @@ pub +try-next+visit-spec : {M : Type 1} → statement M
     close μ-try-next μ-visit
     (λ t.
     try-next-lts.spec (trying t) (try-next-at t) try-next.Post
-    (λ c κs. (c .before .before .before .before) .pre .1 .1 .1 .0 .room)  -- next-requires
     (λ c κs.
-    let s = c .before .before .before .before .before .before in
+    let s = c .before .before .before .before in
     let x = s .pre .1 .1 .1 .0 in
-    (s .pre .1 .0, (x .room, split-listed (s .args .rules .now) (s .args .limit) (s .args .path .now) (s .args .depth) (x .at-split .listed))))  -- alternatives-requires
+    (s .pre .1 .0, (x .room, split-listed (s .args .rules .now) (s .args .limit) (s .args .path .now) (s .args .depth) (x .at-split .listed))))  -- alternative-requires
+    (λ c. search needs)  -- enum-known-due
+    (λ c. search needs)  -- enum-told
     (λ c. search needs)  -- same-length
     (λ c.
-    let s = c .before .before .before .before .before .before .before .before in
+    let s = c .before .before .before .before .before .before .before in
+    let m = c .before in
     let x = s .pre .1 .1 .1 in
     tried-none (magicWalker (s .args .rules .now) (s .args .limit)) (s .args .facts .now) (s .args .path .now) (s .args .depth) (s .args .count) (x .0) (x .1 .1)
-    (omega (arith, split-alts (s .args .rules .now) (s .args .limit) (s .args .path .now) (s .args .depth), (c .before .before .before) .next .ensures, c .before .alternatives .ensures, c .if1 .taken)) (x .1 .0))  -- returns
+    (next-nothing (altsAt (magicWalker (s .args .rules .now) (s .args .limit)) (s .args .path .now) (s .args .depth)) (nextAt (s .args .path .now) (s .args .depth)) (m .before .alternative .result) (m .match .keys2)
+    (split-next (s .args .rules .now) (s .args .limit) (s .args .path .now) (s .args .depth) (m .before .alternative .result) (m .before .alternative .ensures))) (x .1 .0))  -- returns
     (λ c. search needs)  -- same-length-2
     (λ c.
     let s = c .before .before .before .before .before .before .before .before .before in
     let x = s .pre .1 .1 .1 in
-    tried-due (magicWalker (s .args .rules .now) (s .args .limit)) (s .args .facts .now) (s .args .path .now) (s .args .depth) (s .args .count) (x .0) (x .1 .1) (some-left t (c .before)) (omega (arith, x .1 .1, c .if2 .taken)) (x .1 .0))  -- returns-2
+    tried-due (magicWalker (s .args .rules .now) (s .args .limit)) (s .args .facts .now) (s .args .path .now) (s .args .depth) (s .args .count) (x .0) (x .1 .1) (due t (c .before .before) .0) (omega (arith, x .1 .1, c .if1 .taken)) (x .1 .0))  -- returns-2
     (λ c κs. (c .before .before .before .before .before .before .before .before .before .before) .pre .1 .1 .1 .0 .room)  -- mark-requires
     (λ c κs.
     let s = c .before .before .before .before .before .before .before .before .before .before .before .before .before in
     let x = s .pre .1 .1 .1 in
-    (s .pre .1 .0, (s .pre .1 .1 .0, (x .0, (some-left t (c .before .before .before .before .before), (x .1 .0, omega (arith, x .1 .1, (c .before .before .before .before) .if2 .left)))))))  -- place-requires
+    (s .pre .1 .0, (s .pre .1 .1 .0, (x .0, (due t (c .before .before .before .before .before .before), (x .1 .0, omega (arith, x .1 .1, (c .before .before .before .before) .if1 .left)))))))  -- place-requires
     (λ c. omega (arith, (c .before .before .before .before .before .before .before .before .before .before .before .before .before .before .before .before .before .before .before .before) .pre .1 .1 .1 .0 .room .deep))  -- add-visit
-    (λ c. let s = c .before .before .before .before .before .before .before .before .before .before .before .before .before .before .before .before .before .before .before .before in omega (arith, s .pre .1 .1 .1 .1 .1, (c .before .before .before .before .before .before .before .before .before .before .before) .if2 .left, s .fits .limit))  -- add-visit-2
+    (λ c. let s = c .before .before .before .before .before .before .before .before .before .before .before .before .before .before .before .before .before .before .before .before in omega (arith, s .pre .1 .1 .1 .1 .1, (c .before .before .before .before .before .before .before .before .before .before .before) .if1 .left, s .fits .limit))  -- add-visit-2
     (λ c κs.
     let s = c .before .before .before .before .before .before .before .before .before .before .before .before .before .before .before .before .before .before .before .before in
     let w = (magicWalker (s .args .rules .now) (s .args .limit)) in
@@ -140,14 +146,14 @@ pub +try-next+visit-spec : {M : Type 1} → statement M
     let p = c .before .before .before .before .before .before .place in
     let from : triesLeft w (s .args .facts .now) (s .args .path .now) (s .args .depth) ≡ t = s .pre .0 in (
       subst (λ (m : ℕ). visitsLeft w (p .last .1 .1 .0) (p .last .1 .1 .1 .0) (s .args .depth + 1) (p .result) < m) from
-          (visit-falls w (sound (s .args .rules .now) (s .pre .1 .0) (s .args .limit)) (s .args .facts .now) (s .args .path .now) (s .args .depth) (s .args .count) (x .0) (some-left t (c .before .before .before .before .before .before .before .before .before .before .before .before)) (p .result) (p .last .1 .1 .0) (p .last .1 .1 .1 .0) (p .ensures .0)),
+          (visit-falls w (sound (s .args .rules .now) (s .pre .1 .0) (s .args .limit)) (s .args .facts .now) (s .args .path .now) (s .args .depth) (s .args .count) (x .0) (due t (c .before .before .before .before .before .before .before .before .before .before .before .before .before) .0) (p .result) (p .last .1 .1 .0) (p .last .1 .1 .1 .0) (p .ensures .0)),
       (
         s .pre .1 .0,
         (
           s .pre .1 .1 .0,
           (
             (subst (λ (m : ℕ). Reached w (p .last .1 .1 .0) (p .last .1 .1 .1 .0) (s .args .depth + 1) m (p .result)) (sym ((c .before .before .before .before .before .before .before .before .before) .mark .ensures)) (p .ensures .0 .reached), p .ensures .1),
-            (p .ensures .0 .trail, omega (arith, x .1 .1, (c .before .before .before .before .before .before .before .before .before .before .before) .if2 .left)),
+            (p .ensures .0 .trail, omega (arith, x .1 .1, (c .before .before .before .before .before .before .before .before .before .before .before) .if1 .left)),
           ),
         ),
       ),
@@ -169,7 +175,7 @@ pub +try-next+visit-spec : {M : Type 1} → statement M
     let p = c .before .before .before .before .before .before .before .before .before .before .before .before .place in
     let v = c .before .before .before .before .before .visit in
     passes (magicWalker (s .args .rules .now) (s .args .limit)) (p .last .1 .1 .0) (p .last .1 .1 .1 .0) (s .args .depth + 1) ((c .before .before .before .before .before .before .before .before .before .before .before .before .before .before .before) .mark .result) (s .args .count + 1)
-    (s .args .facts .now) (s .args .path .now) (s .args .depth) (markAt (s .args .path .now) (s .args .depth)) (s .args .count) (v .result) (c .match .keys2) (v .last .1 .1 .0) (v .last .1 .1 .1 .0) (v .ensures)))  -- returns-4
+    (s .args .facts .now) (s .args .path .now) (s .args .depth) (markAt (s .args .path .now) (s .args .depth)) (s .args .count) (v .result) (c .match2 .keys2) (v .last .1 .1 .0) (v .last .1 .1 .1 .0) (v .ensures)))  -- returns-4
     (λ t.
     visit-lts.spec (visiting t) (visit-at t) visit.Post
     (λ c. search needs)  -- enum-known-found

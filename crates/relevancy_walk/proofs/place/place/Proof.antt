@@ -33,23 +33,20 @@ pub place-spec : {M : Type 1} → statement M
 place-spec =
     tie.close
     (tie.spec
-    (λ c κs. let s = c .before .before .before .before in (s .pre .0, ((s .pre .1 .1 .0 .room, s .pre .1 .1 .0 .at-split .listed), s .pre .1 .1 .1 .0)))  -- alternative-requires
-    (λ c κs. let s = c .before .before .before .before .before .before in s .pre .1 .1 .0 .room)  -- mark-requires
+    (λ c κs. let s = c .before .before .before .before in s .pre .1 .1 .0 .room)  -- mark-requires
     (λ c κs.
-    let s = c .before .before .before .before .before .before .before .before in
+    let s = c .before .before .before .before .before .before in
     let w = relevancyWalker (s .args .table .now) in
-    (s .pre .1 .1 .0 .room, omega (arith, (sound (s .args .table .now) (s .pre .0)) .four (siteAt w (s .args .path .now) (s .args .depth)) (s .pre .1 .1 .0 .at-split .listed), s .pre .1 .1 .1 .0)))  -- pass-requires
+    (s .pre .1 .1 .0 .room, omega (arith, (sound (s .args .table .now) (s .pre .0)) .four (siteAt w (s .args .path .now) (s .args .depth)) (s .pre .1 .1 .0 .at-split .listed), s .pre .1 .1 .1 .0 .0)))  -- pass-requires
     (λ c κs.
-    let s = c .before .before .before .before .before .before .before .before .before .before .before .before in
-    let a = c .before .before .before .before .before .before .before .alternative in
+    let s = c .before .before .before .before .before .before .before .before .before .before in
     let o = c .before .before .before .before .before .mark in (
       subst (Store 2050 (s .args .facts .now)) (sym (o .ensures)) (s .pre .1 .1 .0 .store),
-      (omega (arith, a .ensures, next-small (s .args .table .now) (s .pre .0) (s .args .facts .now) (s .args .path .now) (s .args .depth) (s .pre .1 .1 .0) (s .pre .1 .1 .1 .0), (sound (s .args .table .now) (s .pre .0)) .few), omega arith),
+      (omega (arith, s .pre .1 .1 .1 .0 .1, next-small (s .args .table .now) (s .pre .0) (s .args .facts .now) (s .args .path .now) (s .args .depth) (s .pre .1 .1 .0) (s .pre .1 .1 .1 .0 .0), (sound (s .args .table .now) (s .pre .0)) .few), omega arith),
     ))  -- add-requires
-    (λ c. let s = c .before .before .before .before .before .before .before .before .before .before .before .before .before .before .before .before .before in omega (arith, s .pre .1 .1 .0 .room .deep))  -- add-find
+    (λ c. let s = c .before .before .before .before .before .before .before .before .before .before .before .before .before .before .before in omega (arith, s .pre .1 .1 .0 .room .deep))  -- add-find
     (λ c κs.
-    let s = c .before .before .before .before .before .before .before .before .before .before .before .before .before .before .before .before .before in
-    let a = c .before .before .before .before .before .before .before .before .before .before .before .before .alternative in
+    let s = c .before .before .before .before .before .before .before .before .before .before .before .before .before .before .before in
     let o = c .before .before .before .before .before .before .before .before .before .before .mark in
     let p = c .before .before .before .before .before .before .before .before .pass in
     let d = c .before .before .before .before .add in (
@@ -57,23 +54,22 @@ place-spec =
       (
         s .pre .1 .0,
         subst (λ (m : ℕ). TrueFresh (s .args .table .now) (d .last .0) (p .last .0) (s .args .depth + 1) (d .result) m) (sym (o .ensures))
-            (entered-fresh (s .args .table .now) (s .pre .0) (s .args .facts .now) (s .args .path .now) (s .args .depth) (s .pre .1 .1 .0) (s .pre .1 .1 .1 .0)
-            (d .last .0) (d .result) (put s (o .result) (a .result) (o .ensures) (a .ensures) (d .last .0) (d .result) (d .ensures))
+            (entered-fresh (s .args .table .now) (s .pre .0) (s .args .facts .now) (s .args .path .now) (s .args .depth) (s .pre .1 .1 .0) (s .pre .1 .1 .1 .0 .0)
+            (d .last .0) (d .result) (put s (o .result) (s .args .a) (o .ensures) (s .pre .1 .1 .1 .0 .1) (d .last .0) (d .result) (d .ensures))
             (p .last .0) (p .kept .0 ∙ s .pre .1 .1 .0 .room .size) (went s (p .last .0) (p .ensures))),
       ),
     ))  -- find-requires
     (λ c. search needs)  -- same-length
     (λ c. search needs)  -- same-length-2
     (λ c.
-    let s = c .before .before .before .before .before .before .before .before .before .before .before .before .before .before .before .before .before .before .before .before .before .before in
-    let a = c .before .before .before .before .before .before .before .before .before .before .before .before .before .before .before .before .before .alternative in
+    let s = c .before .before .before .before .before .before .before .before .before .before .before .before .before .before .before .before .before .before .before .before in
     let o = c .before .before .before .before .before .before .before .before .before .before .before .before .before .before .before .mark in
     let p = c .before .before .before .before .before .before .before .before .before .before .before .before .before .pass in
     let d = c .before .before .before .before .before .before .before .before .before .add in
     let f = c .before .before .before .before .find in
     let w = relevancyWalker (s .args .table .now) in
-    let added = put s (o .result) (a .result) (o .ensures) (a .ensures) (d .last .0) (d .result) (d .ensures) in
-    place-made w (s .args .facts .now) (s .args .path .now) (s .args .depth) (s .args .count) (s .pre .1 .1 .1 .0) (d .result) (d .last .0) (p .last .0) (went s (p .last .0) (p .ensures))
+    let added = put s (o .result) (s .args .a) (o .ensures) (s .pre .1 .1 .1 .0 .1) (d .last .0) (d .result) (d .ensures) in
+    place-made w (s .args .facts .now) (s .args .path .now) (s .args .depth) (s .args .count) (s .pre .1 .1 .1 .0 .0) (d .result) (d .last .0) (p .last .0) (went s (p .last .0) (p .ensures))
     (added .grows) (added .kept) (f .result) (f .last .1 .1 .1 .0) (f .last .1 .1 .1 .1 .0)
     (subst (λ (m : ℕ). Finding w (d .last .0) (p .last .0) (s .args .depth + 1) (d .result) m (f .result) (f .last .1 .1 .1 .0) (f .last .1 .1 .1 .1 .0)) (o .ensures) (f .ensures))
     (s .pre .1 .1 .1 .1 .0)))  -- returns

@@ -7,6 +7,7 @@ use borrow.Author.Needs.{needs}
 use borrow.Fn.Kinds.{In}
 use borrow.Fn.PlainCycle.{Measures, is, falls, and}
 use Rattle.store.specs.contracts.Store.{Store, Undone}
+use Rattle.ground.proofs.BranchLaws.{next-atom, next-nothing}
 use Rattle.walk.specs.contracts.Path.{nextAt, markAt, altsAt}
 use Rattle.walk.specs.contracts.Place.{Reached}
 use Rattle.walk.specs.contracts.Walk.{triesLeft, visitsLeft, AllShut}
@@ -22,9 +23,8 @@ use Rattle.relevancy_walk.proofs.trail.+try_next+visit.Lts-try_next as 
 use Rattle.relevancy_walk.proofs.trail.visit.Reads as visit
 use Rattle.relevancy_walk.proofs.trail.visit.Kinds as visit-kinds
 use Rattle.relevancy_walk.proofs.trail.+try_next+visit.Lts-visit as visit-lts
-use Rattle.relevancy_walk.proofs.place.alternatives.Reads as alternatives-reads
+use Rattle.relevancy_walk.proofs.place.alternative.Reads as alternative-reads
 use Rattle.relevancy_walk.proofs.place.place.Reads as place-reads
-use Rattle.walk.proofs.node.next.Reads as next-reads
 use Rattle.walk.proofs.node.mark.Reads as mark-reads
 use Rattle.store.proofs.undo.Reads as undo-reads
 use Rattle.relevancy_walk.proofs.trail.+try_next+visit.{statement}
@@ -53,37 +53,42 @@ pub +try-next+visit-spec : {M : Type 1} → statement M
 +try-next+visit-spec =
     close μ-try-next μ-visit
     (λ t.
-    try-next-lts.spec (next-reads.Asked, next-reads.Learnt, alternatives-reads.Asked, alternatives-reads.Learnt, mark-reads.Asked, mark-reads.Learnt, place-reads.Asked, place-reads.Learnt, visit-below t, visit.Post, try-next-below t, try-next.Post) (try-next-at t) try-next.Post
-    (λ c κs. let s = c .before .before .before .before in s .pre .1 .1 .1 .0 .room)  -- next-requires
-    (λ c κs. let s = c .before .before .before .before .before .before in (s .pre .1 .0, (s .pre .1 .1 .1 .0 .room, s .pre .1 .1 .1 .0 .at-split .listed)))  -- alternatives-requires
+    try-next-lts.spec (alternative-reads.Asked, alternative-reads.Learnt, mark-reads.Asked, mark-reads.Learnt, place-reads.Asked, place-reads.Learnt, visit-below t, visit.Post, try-next-below t, try-next.Post) (try-next-at t) try-next.Post
+    (λ c κs. let s = c .before .before .before .before in (s .pre .1 .0, (s .pre .1 .1 .1 .0 .room, s .pre .1 .1 .1 .0 .at-split .listed)))  -- alternative-requires
+    (λ c. search needs)  -- enum-known-due
+    (λ c. search needs)  -- enum-told
     (λ c. search needs)  -- same-length
     (λ c.
-    let s = c .before .before .before .before .before .before .before .before in
+    let s = c .before .before .before .before .before .before .before in
+    let m = c .before in
     let tb = s .args .table .now in
     let x = s .pre .1 .1 .1 in
     tried-none (relevancyWalker tb) (s .args .facts .now) (s .args .path .now) (s .args .depth) (s .args .count) (x .0) (omega (arith, x .1 .1, x .1 .2))
-    (omega (arith, (c .before .before .before) .next .ensures, (c .before) .alternatives .ensures, c .if1 .taken)) (x .1 .0))  -- returns
+    (next-nothing (altsAt (relevancyWalker (s .args .table .now)) (s .args .path .now) (s .args .depth)) (nextAt (s .args .path .now) (s .args .depth)) (m .before .alternative .result) (m .match .keys2) (m .before .alternative .ensures)) (x .1 .0))  -- returns
     (λ c. search needs)  -- same-length-2
     (λ c.
     let s = c .before .before .before .before .before .before .before .before .before in
+    let d = c .before .before in
     let tb = s .args .table .now in
     let x = s .pre .1 .1 .1 in
     tried-due (relevancyWalker tb) (s .args .facts .now) (s .args .path .now) (s .args .depth) (s .args .count) (x .0) (omega (arith, x .1 .1, x .1 .2))
-    (omega (arith, (c .before .before .before .before) .next .ensures, (c .before .before) .alternatives .ensures, (c .before) .if1 .left)) (c .if2 .taken ∙ x .1 .2) (x .1 .0))  -- returns-2
+    (next-atom (altsAt (relevancyWalker (s .args .table .now)) (s .args .path .now) (s .args .depth)) (nextAt (s .args .path .now) (s .args .depth)) (d .before .before .alternative .result) (d .due .given .0 .0) (d .due .given .1) (d .before .before .alternative .ensures) .0) (c .if1 .taken ∙ x .1 .2) (x .1 .0))  -- returns-2
     (λ c κs. let s = c .before .before .before .before .before .before .before .before .before .before in s .pre .1 .1 .1 .0 .room)  -- mark-requires
     (λ c κs.
     let s = c .before .before .before .before .before .before .before .before .before .before .before .before .before in
+    let d = c .before .before .before .before .before .before in
     let x = s .pre .1 .1 .1 in
-    (s .pre .1 .0, (s .pre .1 .1 .0, (x .0, (omega (arith, (c .before .before .before .before .before .before .before .before) .next .ensures, (c .before .before .before .before .before .before) .alternatives .ensures, (c .before .before .before .before .before) .if1 .left), (x .1 .0, omega (arith, x .1 .1, x .1 .2, (c .before .before .before .before) .if2 .left)))))))  -- place-requires
+    (s .pre .1 .0, (s .pre .1 .1 .0, (x .0, (next-atom (altsAt (relevancyWalker (s .args .table .now)) (s .args .path .now) (s .args .depth)) (nextAt (s .args .path .now) (s .args .depth)) (d .before .before .alternative .result) (d .due .given .0 .0) (d .due .given .1) (d .before .before .alternative .ensures), (x .1 .0, omega (arith, x .1 .1, x .1 .2, (c .before .before .before .before) .if1 .left)))))))  -- place-requires
     (λ c. let s = c .before .before .before .before .before .before .before .before .before .before .before .before .before .before .before .before .before .before .before .before in omega (arith, s .pre .1 .1 .1 .0 .room .deep))  -- add-visit
-    (λ c. let s = c .before .before .before .before .before .before .before .before .before .before .before .before .before .before .before .before .before .before .before .before in omega (arith, s .pre .1 .1 .1 .1 .1, (c .before .before .before .before .before .before .before .before .before .before .before) .if2 .left, s .fits .limit))  -- add-visit-2
+    (λ c. let s = c .before .before .before .before .before .before .before .before .before .before .before .before .before .before .before .before .before .before .before .before in omega (arith, s .pre .1 .1 .1 .1 .1, (c .before .before .before .before .before .before .before .before .before .before .before) .if1 .left, s .fits .limit))  -- add-visit-2
     (λ c κs.
     let s = c .before .before .before .before .before .before .before .before .before .before .before .before .before .before .before .before .before .before .before .before in
     let tb = s .args .table .now in
     let w = relevancyWalker tb in
     let x = s .pre .1 .1 .1 in
     let p = c .before .before .before .before .before .before .place in
-    let some-left : nextAt (s .args .path .now) (s .args .depth) < length (altsAt w (s .args .path .now) (s .args .depth)) = omega (arith, (c .before .before .before .before .before .before .before .before .before .before .before .before .before .before .before) .next .ensures, (c .before .before .before .before .before .before .before .before .before .before .before .before .before) .alternatives .ensures, (c .before .before .before .before .before .before .before .before .before .before .before .before) .if1 .left) in
+    let d = c .before .before .before .before .before .before .before .before .before .before .before .before .before in
+    let some-left = next-atom (altsAt w (s .args .path .now) (s .args .depth)) (nextAt (s .args .path .now) (s .args .depth)) (d .before .before .alternative .result) (d .due .given .0 .0) (d .due .given .1) (d .before .before .alternative .ensures) .0 in
     let from : triesLeft w (s .args .facts .now) (s .args .path .now) (s .args .depth) ≡ t = s .pre .0 in (
       subst (λ (m : ℕ). visitsLeft w (p .last .1 .1 .1 .0) (p .last .1 .1 .1 .1 .0) (s .args .depth + 1) (p .result) < m) from
           (visit-falls w (sound tb (s .pre .1 .0)) (s .args .facts .now) (s .args .path .now) (s .args .depth) (s .args .count) (x .0) some-left (p .result) (p .last .1 .1 .1 .0) (p .last .1 .1 .1 .1 .0) (p .ensures)),
@@ -93,7 +98,7 @@ pub +try-next+visit-spec : {M : Type 1} → statement M
           s .pre .1 .1 .0,
           (
             subst (λ (m : ℕ). Reached w (p .last .1 .1 .1 .0) (p .last .1 .1 .1 .1 .0) (s .args .depth + 1) m (p .result)) (sym ((c .before .before .before .before .before .before .before .before .before) .mark .ensures)) (p .ensures .reached),
-            (p .ensures .trail, omega (arith, x .1 .1, (c .before .before .before .before .before .before .before .before .before .before .before) .if2 .left), x .1 .2),
+            (p .ensures .trail, omega (arith, x .1 .1, (c .before .before .before .before .before .before .before .before .before .before .before) .if1 .left), x .1 .2),
           ),
         ),
       ),
@@ -107,7 +112,8 @@ pub +try-next+visit-spec : {M : Type 1} → statement M
     let p = c .before .before .before .before .before .before .before .before .before .before .before .before .before .before .before .before .place in
     let v = c .before .before .before .before .before .before .before .before .before .visit in
     let g = c .before .before .before .walked .given in
-    let some-left : nextAt (s .args .path .now) (s .args .depth) < length (altsAt w (s .args .path .now) (s .args .depth)) = omega (arith, (c .before .before .before .before .before .before .before .before .before .before .before .before .before .before .before .before .before .before .before .before .before .before .before .before .before) .next .ensures, (c .before .before .before .before .before .before .before .before .before .before .before .before .before .before .before .before .before .before .before .before .before .before .before) .alternatives .ensures, (c .before .before .before .before .before .before .before .before .before .before .before .before .before .before .before .before .before .before .before .before .before .before) .if1 .left) in
+    let d = c .before .before .before .before .before .before .before .before .before .before .before .before .before .before .before .before .before .before .before .before .before .before .before in
+    let some-left = next-atom (altsAt w (s .args .path .now) (s .args .depth)) (nextAt (s .args .path .now) (s .args .depth)) (d .before .before .alternative .result) (d .due .given .0 .0) (d .due .given .1) (d .before .before .alternative .ensures) .0 in
     let within : s .args .count ≤ w .limit = omega (arith, x .1 .1, x .1 .2) in
     let size : length (v .last .1 .1 .1 .1 .0) ≡ 9225 = v .kept .1 .1 .1 .1 .0 ∙ p .ensures .reached .room .size in
     let shut : AllShut w (p .last .1 .1 .1 .0) (p .last .1 .1 .1 .1 .0) (s .args .depth + 1) (markAt (s .args .path .now) (s .args .depth)) (s .args .count + 1) (g .0 .0) (v .last .1 .1 .1 .0) (v .last .1 .1 .1 .1 .0) =
@@ -154,7 +160,7 @@ pub +try-next+visit-spec : {M : Type 1} → statement M
     let p = c .before .before .before .before .before .before .before .before .before .before .before .before .place in
     let v = c .before .before .before .before .before .visit in
     passes (relevancyWalker (s .args .table .now)) (p .last .1 .1 .1 .0) (p .last .1 .1 .1 .1 .0) (s .args .depth + 1) ((c .before .before .before .before .before .before .before .before .before .before .before .before .before .before .before) .mark .result) (s .args .count + 1)
-    (s .args .facts .now) (s .args .path .now) (s .args .depth) (markAt (s .args .path .now) (s .args .depth)) (s .args .count) (v .result) (c .match .keys2) (v .last .1 .1 .1 .0) (v .last .1 .1 .1 .1 .0) (v .ensures)))  -- returns-4
+    (s .args .facts .now) (s .args .path .now) (s .args .depth) (markAt (s .args .path .now) (s .args .depth)) (s .args .count) (v .result) (c .match2 .keys2) (v .last .1 .1 .1 .0) (v .last .1 .1 .1 .1 .0) (v .ensures)))  -- returns-4
     (λ t.
     visit-lts.spec (mark-reads.Asked, mark-reads.Learnt, undo-reads.Asked, undo-reads.Learnt, try-next-below t, try-next.Post) (visit-at t) visit.Post
     (λ c. search needs)  -- enum-known-found
