@@ -45,7 +45,8 @@ fn main() {
 
 fn run(run: &mut Run<Met>, many: u64) -> Result<(), Report> {
     for _ in 0..many {
-        agrees(&tickets::to_walk(&mut run.random), LONG, &mut run.tally.small)?;
+        let small = if run.random.once_in(5) { tickets::crowded(&mut run.random) } else { tickets::to_walk(&mut run.random) };
+        agrees(&small, LONG, &mut run.tally.small)?;
         let any = tickets::ticket(&mut run.random);
         if reference::read(&reference::print(&any)).is_ok() {
             agrees(&any, SHORT, &mut run.tally.any)?;

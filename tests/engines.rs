@@ -13,6 +13,7 @@ mod memory;
 mod mix;
 mod random;
 mod reference;
+mod repeats;
 mod report;
 mod rules;
 mod sizes;
@@ -27,6 +28,7 @@ use library::{fit, packed};
 use magic::{rewritten, Magic, Rule};
 use mix::Mix;
 use reference::{Ticket, NO_TABLE, SHORT_BUFFER, WORK};
+use repeats::{Followed, Repeats};
 use report::{same, Report};
 use sizes::{Drawn, Sizes};
 use threads::{add_each, row, Run, Tally, THREADS};
@@ -45,7 +47,7 @@ fn main() {
 }
 
 fn run(run: &mut Run<Met>, tickets: u64) -> Result<(), Report> {
-    for worked in worked::worked() {
+    for worked in worked::worked().into_iter().chain(worked::named_again()) {
         run.with_own_limit(&reference::read(worked.text.as_bytes()).expect("a worked ticket"))?;
     }
     for ticket in [tickets::deep(31, 2, u32::MAX), tickets::deep(32, 1, 1024)] {
@@ -67,9 +69,11 @@ impl Run<Met> {
     /// and any ticket, which may be refused.
     fn small(&mut self) -> Result<(), Report> {
         let ticket = if self.random.once_in(5) { tickets::crowded(&mut self.random) } else { tickets::to_walk(&mut self.random) };
-        let whole = walk(&Relevancy::new(&ticket), LONG, &mut |_, _| {});
+        let mut followed = Followed::new(&ticket);
+        let whole = walk(&Relevancy::new(&ticket), LONG, &mut |entered, place| followed.place(entered, place));
         let rules = also_by_rules(&ticket, LONG, &whole)?;
         self.tally.small.ticket(&whole);
+        self.tally.repeats.ticket(followed, &whole);
         let [zero, below, count, above] = around(&whole, LONG);
         let limits = match self.random.below(4) {
             0 => vec![zero, below, count, above],
@@ -195,6 +199,7 @@ fn distinct(mut limits: Vec<u32>) -> Vec<u32> {
 struct Met {
     calls: u64,
     small: Mix,
+    repeats: Repeats,
     large: [Drawn; 4],
     refused: [u64; 2],
     alone: [u64; 4],
@@ -204,6 +209,7 @@ impl Tally for Met {
     fn add(&mut self, other: &Met) {
         self.calls += other.calls;
         self.small.add(&other.small);
+        self.repeats.add(&other.repeats);
         self.large.iter_mut().zip(&other.large).for_each(|(to, from)| to.add(from));
         add_each(&mut self.refused, &other.refused);
         add_each(&mut self.alone, &other.alone);
@@ -211,6 +217,7 @@ impl Tally for Met {
 
     fn print(&self) {
         self.small.print();
+        self.repeats.print();
         Drawn::print_heading();
         FAMILIES.iter().zip(&self.large).for_each(|(family, drawn)| drawn.print(family.name));
         println!("refusals 11 and 31:{}", row(&self.refused));
@@ -220,7 +227,7 @@ impl Tally for Met {
     fn missing(&self) -> Vec<String> {
         let mut large = Mix::default();
         self.large.iter().for_each(|drawn| large.add(&drawn.mix));
-        let mut missing = [self.small.rare_verdicts(), self.small.rare_counts(200), large.rare_counts(100)].concat();
+        let mut missing = [self.small.rare_verdicts(), self.small.rare_counts(200), self.repeats.rare(200), large.rare_counts(100)].concat();
         for (family, drawn) in FAMILIES.iter().zip(&self.large) {
             missing.extend(drawn.missing(LARGE_TICKETS, family.aim).into_iter().map(|what| format!("{} in {}", what, family.name)));
         }

@@ -28,7 +28,7 @@ static const struct known tickets[] = {
     {"K6", LUTSAMIK_FITS, 2, 8, 6, "100110", 4, 1},
     {"K7", LUTSAMIK_FITS, 0, 0, 1, "1", 0, 0},
     {"K8", LUTSAMIK_NONE, 0, 1, 1, "", 1, 0},
-    {"K9", LUTSAMIK_NONE, 2, 3, 1, "", 2, 0},
+    {"K9", LUTSAMIK_NONE, 1, 3, 1, "", 2, 0},
     {"K10", LUTSAMIK_FITS, 0, 0, 1024, "1", 0, 0},
     {"K11", LUTSAMIK_FITS, 0, 20, 1024, "0", 4, 0},
     {"example_1", LUTSAMIK_NONE, 4, 16, 12, "", 8, 0},

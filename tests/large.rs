@@ -51,7 +51,8 @@ fn full(random: &mut Random) -> Ticket {
 }
 
 /// A path goes through each atom of a predicate of arity 2, column by column. Its end is open, or closed by its last
-/// atom; then the walk turns to the splits' further alternatives: the first one again, the next atom, or one denied.
+/// atom; then the walk turns to the splits' further alternatives: the next atom, or one denied. Where the first one stands
+/// there again, or one denied twice, it is passed over.
 fn deep(random: &mut Random) -> Ticket {
     let constants = random.within(18, 31) as u8;
     let columns = shuffled(random, constants);

@@ -49,10 +49,14 @@ pub fn full(random: &mut Random) -> Ticket {
 }
 
 /// A small ticket whose walk is likely to make entries: facts, chains, splits and denials over few atoms. One in
-/// three has little but splits and denials, many of them, and a long walk; one in forty is crowded.
+/// three has little but splits and denials, many of them, and a long walk; one in three names alternatives again; one in forty is crowded,
+/// and one in ten has alternatives that coincide.
 pub fn to_walk(random: &mut Random) -> Ticket {
     if random.once_in(40) {
         return crowded(random);
+    }
+    if random.once_in(10) {
+        return coinciding(random);
     }
     let constants = random.pick(&[0, 1, 2, 2, 3, 3, 4, 5]);
     let mut ticket = empty(random, constants, Vec::new());
@@ -77,7 +81,67 @@ pub fn to_walk(random: &mut Random) -> Ticket {
         let clause = clause(random, &ticket, n.min(4), m, variables);
         ticket.clauses.push(clause);
     }
+    if random.once_in(3) {
+        let constants = ticket.constants;
+        ticket.clauses.iter_mut().for_each(|clause| name_again(random, constants, clause));
+    }
     ticket
+}
+
+/// Puts alternatives into a clause, up to four, that stand there already; some of them changed in an argument, so that they are equal
+/// to an earlier one in some instances only. A clause with one alternative becomes one that splits.
+fn name_again(random: &mut Random, constants: u8, clause: &mut Clause) {
+    let variables = clause.variables().len() as u8;
+    while !clause.alternatives.is_empty() && clause.alternatives.len() < 4 && random.once_in(2) {
+        let mut again = clause.alternatives[random.below(clause.alternatives.len())].clone();
+        if variables + constants > 0 && !again.arguments.is_empty() && random.once_in(2) {
+            let (at, choice) = (random.below(again.arguments.len()), random.below((variables + constants) as usize) as u8);
+            again.arguments[at] = if choice < variables { 0x80 + choice } else { choice - variables };
+        }
+        clause.alternatives.insert(random.below(clause.alternatives.len() + 1), again);
+    }
+}
+
+/// A ticket whose splits have alternatives of one predicate that are equal in some instances: constants that are facts are put for their
+/// variables. Denials that never come about want each atom; others close.
+fn coinciding(random: &mut Random) -> Ticket {
+    let constants = random.within(2, 4) as u8;
+    let mut ticket = empty(random, constants, vec![1, 1, 2, 0]);
+    let (variable, another, never) = (0x80, 0x81, Atom::new(3, &[]));
+    ticket.clauses.push(Clause::new(&[Atom::new(1, &[variable]), never.clone()], &[]));
+    ticket.clauses.push(Clause::new(&[Atom::new(2, &[variable, another]), never], &[]));
+    let facts = (0..constants).filter(|_| random.below(3) > 0);
+    ticket.clauses.extend(facts.map(|constant| Clause::new(&[], &[Atom::new(0, &[constant])])));
+    for _ in 0..random.within(1, 3) {
+        let split = coinciding_split(random, constants);
+        ticket.clauses.push(split);
+    }
+    for _ in 0..random.within(2, 8) {
+        let (n, variables) = (random.pick(&[1, 2, 2, 3]), random.pick(&[0, 1, 1, 2]));
+        let denial = clause(random, &ticket, n, 0, variables);
+        ticket.clauses.push(denial);
+    }
+    random.shuffle(&mut ticket.clauses);
+    ticket
+}
+
+/// A clause with a condition for each of its one to three variables. Its alternatives are different as they are written.
+fn coinciding_split(random: &mut Random, constants: u8) -> Clause {
+    let variables = random.within(1, 3) as u8;
+    let conditions: Vec<Atom> = (0..variables).map(|i| Atom::new(0, &[0x80 + i])).collect();
+    let predicate = random.pick(&[1, 1, 2]);
+    let argument = |random: &mut Random| match random.below(variables as usize + 1) as u8 {
+        choice if choice < variables => 0x80 + choice,
+        _ => random.below(constants as usize) as u8,
+    };
+    let mut alternatives: Vec<Atom> = Vec::new();
+    for _ in 0..random.within(3, 8) {
+        let alternative = Atom { predicate, arguments: (0..predicate).map(|_| argument(random)).collect() };
+        if alternatives.len() < 4 && !alternatives.contains(&alternative) {
+            alternatives.push(alternative);
+        }
+    }
+    Clause { conditions, alternatives }
 }
 
 /// A ticket of splits and denials, nearly all ground, over some thirty atoms: most walks make ten entries or more, and
@@ -116,18 +180,18 @@ pub fn deep(constants: u8, predicates: usize, limit: u32) -> Ticket {
     Ticket { constants, limit: limit.to_be_bytes(), arities: vec![2, 0][..predicates].to_vec(), clauses }
 }
 
-/// As `deep` with two predicates, but each node has three alternatives before the one that goes on, which a denial closes at once.
+/// As `deep` with two predicates, but each node has three other alternatives before the one that goes on, which a denial closes at once.
 #[allow(dead_code)]
 pub fn late(constants: u8, limit: u32) -> Ticket {
     let atom = |x: u8, y: u8| Atom::new(0, &[x, y]);
-    let closed = || Atom::new(2, &[]);
-    let last = |a: Atom| [closed(), closed(), closed(), a];
+    let closed = |x: u8| Atom::new(2, &[x]);
+    let last = |a: Atom| [closed(0), closed(1), closed(2), a];
     let (variable, another) = (0x80, 0x81);
     let mut clauses: Vec<Clause> = (0..constants).map(|k| Clause::new(&[], &last(atom(k, 0)))).collect();
     clauses.extend((1..constants).map(|k| Clause::new(&[atom(variable, 0)], &last(atom(variable, k)))));
     clauses.push(Clause::new(&[atom(variable, another), Atom::new(1, &[])], &[]));
-    clauses.push(Clause::new(&[closed()], &[]));
-    Ticket { constants, limit: limit.to_be_bytes(), arities: vec![2, 0, 0], clauses }
+    clauses.push(Clause::new(&[closed(variable)], &[]));
+    Ticket { constants, limit: limit.to_be_bytes(), arities: vec![2, 0, 1], clauses }
 }
 
 fn empty(random: &mut Random, constants: u8, arities: Vec<u8>) -> Ticket {

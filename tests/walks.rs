@@ -1,7 +1,7 @@
 //! The relevancy walk and the magic walk, each written down naively from document 01, on many small random tickets:
 //! their trails must agree place by place, and so must verdict, count and fitting, under several limits; the verdict
-//! must be right. K1 to K9 and the tickets of the program `cases` must be printed as written. The library is not
-//! asked. Usage: walks [NUMBER OF TICKETS].
+//! must be right. K1 to K9, tickets that name an alternative again, and the tickets of the program `cases` must be printed
+//! as written. The library is not asked. Usage: walks [NUMBER OF TICKETS].
 mod logic;
 mod magic;
 mod mix;
@@ -19,6 +19,7 @@ use magic::{rewritten, Magic};
 use mix::Mix;
 use reference::Ticket;
 use report::{same, Report};
+use std::collections::HashSet;
 use threads::{add_each, row, Run, Tally};
 use walk::{walk, Engine, Outcome, Place, Relevancy, Verdict};
 
@@ -39,7 +40,7 @@ fn main() {
 }
 
 fn worked_tickets() -> Result<(), Report> {
-    for worked in worked::worked() {
+    for worked in worked::worked().into_iter().chain(worked::named_again()) {
         let expected: String = worked.printed.iter().map(|line| format!("{line}\n")).collect();
         both_print(worked.name, worked.text.as_bytes(), expected.as_bytes())?;
     }
@@ -70,7 +71,7 @@ fn both_print(name: &str, text: &[u8], expected: &[u8]) -> Result<(), Report> {
 
 /// Paths as long as they can be.
 fn deep_paths() -> Result<(), Report> {
-    for (ticket, verdict, longest) in [(tickets::deep(31, 2, u32::MAX), Verdict::Fits, 961), (tickets::deep(32, 1, 1030), Verdict::Spent, 1024)] {
+    for (ticket, verdict, longest) in [(tickets::deep(31, 2, u32::MAX), Verdict::Fits, 961), (tickets::deep(32, 1, 1024), Verdict::None, 1024)] {
         let limit = u32::from_be_bytes(ticket.limit);
         let walked = both(&Relevancy::new(&ticket), &Magic::new(&rewritten(&ticket), &ticket), limit)?;
         same("verdict of a deep ticket", verdict, walked.outcome.verdict)?;
@@ -150,13 +151,15 @@ fn both(relevancy: &Relevancy, magic: &Magic, limit: u32) -> Result<Walked, Repo
     Ok(one)
 }
 
-/// A path holds no atom twice; fits comes with a fitting, and none only where there is none.
+/// A path holds no atom twice, and no node enters one twice; fits comes with a fitting, and none only where there is none.
 fn is_right(ground: &Ground, walked: &Walked, tally: &mut Met) -> Result<(), Report> {
     for (entered, _) in &walked.trail {
         if (1..entered.len()).any(|i| entered[..i].contains(&entered[i])) {
             return Err(format!("an atom is entered twice on a path: {entered:?}"));
         }
     }
+    let lists: HashSet<&[usize]> = walked.trail.iter().map(|(entered, _)| &entered[..]).collect();
+    same("number of different lists", walked.trail.len(), lists.len())?;
     match (walked.outcome.verdict, &walked.outcome.fitting) {
         (Verdict::Fits, Some(fitting)) => same("violated instance of the fitting", None, ground.first_violated(fitting)),
         (Verdict::None, None) if ground.atoms <= FEW_ATOMS => {

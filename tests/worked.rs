@@ -1,4 +1,4 @@
-//! The worked tickets K1 to K9 of document 01, and what a program prints for each.
+//! The worked tickets K1 to K9 of document 01, and tickets that name an alternative again; with what a program prints for each.
 #![allow(dead_code)] // each program uses its own part
 
 pub struct Worked {
@@ -25,6 +25,28 @@ pub fn worked() -> Vec<Worked> {
         worked("K6", &[K1, three, "03020002800001\nFF04\n"], &["810100000002", "820000", "820101", "820200"]),
         worked("K7", &[BARE, "FF00\n"], &["810100000000", "8200"]),
         worked("K8", &[BARE, "030000\nFF01\n"], &["810000000000"]),
-        worked("K9", &[BARE, "0300020000\n03010000\nFF02\n"], &["810000000002"]),
+        worked("K9", &[BARE, "0300020000\n03010000\nFF02\n"], &["810000000001"]),
+    ]
+}
+
+/// Alternatives that are equal to an earlier one, in the clause or in an instance alone; also under limits that only their being passed over
+/// keeps to.
+pub fn named_again() -> Vec<Worked> {
+    let twice = "0300020000\n03010000\nFF02\n";
+    let (two, both_denied) = ("0101000200000064\n0200\n0200\n", "03010000\n03010001\nFF03\n");
+    let (up_to_two, up_to_one) = ("0101000200000002\n0200\n0200\n", "0101000200000001\n0200\n0200\n");
+    let second_left = "030003000001\n03010000\n0302000100\nFF03\n";
+    let pair = "0300010000\n0300010100\n0302020080018102800281\n0301000280\nFF04\n";
+    let worked = |name, parts: &[&str], printed| Worked { name, text: parts.concat(), printed };
+    vec![
+        worked("K9 with L = 1", &["0101000100000001\n0200\n", twice], &["810000000001"]),
+        worked("K9 with L = 0", &["0101000100000000\n0200\n", twice], &["810200000000"]),
+        worked("four times the same", &[BARE, "03000400000000\n03010000\nFF02\n"], &["810000000001"]),
+        worked("first and third the same", &[two, "030003000100\n", both_denied], &["810000000002"]),
+        worked("second and third the same", &[two, "030003000101\n", both_denied], &["810000000002"]),
+        worked("each twice", &[two, "03000400010100\n", both_denied], &["810000000002"]),
+        worked("an open one after two the same", &[up_to_two, second_left], &["810100000002", "8201"]),
+        worked("the same with L = 1", &[up_to_one, second_left], &["810200000001"]),
+        worked("the same in an instance", &[K1, pair], &["810000000001"]),
     ]
 }

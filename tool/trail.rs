@@ -16,7 +16,8 @@ pub const COMMAND: Command = Command {
     about: "the walk as a tree, in words or as a drawing",
     help: "\
 Prints the walk as a tree: each entry, in the walk's order, with the atom entered
-and how the place is found: closed, open, or split by a clause with values.
+and how the place is found: closed, open, or split by a clause with values. An
+alternative that a split names again is entered once.
   --entries N  the first N entries at most (1000 where it is not given)
   --svg OUT    also draws the tree, into the file OUT
 The library tells verdict, count and fitting, but not the path. So the tool makes

@@ -28,7 +28,8 @@ pub struct Trail {
     pub verdict: Verdict,
 }
 
-/// A node of the path, with what is true there and the alternatives left, the next one last.
+/// A node of the path, with what is true there and the alternatives left, the next one last. One that is equal to an earlier one is not
+/// among them.
 struct Node {
     place: usize,
     truth: Vec<u8>,
@@ -107,8 +108,9 @@ impl Walk<'_> {
         let seen = Seen { entered: &entered, truth: &truth, wanted: &wanted, found: &found };
         let confirmed = confirms(self.accepted, &self.marking, &seen)?;
         if let Found::Split(clause, values) = &found {
-            let [_, mut left] = self.accepted.instance_atoms(*clause, values);
-            left.reverse();
+            let [_, alternatives] = self.accepted.instance_atoms(*clause, values);
+            let entered = |i: &usize| !alternatives[..*i].contains(&alternatives[*i]);
+            let left = (0..alternatives.len()).rev().filter(entered).map(|i| alternatives[i].clone()).collect();
             self.path.push(Node { place: self.places.len(), truth, left });
         }
         Ok((found, confirmed))

@@ -11,6 +11,7 @@ const MOST_VARIABLES: usize = 4;
 pub struct Instances {
     /// "false" has the number after the last atom.
     pub falsity: u16,
+    /// Each has its different alternatives; there can be just one.
     pub splitting: Kind,
     /// Each has one alternative: where the clause has none, "false".
     pub chaining: Kind,
@@ -38,7 +39,10 @@ impl Instances {
         let falsity = self.falsity;
         pattern.each_instance(|numbers| {
             kind.conditions.push(&numbers[..n]);
-            kind.alternatives.push(if m == 0 { std::slice::from_ref(&falsity) } else { &numbers[n..n + m] });
+            match m {
+                0 => kind.alternatives.push(&[falsity]),
+                _ => kind.alternatives.push_distinct(&numbers[n..n + m]),
+            }
         });
     }
 }

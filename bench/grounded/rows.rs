@@ -15,6 +15,16 @@ impl Rows {
         self.starts.push(self.members.len() as u32);
     }
 
+    /// A row without the members that stand in it before.
+    pub fn push_distinct(&mut self, row: &[u16]) {
+        for (i, member) in row.iter().enumerate() {
+            if !row[..i].contains(member) {
+                self.members.push(*member);
+            }
+        }
+        self.starts.push(self.members.len() as u32);
+    }
+
     pub fn len(&self) -> usize {
         self.starts.len() - 1
     }
