@@ -21,7 +21,7 @@ use walk::{walk, Relevancy};
 const STACK: usize = 1 << 21;
 
 /// The most that an engine may use on a path of first alternatives, on one of fourth alternatives, and the most for an operation that walks no path.
-const MOST_TO_WALK: usize = 1 << 19;
+const MOST_TO_WALK: usize = 9 << 16;
 const MOST_TO_WALK_LATE: usize = 3 << 19;
 const MOST: usize = 1 << 14;
 
