@@ -1,17 +1,18 @@
 -- The bytes of a frame as a problem's next clause line, and a frame that goes on past a line.
 use Prim.Native.Nat.{ℕ, zero, suc, _+_, _*_, _^_, _≤_, _<_}
 use mathlib.Core.Bool.{Bool, true, false, cond}
-use mathlib.Core.List.{List, _++_}
+use mathlib.Core.List.{List, [], _∷_, _++_}
 use mathlib.Core.Logic.{_⊎_, inl, inr}
 use mathlib.Core.Path.{_≡_, refl, sym, ap, _∙_}
 use native.Mathlib.Omega.{arith}
-use borrow.Author.Tests.{lt-ltb, le-ltb, ne-eqb}
-use lib.Dec.{eqb, ltb, leb}
+use borrow.Author.Tests.{lt-ltb, le-ltb, eq-eqb, ne-eqb}
+use lib.Dec.{eqb, ltb, leb, eqb→eq}
 use lib.ListN.{length, take, drop, getD, length-append, length-drop, take-append-drop, List·getD-append, List·getD-eq-default}
 use lib.Seq.{length-take-le}
 use Rattle.lists.specs.Member.{All}
 use Rattle.lists.proofs.Bytes.{all-at}
-use Rattle.lists.proofs.Test.{lt-or-le}
+use Rattle.lists.proofs.Member.{all-append}
+use Rattle.lists.proofs.Test.{same-or-other, lt-or-le}
 use Rattle.problem.specs.declared.line.Line.the-variants.{Holds}
 use Rattle.problem.specs.declared.judge.Judged.{Judged}
 use Rattle.problem.specs.declared.judge.Judged.the-variants.{Fault, Found}
@@ -19,10 +20,15 @@ use Rattle.problem.specs.declared.judge.Span.{Span}
 use Rattle.problem.specs.declared.judge.Span.the-variants.{Broken, Reached}
 use Rattle.problem.specs.Digit.{hexLine}
 use Rattle.problem.specs.Line.{lineAt, frameAt}
-use Rattle.problem.specs.Judge.{judgeArg, judgeArgs, judgeAtom, judgeAtoms, judgeEnd, judgeBody, judgeClause, afterAtom, afterAtoms}
+use Rattle.problem.specs.Problem.{Problem, ClauseFits, Fits, weights}
+use Rattle.problem.specs.Judge.{judgeArg, judgeArgs, judgeAtom, judgeAtoms, judgeEnd, judgeBody, judgeClause, afterAtom, afterAtoms, clauseAt}
+use Rattle.problem.specs.Extended.{judgeNext}
+use Rattle.problem.specs.Claims.{NextClause}
 use Rattle.problem.specs.contracts.PastLine.{pastLine}
 use Rattle.problem.proofs.Lines.{line-printed}
-use Rattle.problem.proofs.Judges.{atom-reached, atoms-reached}
+use Rattle.problem.proofs.Judges.{ClauseJudged, passed, fault-found, atom-reached, atoms-reached, clause-found}
+use Rattle.problem.proofs.TableLayout.{weights-snoc}
+use Rattle.problem.proofs.WellFormed.{clause-short}
 use Rattle.problem.proofs.Refusals.{SpanBy, atoms-numbered}
 
 -- a frame printed is read as the line that holds it
@@ -162,3 +168,61 @@ judged-past c arities sum f small long =
     ap (judgeClause c arities sum) (sym (take-append-drop 35 f))
     ∙ clause-longer c arities g (drop 35 f) sum (simp length-drop (omega arith)) (omega arith)
     (λ a b. omega (arith, after-most arities g small (getD g 1 0) 3, after-most arities g small (getD g 2 0) (afterAtoms arities g (getD g 1 0) 3)))
+
+-- ---- a frame as the next clause line
+
+-- a frame that is taken
+record Taken (q : Problem) (f : List ℕ) (v : ℕ) : Type 0 where
+  kind : getD f 0 0 ≡ 3
+  room : length (q .clauses) ≡ 64 → ⊥
+  judged : judgeClause (q .constants) (q .arities) (weights (q .constants) (q .clauses)) f ≡ Found v
+
+module _ (q : Problem) (f : List ℕ) (v : ℕ) (found : judgeNext q f ≡ Found v) where
+  taken : Taken q f v
+  unfolding judgeNext
+  taken =
+      let kind = passed (eqb (getD f 0 0) 3) _ _ _ (fault-found 2 v) found in
+      go (eqb→eq (getD f 0 0) 3 (kind .0)) (same-or-other (length (q .clauses)) 64) (kind .1)
+    where
+      judged : Judged
+      judged = judgeClause (q .constants) (q .arities) (weights (q .constants) (q .clauses)) f
+
+      go : getD f 0 0 ≡ 3 → (length (q .clauses) ≡ 64) ⊎ (length (q .clauses) ≡ 64 → ⊥) → cond (eqb (length (q .clauses)) 64) (Fault 5) judged ≡ Found v → Taken q f v
+      go kind (inl e) s = absurd (fault-found 5 v (rw (eq-eqb (length (q .clauses)) 64 e) at s))
+      go kind (inr n) s = record { kind = kind; room = n; judged = rw (ne-eqb (length (q .clauses)) 64 n) at s }
+
+  clause : ClauseJudged (q .constants) (q .arities) (weights (q .constants) (q .clauses)) f v
+  clause = clause-found (q .constants) (q .arities) (weights (q .constants) (q .clauses)) f v (taken .judged) (taken .kind)
+
+  pub next-clause : Fits q → NextClause q f (clauseAt (q .arities) f v)
+  next-clause fits =
+      let k = clauseAt (q .arities) f v in
+      let short = clause-short (q .constants) (q .arities) (fits .predicates-fit) (fits .arities-fit) k (clause .fits) in
+      record {
+        said = sym (clause .bytes);
+        short = omega (arith, short, ap length (clause .bytes));
+        fits = record {
+          constants-fit = fits .constants-fit;
+          limit-four = fits .limit-four;
+          limit-bytes = fits .limit-bytes;
+          some-predicate = fits .some-predicate;
+          predicates-fit = fits .predicates-fit;
+          arities-fit = fits .arities-fit;
+          atoms-fit = fits .atoms-fit;
+          clauses-fit = simp length-append (omega (arith, fits .clauses-fit, taken .room));
+          each-fits = all-append (ClauseFits (q .constants) (q .arities)) (q .clauses) (k ∷ []) (fits .each-fits) (clause .fits, tt);
+          weights-fit = rw (weights-snoc (q .constants) (q .clauses) k) (clause .light);
+        };
+      }
+
+  pub left-over : (bs : List ℕ) (b : ℕ) → judgeNext q (f ++ (b ∷ bs)) ≡ Fault 3
+  unfolding judgeNext pastLine
+  left-over bs b =
+      let two : 2 < length f = omega (arith, ap length (clause .bytes)) in
+      rw (
+        List·getD-append f (b ∷ bs) 0 0 (omega arith),
+        eq-eqb (getD f 0 0) 3 (taken .kind),
+        ne-eqb (length (q .clauses)) 64 (taken .room),
+      )
+      (clause-longer (q .constants) (q .arities) f (b ∷ bs) (weights (q .constants) (q .clauses)) (omega arith) two (λ m n. omega (arith, clause .ended))
+      ∙ rw (taken .judged))
