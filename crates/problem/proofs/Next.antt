@@ -1,5 +1,5 @@
 -- The bytes of a frame as a problem's next clause line, and a frame that goes on past a line.
-use Prim.Native.Nat.{ℕ, zero, suc, _+_, _*_, _^_, _≤_, _<_}
+use Prim.Native.Nat.{ℕ, zero, suc, _+_, _-_, _*_, _^_, _≤_, _<_}
 use mathlib.Core.Bool.{Bool, true, false, cond}
 use mathlib.Core.List.{List, [], _∷_, _++_}
 use mathlib.Core.Logic.{_⊎_, inl, inr}
@@ -19,16 +19,18 @@ use Rattle.problem.specs.declared.judge.Judged.the-variants.{Fault, Foun
 use Rattle.problem.specs.declared.judge.Span.{Span}
 use Rattle.problem.specs.declared.judge.Span.the-variants.{Broken, Reached}
 use Rattle.problem.specs.Digit.{hexLine}
-use Rattle.problem.specs.Line.{lineAt, frameAt}
+use Rattle.problem.specs.Line.{lineAt, frameAt, afterLine}
 use Rattle.problem.specs.Problem.{Problem, ClauseFits, Fits, weights}
 use Rattle.problem.specs.Judge.{judgeArg, judgeArgs, judgeAtom, judgeAtoms, judgeEnd, judgeBody, judgeClause, afterAtom, afterAtoms, clauseAt}
-use Rattle.problem.specs.Extended.{judgeNext}
+use Rattle.problem.specs.Parse.{Parsed, refused, parsed, parseClauses, parse}
+use Rattle.problem.specs.Extended.{withClause, judgeNext, textWith, nextRead}
 use Rattle.problem.specs.Claims.{NextClause}
 use Rattle.problem.specs.contracts.PastLine.{pastLine}
-use Rattle.problem.proofs.Lines.{line-printed}
+use Rattle.problem.proofs.Lines.{Holding, line-printed}
 use Rattle.problem.proofs.Judges.{ClauseJudged, passed, fault-found, atom-reached, atoms-reached, clause-found}
 use Rattle.problem.proofs.TableLayout.{weights-snoc}
 use Rattle.problem.proofs.WellFormed.{clause-short}
+use Rattle.problem.proofs.Accepted.{past-line, past-test, lines-taken, last-taken}
 use Rattle.problem.proofs.Refusals.{SpanBy, atoms-numbered}
 
 -- a frame printed is read as the line that holds it
@@ -226,3 +228,62 @@ module _ (q : Problem) (f : List ℕ) (v : ℕ) (found : judgeNext q f ≡ Found
       )
       (clause-longer (q .constants) (q .arities) f (b ∷ bs) (weights (q .constants) (q .clauses)) (omega arith) two (λ m n. omega (arith, clause .ended))
       ∙ rw (taken .judged))
+
+-- ---- the longer text is read so
+
+module _ (q : Problem) (f : List ℕ) (kind : getD f 0 0 ≡ 3) where
+  -- "5 after 64 clauses", and else it is judged
+  next-full : length (q .clauses) ≡ 64 → judgeNext q f ≡ Fault 5
+  unfolding judgeNext
+  next-full e = rw (kind, eq-eqb (length (q .clauses)) 64 e)
+
+  next-judged : (length (q .clauses) ≡ 64 → ⊥) → judgeNext q f ≡ judgeClause (q .constants) (q .arities) (weights (q .constants) (q .clauses)) f
+  unfolding judgeNext
+  next-judged n = rw (kind, ne-eqb (length (q .clauses)) 64 n)
+
+  -- of a text in which the frame's line stands at a place, and then the last line
+  module _ (fits : Fits q) (x : List ℕ) (at : ℕ) (held : Holding x at f (hexLine (255 ∷ suc (length (q .clauses)) ∷ []))) where
+    abbrev here : ℕ
+    here = 2 + length (q .arities) + length (q .clauses)
+
+    -- the last line after the clause
+    clause-last : (left v : ℕ) → judgeNext q f ≡ Found v
+        → parseClauses x (q .constants) (q .limit) (q .arities) left (q .clauses ++ (clauseAt (q .arities) f v ∷ [])) (suc here) (afterLine at (length f))
+        ≡ parsed (withClause q (clauseAt (q .arities) f v))
+    clause-last left v found =
+        let k = clauseAt (q .arities) f v in
+        let count : suc (length (q .clauses)) ≡ length (q .clauses ++ (k ∷ [])) = simp length-append (omega arith) in
+        last-taken (withClause q k) (next-clause q f v found fits .fits) x (suc here) (afterLine at (length f))
+        (held .rest ∙ ap (λ (n : ℕ). hexLine (255 ∷ n ∷ [])) count) left
+
+    clause-next : (left : ℕ) → left ≡ 64 - length (q .clauses)
+        → parseClauses x (q .constants) (q .limit) (q .arities) left (q .clauses) here at ≡ nextRead q f (judgeNext q f)
+    unfolding parseClauses
+    clause-next zero e =
+        past-line here (lineAt x at) _ (length f) (held .line)
+        ∙ past-test (eqb (getD (frameAt x at (length f)) 0 0) 3) _ _ (rw (held .frame, kind))
+        ∙ rw (next-full (omega (arith, fits .clauses-fit)))
+    clause-next (suc left) e =
+        past-line here (lineAt x at) _ (length f) (held .line)
+        ∙ past-test (eqb (getD (frameAt x at (length f)) 0 0) 3) _ _ (rw (held .frame, kind))
+        ∙ rw (held .frame, ← next-judged (λ full. omega arith)) (go (judgeNext q f) refl)
+      where
+        go : (o : Judged) → judgeNext q f ≡ o
+            → _≡_ {A = Parsed} (elim o [
+              | Fault n ↦ refused n here
+              | Found v ↦
+                  parseClauses x (q .constants) (q .limit) (q .arities) left (q .clauses ++ (clauseAt (q .arities) (frameAt x at (length f)) v ∷ [])) (suc here)
+                  (afterLine at (length f))
+            ]) (nextRead q f o)
+        go (Fault n) found = refl
+        go (Found v) found = rw (held .frame) (clause-last left v found)
+
+pub next-line : (q : Problem) (f : List ℕ) → Fits q → All (λ b. b < 256) f → length f ≤ 35 → getD f 0 0 ≡ 3 → parse (textWith q f) ≡ nextRead q f (judgeNext q f)
+unfolding textWith
+next-line q [] fits bytes short kind = absurd (omega arith)
+next-line q (b ∷ bs) fits bytes short kind =
+    let f = b ∷ bs in
+    let last = hexLine (255 ∷ suc (length (q .clauses)) ∷ []) in
+    let lines = lines-taken q fits (textWith q f) (hexLine f ++ last) refl in
+    let held = line-printed (textWith q f) (lines .at) f last bytes (omega arith) (omega arith) (lines .rest) in
+    lines .read ∙ clause-next q f kind fits (textWith q f) (lines .at) held (64 - length (q .clauses)) refl
