@@ -43,7 +43,7 @@ line-of-frame f rest bytes some short =
 -- ---- a frame that goes on: what is judged of the bytes that it begins with is judged of it
 
 module _ (c : ℕ) (arities f more : List ℕ) where
-  -- a byte of the front is there, and the same
+  -- a byte of the front is there in both
   there : {R : Type 0} (j : ℕ) (r missing : R) → j < length f → cond (ltb j (length (f ++ more))) r missing ≡ cond (ltb j (length f)) r missing
   there j r missing h = rw (lt-ltb j (length f) h, lt-ltb j (length (f ++ more)) (simp length-append (omega arith)))
 
