@@ -146,7 +146,7 @@ module _ (n m s c p : ℕ) (limit : List ℕ) (four : length limit ≡ 4) (atoms
       ap (λ (l : List ℕ). set l 2 count) (parts-weighed ks k before from w part old few room wide place whole) ∙ recounted old count (ks ++ (k ∷ []))
 
 -- the last of the clauses fits as they do
-last-fits : (c : ℕ) (arities : List ℕ) (ks : List Clause) (k : Clause) → All (ClauseFits c arities) (ks ++ (k ∷ [])) → ClauseFits c arities k
+pub last-fits : (c : ℕ) (arities : List ℕ) (ks : List Clause) (k : Clause) → All (ClauseFits c arities) (ks ++ (k ∷ [])) → ClauseFits c arities k
 last-fits c arities [] k a = a .0
 last-fits c arities (x ∷ ks) k a = last-fits c arities ks k (a .1)
 
