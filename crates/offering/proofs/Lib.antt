@@ -1,2 +1,3 @@
 pub mod NextLaws
 pub mod OfferLaws
+pub mod Theorems

@@ -138,7 +138,7 @@ module _ (tb f slip : List ℕ) (n : ℕ) (refusal : n ≡ refusalOf tb (ltb (le
     pub lent : Taken tb (ltb (length slip) 37)
     lent = taken tb (ltb (length slip) 37) (sym refusal ∙ none)
 
-    offer-taken : (offeringOf (judgeNext (own tb) f) ≡ offerResult tb f slip) × (unlessFault (judgeNext (own tb) f) slip (slipOver (length ((own tb) .clauses)) f slip) ≡ offerLeaves tb f slip)
+    pub offer-taken : (offeringOf (judgeNext (own tb) f) ≡ offerResult tb f slip) × (unlessFault (judgeNext (own tb) f) slip (slipOver (length ((own tb) .clauses)) f slip) ≡ offerLeaves tb f slip)
     unfolding offerResult offerLeaves
     offer-taken =
         let short = ltb (length slip) 37 in
@@ -190,7 +190,7 @@ module _ (tb slip : List ℕ) (n : ℕ) (refusal : n ≡ refusalOf tb (ltb (leng
     abbrev Judges : Judged → Type 0
     Judges j = (offeringOf j ≡ setResult tb slip) × (unlessFault j tb (readLeaves (textWith (own tb) (frameHeld slip)) tb) ≡ setLeaves tb slip)
 
-    set-taken : Judges (judgeSlip (own tb) slip)
+    pub set-taken : Judges (judgeSlip (own tb) slip)
     unfolding setResult setLeaves
     set-taken =
         let short = ltb (length slip) 37 in
