@@ -9,7 +9,8 @@ use lib.Dec.{T, eqb, ltb, eqb→eq}
 use lib.ListN.{length, take, drop, getD, replicate, length-append, length-drop}
 use lib.Seq.{take-at, drop-at}
 use Rattle.lists.specs.Bytes.{pad}
-use Rattle.lists.specs.Member.{All}
+use Rattle.lists.specs.Key.{natKey}
+use Rattle.lists.specs.Member.{All, In}
 use Rattle.lists.proofs.Bytes.{pad-length}
 use Rattle.lists.proofs.Test.{T-true}
 use Rattle.problem.specs.declared.judge.Judged.{Judged}
@@ -30,7 +31,8 @@ use Rattle.writing.proofs.LentLaws.{refusal-none, Taken}
 use Rattle.offering.specs.declared.offer.Offering.{Offering}
 use Rattle.offering.specs.declared.offer.Offering.the-variants.{Refused, Done}
 use Rattle.offering.specs.Offer.{slipOver, countHeld, frameHeld, offeringOf, unlessFault, offerResult, offerLeaves, judgeSlip, setResult, setLeaves}
-use Rattle.offering.specs.Claims.{problemLent, Held, afterOffers, asRead, SetAs, Theorems}
+use Rattle.offering.specs.Claims.{problemLent, Held, afterOffers, asRead, SetAs, clauseRefusals, Theorems}
+use Rattle.offering.proofs.RefusalLaws.{next-numbers, slip-numbers, said-numbers}
 use Rattle.offering.proofs.OfferLaws.{frame-short, next-read, own-lawful, offer-refused, lent, offer-taken, set-refused, set-lent, set-taken}
 
 -- ---- what was taken, and what was not
@@ -90,6 +92,18 @@ module _ (tb slip : List ℕ) where
       go : (n : ℕ) → n ≡ refusalOf tb (ltb (length slip) 37) → Settled tb slip
       go zero e = let t = set-lent tb slip 0 e refl in tests t (eqb (countHeld slip) (length ((problemLent tb) .clauses))) refl (ltb (getD slip 1 0) 36) (slip-judged t)
       go (suc n) e = absurd (refused-done (suc n) (set-refused tb slip (suc n) e (omega arith) .0 ∙ done))
+
+-- ---- the numbers of refusals
+
+refusals : (tb f slip : List ℕ) (e : ℕ) → offerResult tb f slip ≡ Refused e → In natKey (11 ∷ 31 ∷ clauseRefusals) e
+unfolding offerResult
+refusals tb f slip e =
+    said-numbers (In natKey (11 ∷ 31 ∷ clauseRefusals)) (ltb (length tb) 4096 || ltb (length slip) 37) (isValid (take 4096 tb)) (judgeNext (problemLent tb) f) e tt tt (next-numbers (problemLent tb) f)
+
+set-refusals : (tb slip : List ℕ) (e : ℕ) → setResult tb slip ≡ Refused e → In natKey (11 ∷ 31 ∷ 43 ∷ clauseRefusals) e
+unfolding setResult
+set-refusals tb slip e =
+    said-numbers (In natKey (11 ∷ 31 ∷ 43 ∷ clauseRefusals)) (ltb (length tb) 4096 || ltb (length slip) 37) (isValid (take 4096 tb)) (judgeSlip (problemLent tb) slip) e tt tt (slip-numbers (problemLent tb) slip)
 
 -- ---- a refusal changes nothing
 
@@ -263,6 +277,8 @@ set-as-read tb f slip done =
 pub theorems : Theorems
 theorems =
     record {
+      refusals = refusals;
+      set-refusals = set-refusals;
       unoffered-kept = unoffered-kept;
       unset-kept = unset-kept;
       slip-holds = slip-holds;

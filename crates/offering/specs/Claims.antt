@@ -4,7 +4,8 @@ use Prim.Native.Nat.{ℕ, _+_, _-_, _≤_, _<_}
 use mathlib.Core.List.{List, [], _∷_, _++_}
 use mathlib.Core.Path.{_≡_}
 use lib.ListN.{length, take, drop, getD, replicate}
-use Rattle.lists.specs.Member.{All}
+use Rattle.lists.specs.Key.{natKey}
+use Rattle.lists.specs.Member.{All, In}
 use Rattle.problem.specs.Problem.{Clause, Problem, Fits}
 use Rattle.problem.specs.Layout.{layout, problemIn}
 use Rattle.problem.specs.Table.{Valid}
@@ -45,7 +46,14 @@ pub record SetAs (tb slip : List ℕ) : Type 0 where
   pub added : setLeaves tb slip ≡ layout (withClause (problemLent tb) clause) ++ drop 4096 tb
   pub valid : Valid (take 4096 (setLeaves tb slip))
 
+-- "the refusal (2, 3, 5 to 8 or 10) that reading it as the next clause line would give"
+abbrev pub clauseRefusals : List ℕ
+clauseRefusals = 2 ∷ 3 ∷ 5 ∷ 6 ∷ 7 ∷ 8 ∷ 10 ∷ []
+
 pub record Theorems : Type 0 where
+  -- which numbers an offer is refused by, and a setting
+  pub refusals : (tb f slip : List ℕ) (e : ℕ) → offerResult tb f slip ≡ Refused e → In natKey (11 ∷ 31 ∷ clauseRefusals) e
+  pub set-refusals : (tb slip : List ℕ) (e : ℕ) → setResult tb slip ≡ Refused e → In natKey (11 ∷ 31 ∷ 43 ∷ clauseRefusals) e
   -- a refusal changes nothing
   pub unoffered-kept : (tb f slip : List ℕ) (e : ℕ) → offerResult tb f slip ≡ Refused e → offerLeaves tb f slip ≡ slip
   pub unset-kept : (tb slip : List ℕ) (e : ℕ) → setResult tb slip ≡ Refused e → setLeaves tb slip ≡ tb
