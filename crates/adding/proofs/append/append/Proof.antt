@@ -56,5 +56,5 @@ append-spec =
     let s = c .before .before .before .before .before .before .before .before .before in
     let at : ℕ = 144 + 56 * getD (s .args .table .now) 2 0 in
     let whole : at + 56 - at ≡ 56 = omega arith in
-    subst (λ (ys : List ℕ). Appended (s .args .table .now) (s .args .rec .now) (withRecord at (at + 56 - at) ys ((c .before .before .before .before) .weight-of .result) (getD (s .args .table .now) 2 0 + 1) (s .args .table .now))) (sym (copied c))
-    (appended (s .args .table .now) (s .pre .0) (s .args .rec .now) at (at + 56 - at) ((c .before .before .before .before) .weight-of .result) (s .pre .1 .0) (s .pre .1 .1) refl whole ((c .before .before .before .before) .weight-of .ensures))))  -- returns
+    subst (λ (ys : List ℕ). Appended (s .args .table .now) (s .args .rec .now) (withRecord at (at + 56 - at) ys (c .before .before .before .before .weight-of .result) (getD (s .args .table .now) 2 0 + 1) (s .args .table .now))) (sym (copied c))
+    (appended (s .args .table .now) (s .pre .0) (s .args .rec .now) at (at + 56 - at) (c .before .before .before .before .weight-of .result) (s .pre .1 .0) (s .pre .1 .1) refl whole (c .before .before .before .before .weight-of .ensures))))  -- returns

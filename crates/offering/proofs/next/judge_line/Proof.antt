@@ -1,6 +1,6 @@
 -- `next::judge_line` meets its contract.
-use Prim.Native.Nat.{ℕ, _≤_}
-use mathlib.Core.Path.{sym, subst}
+use Prim.Native.Nat.{_≤_}
+use native.Mathlib.Omega.{arith}
 use borrow.Author.Needs.{needs}
 use Rattle.adding.proofs.AppendLaws.{weights-small}
 use Rattle.offering.proofs.NextLaws.{lawful-indexed, line-put, judged-put}
@@ -16,6 +16,13 @@ judge-line-spec =
     (λ c κs. search needs)  -- powers-requires
     (λ c. search needs)  -- slice-aggregate-clause
     (λ c κs. search needs)  -- weight-of-requires
-    (λ c κs. let s = c .before .before .before .before .before .before .before .before .before .before .before in let a = s .pre .1 .0 in ((c .before .before .before .before) .powers .ensures, (line-put _ (a .2) (a .0) (a .1) ((c .before .before .before .before .before .before) .put-line .ensures), (lawful-indexed _ (s .pre .0), (subst (λ (n : ℕ). n ≤ 16384) (sym ((c .before .before) .weight-of .ensures)) (weights-small _ (s .pre .0)), s .pre .1 .1)))))  -- clause-requires
+    (λ c κs.
+    let s = c .before .before .before .before .before .before .before .before .before .before .before in
+    let a = s .pre .1 .0 in
+    let light : c .before .before .weight-of .result ≤ 16384 = omega (arith, c .before .before .weight-of .ensures, weights-small _ (s .pre .0)) in
+    (c .before .before .before .before .powers .ensures, (line-put _ (a .2) (a .0) (a .1) (c .before .before .before .before .before .before .put-line .ensures), (lawful-indexed _ (s .pre .0), (omega arith, s .pre .1 .1)))))  -- clause-requires
     (λ c. search needs)  -- same-length
-    (λ c. let s = c .before .before .before .before .before .before .before .before .before .before .before .before .before .before in let a = s .pre .1 .0 in judged-put _ (a .2) (a .0) (a .1) ((c .before .before .before .before .before .before .before .before .before) .put-line .ensures) _ _ _ _ _ ((c .before .before .before .before .before) .weight-of .ensures) ((c .before .before) .clause .ensures)))  -- returns
+    (λ c.
+    let s = c .before .before .before .before .before .before .before .before .before .before .before .before .before .before in
+    let a = s .pre .1 .0 in
+    judged-put _ (a .2) (a .0) (a .1) (c .before .before .before .before .before .before .before .before .before .put-line .ensures) _ _ _ _ _ (c .before .before .before .before .before .weight-of .ensures) (c .before .before .clause .ensures)))  -- returns

@@ -36,10 +36,10 @@ put-line-spec =
     let s = c .before .before .before .before .before .before .before .before .before in
     (omega arith, puts-more hexByte (λ i. getD (s .args .frame .now) i 0) 2 (l .j) (l .inv .1) (omega arith) (k .put-byte .ensures), k .put-byte .kept .0 ∙ l .inv .2))  -- loop-again
     (λ c κs. let l = c .before .before .loop in omega (arith, l .inv .1 .next, l .inv .1 .few))  -- put-end-requires
-    (λ c. let l = c .before .before .before .before .before .loop in (c .before .before) .put-end .kept .0 ∙ l .inv .2)  -- same-length
+    (λ c. let l = c .before .before .before .before .before .loop in c .before .before .put-end .kept .0 ∙ l .inv .2)  -- same-length
     (λ c.
     let l = c .before .before .before .before .before .loop in
     let s = c .before .before .before .before .before .before .before .before in
     let f = s .args .frame .now in
     let done = puts-done hexByte (λ i. getD f i 0) 2 (l .j) (length f) (2 * length f) (l .inv .1) (omega arith) (omega arith) in
-    put-most (put-line f (put-as done (ap (flatMap hexByte) (tabulate-of (λ i. getD f i 0) 0 f (length f) refl (λ i h. refl)))) (omega arith) ((c .before .before) .put-end .ensures)) (omega arith)))  -- returns
+    put-most (put-line f (put-as done (ap (flatMap hexByte) (tabulate-of (λ i. getD f i 0) 0 f (length f) refl (λ i h. refl)))) (omega arith) (c .before .before .put-end .ensures)) (omega arith)))  -- returns

@@ -13,8 +13,14 @@ add-spec =
     (λ c. search needs)  -- enum-known-judged
     (λ c. search needs)  -- enum-told
     (λ c. search needs)  -- slice-aggregate-append
-    (λ c κs. let s = c .before .before .before .before .before .before .before .before .before .before in (s .pre, (add-room _ _ (s .pre) _ ((c .before .before .before .before .before) .judge-next .ensures .judged) _ ((c .before .before) .enum-told .given .1), (c .before .before .before .before .before) .judge-next .ensures .size)))  -- append-requires
+    (λ c κs.
+    let s = c .before .before .before .before .before .before .before .before .before .before in
+    let judged = c .before .before .before .before .before .judge-next .ensures in
+    (s .pre, (add-room _ _ (s .pre) _ (judged .judged) _ (c .before .before .enum-told .given .1), judged .size)))  -- append-requires
     (λ c. search needs)  -- same-length
-    (λ c. let s = c .before .before .before .before .before .before .before .before .before in add-fault _ _ (s .pre) _ ((c .before .before .before .before) .judge-next .ensures .judged) _ ((c .before) .judged .given .1))  -- returns
+    (λ c. let s = c .before .before .before .before .before .before .before .before .before in add-fault _ _ (s .pre) _ (c .before .before .before .before .judge-next .ensures .judged) _ (c .before .judged .given .1))  -- returns
     (λ c. search needs)  -- same-length-2
-    (λ c. let s = c .before .before .before .before .before .before .before .before .before .before .before .before .before in add-done _ _ (s .pre) _ ((c .before .before .before .before .before .before .before .before) .judge-next .ensures .judged) _ ((c .before .before .before .before .before) .enum-told .given .1) _ _ ((c .before .before .before .before .before .before .before .before) .judge-next .ensures) ((c .before .before) .append .ensures)))  -- returns-2
+    (λ c.
+    let s = c .before .before .before .before .before .before .before .before .before .before .before .before .before in
+    let judged = c .before .before .before .before .before .before .before .before .judge-next .ensures in
+    add-done _ _ (s .pre) _ (judged .judged) _ (c .before .before .before .before .before .enum-told .given .1) _ _ judged (c .before .before .append .ensures)))  -- returns-2

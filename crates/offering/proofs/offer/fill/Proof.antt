@@ -22,5 +22,13 @@ fill-spec =
     (λ c. search needs)  -- part-copy-start
     (λ c. let s = c .before .before .before .before .before .before in simp length-set (omega (arith, blank-room (s .args .slip .now) (c .before .before .zero .last .0) (s .pre .0) (c .before .before .zero .ensures))))  -- part-copy-end
     (λ c κs. search needs)  -- copy-requires
-    (λ c. let s = c .before .before .before .before .before .before .before .before .before .before in slip-kept (s .args .slip .now) ((c .before .before .before .before .before .before) .zero .last .0) (s .pre .0) ((c .before .before .before .before .before .before) .zero .ensures) (s .args .frame .now) ((c .before .before) .copy .last .0) (s .args .count) (s .pre .1) ((c .before .before) .copy .ensures))  -- same-length
-    (λ c. let s = c .before .before .before .before .before .before .before .before .before .before in slip-filled (s .args .slip .now) ((c .before .before .before .before .before .before) .zero .last .0) (s .pre .0) ((c .before .before .before .before .before .before) .zero .ensures) (s .args .frame .now) ((c .before .before) .copy .last .0) (s .args .count) (s .pre .1) ((c .before .before) .copy .ensures)))  -- returns
+    (λ c.
+    let s = c .before .before .before .before .before .before .before .before .before .before in
+    let zero = c .before .before .before .before .before .before .zero in
+    let copy = c .before .before .copy in
+    slip-kept (s .args .slip .now) (zero .last .0) (s .pre .0) (zero .ensures) (s .args .frame .now) (copy .last .0) (s .args .count) (s .pre .1) (copy .ensures))  -- same-length
+    (λ c.
+    let s = c .before .before .before .before .before .before .before .before .before .before in
+    let zero = c .before .before .before .before .before .before .zero in
+    let copy = c .before .before .copy in
+    slip-filled (s .args .slip .now) (zero .last .0) (s .pre .0) (zero .ensures) (s .args .frame .now) (copy .last .0) (s .args .count) (s .pre .1) (copy .ensures)))  -- returns
