@@ -1,4 +1,5 @@
-/* Lutsamik: reads and writes tickets, fits them by two engines, rewrites them, and judges answers to them.
+/* Lutsamik: reads and writes tickets, adds rules to them, fits them by two engines, rewrites them, and judges
+ * answers to them.
  *
  * Link with liblutsamik.a, for x86-64: `make install` puts it, this header and a pkg-config file in place.
  * The library keeps no state, takes no memory and calls nothing but memcpy and memset: an operation works on the
@@ -16,6 +17,11 @@
  *   operation               is lent                      refuses by     leaves
  *   lutsamik_read           text; writes table           11, 1 to 10    table: its 4,096 bytes, 0 where unused
  *   lutsamik_write          table; writes out            11, 31         out: the text
+ *   lutsamik_offer          table, frame; writes slip    11, 31, and    slip: its 37 bytes, 0 where unused
+ *                                                        2, 3, 5 to 8,
+ *                                                        10
+ *   lutsamik_set            table, slip; writes table    11, 31, 43,    table: that of the ticket with the clause of
+ *                                                        and as above   the slip after the others
  *   lutsamik_judge          table, answer                11, 31, 32     nothing is written
  *   lutsamik_holding        table, answer                11, 31, 32, 44 nothing is written
  *   lutsamik_rewrite        table; writes rules          11, 31         rules: the rules
@@ -25,8 +31,8 @@
  *                           answer, work                                answer, work: as lutsamik_fit_relevancy does
  *
  * Refusals are looked for in the order given. Bytes past those named are as they were, also those of a buffer that
- * is longer than it must be. What a written buffer held before does not matter. A is the ticket's number of ground
- * atoms, 1,024 at most.
+ * is longer than it must be. What a written buffer held before does not matter, but for the table that a rule is set
+ * in. A is the ticket's number of ground atoms, 1,024 at most.
  *
  * An engine runs until its walk ends or has made as many entries as the ticket allows, however long that takes. It
  * calls itself along its path of up to 1,024 entries: leave it 2 MB of stack, in which the tests walk such paths.
@@ -44,11 +50,13 @@ extern "C" {
 /* What a buffer must hold at least, whatever the ticket. */
 #define LUTSAMIK_TABLE_BYTES 4096
 #define LUTSAMIK_TEXT_BYTES 7168
+#define LUTSAMIK_SLIP_BYTES 37
 #define LUTSAMIK_RULES_BYTES 16384
 #define LUTSAMIK_ANSWER_BYTES 1024
 #define LUTSAMIK_WORK_BYTES 65536
 
-/* Refusals. 1 to 10 come from reading and name a line of the text; the others name none. */
+/* Refusals. 1 to 10 come from reading, where they name a line of the text, and 2, 3, 5 to 8 and 10 from offering and
+ * setting a rule too; but for reading's, none names a line. */
 enum {
     LUTSAMIK_OK = 0,              /* not refused */
     LUTSAMIK_BAD_LINE = 1,        /* no digits, an odd number, more than 70, a foreign byte, no 0A */
@@ -64,6 +72,7 @@ enum {
     LUTSAMIK_SHORT_BUFFER = 11,   /* a buffer is shorter than it must be */
     LUTSAMIK_NO_TABLE = 31,       /* the first 4,096 bytes are not what some accepted text reads to */
     LUTSAMIK_BAD_ANSWER = 32,     /* one of the answer's first A bytes is neither 0 nor 1 */
+    LUTSAMIK_STALE_SLIP = 43,     /* the slip's number of clauses is not the ticket's */
     LUTSAMIK_NO_INSTANCE = 44     /* the ticket lacks the clause, or a value of its variables */
 };
 
@@ -91,6 +100,24 @@ uint64_t lutsamik_read(const uint8_t *text, size_t text_len, uint8_t *table, siz
 
 /* Writes out the ticket in a table: the very text that was read. lutsamik_written says how many bytes it has. */
 uint64_t lutsamik_write(const uint8_t *table, size_t table_len, uint8_t *out, size_t out_len);
+
+/* Offers a rule to the ticket in a table: the bytes of a clause line's frame, as its digits stand for them. The
+ * result is 0, or has the refusal that reading them as the next clause line would give: LUTSAMIK_BAD_KIND where
+ * there are no bytes or the first is not 03, LUTSAMIK_BAD_COUNT where the ticket has 64 clauses, and so on. Bytes
+ * left over are LUTSAMIK_BAD_LENGTH, however many. The table does not change.
+ *
+ * A slip is bytes and not a struct: it may be kept anywhere, at any alignment, and no layout rule of a compiler
+ * matters. Byte 0 is the number of clauses that the ticket had, byte 1 the number of the frame's bytes, 35 at most;
+ * then they stand, and zeros to the slip's end. */
+uint64_t lutsamik_offer(const uint8_t *table, size_t table_len, const uint8_t *frame, size_t frame_len,
+                        uint8_t *slip, size_t slip_len);
+
+/* Sets the rule that a slip holds: its clause is added to the ticket in a table, after the others. The result is 0,
+ * or has a refusal: LUTSAMIK_STALE_SLIP where the ticket has more or fewer clauses than when the rule was offered,
+ * and else what offering the frame would give, since a slip may hold anything; one that says it has more than 35
+ * bytes is LUTSAMIK_BAD_LENGTH. If only offers were made in between, a rule that was offered is set. The table is
+ * then the one that the ticket's text reads to with the rule's line before FF, and FF one higher. */
+uint64_t lutsamik_set(uint8_t *table, size_t table_len, const uint8_t *slip, size_t slip_len);
 
 /* Judges whether the atoms that an answer marks are a fitting of the ticket in a table.
  *

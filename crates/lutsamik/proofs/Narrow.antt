@@ -1,15 +1,17 @@
 -- What each operation answers has room in its bits, and a refusal's number is not 0.
 use Prim.Native.Nat.{ℕ, zero, suc, _^_, _≤_, _<_}
-use mathlib.Core.Bool.{Bool, true, false, cond, _||_}
+use mathlib.Core.Bool.{Bool, true, false, cond, _&&_, _||_}
 use mathlib.Core.List.{List, [], _∷_}
 use mathlib.Core.Option.{Option, none, some}
 use mathlib.Core.Path.{_≡_, refl, subst}
 use native.Mathlib.Omega.{arith}
-use lib.Dec.{T, ltb}
+use lib.Dec.{T, ltb, ltb→lt}
 use lib.ListN.{length, take, getD}
-use Rattle.lists.specs.Member.{All, every, first}
+use Rattle.lists.specs.Key.{natKey}
+use Rattle.lists.specs.Member.{All, In, every, first}
+use Rattle.lists.specs.Test.{T-left, T-right}
 use Rattle.lists.proofs.Digits.{horner-below}
-use Rattle.lists.proofs.Member.{all-map, first-some}
+use Rattle.lists.proofs.Member.{all-map, every-all, has-all, first-some}
 use Rattle.search.specs.Ground.{Found}
 use Rattle.search.specs.Machine.{Outcome, Satisfied, Refuted, Exhausted, outcome}
 use Rattle.search.specs.Relevancy.{findR}
@@ -33,6 +35,11 @@ use Rattle.ground.specs.declared.verdict.Verdict.the-variants as verdict
 use Rattle.ground.specs.Instance.{Instance, InstanceOf, groundOf, groundIn}
 use Rattle.ground.specs.Verdict.{verdictOf}
 use Rattle.ground.proofs.Order.{instances-are}
+use Rattle.offering.specs.declared.offer.Offering.{Offering}
+use Rattle.offering.specs.declared.offer.Offering.the-variants as offering
+use Rattle.offering.specs.Offer.{offerResult, setResult}
+use Rattle.offering.specs.Claims.{clauseRefusals}
+use Rattle.offering.proofs.Theorems.{theorems as offerings}
 use Rattle.judging.specs.declared.judge.Judging.{Judging}
 use Rattle.judging.specs.declared.judge.Judging.the-variants as judging
 use Rattle.judging.specs.ModelCheck.{violates, named, checkOf, judgeable, judgeResult}
@@ -63,6 +70,10 @@ NarrowReading reading.Accepted = Unit
 abbrev pub NarrowWriting : Writing → Type 0
 NarrowWriting (writing.Unwritten e) = Number e
 NarrowWriting (writing.Written n) = Value n
+
+abbrev pub NarrowOffering : Offering → Type 0
+NarrowOffering (offering.Refused e) = Number e
+NarrowOffering offering.Done = Unit
 
 -- each of the values 80 to 83 in a byte of its own
 abbrev pub NarrowJudging : Judging → Type 0
@@ -115,6 +126,31 @@ unfolding writeResult print
 narrow-writing tb out =
     said NarrowWriting (ltb (length tb) 4096 || ltb (length out) 7168) (isValid (take 4096 tb)) (writing.Unwritten 11) (writing.Written (length (print (take 4096 tb)))) (writing.Unwritten 31)
     number-11 (λ v. omega (arith, text-short (problemIn (take 4096 tb)) (valid-table (take 4096 tb) v .fits))) number-31
+
+-- ---- an offer, and what is set
+
+-- one of a few numbers
+abbrev isNumber : ℕ → Bool
+isNumber e = ltb 0 e && ltb e 256
+
+number-of : (numbers : List ℕ) → T (every isNumber numbers) → (e : ℕ) → In natKey numbers e → Number e
+number-of numbers each e h =
+    let t : T (isNumber e) = has-all natKey (λ n. T (isNumber n)) numbers (every-all isNumber numbers each) e h in
+    (ltb→lt 0 e (T-left (ltb 0 e) (ltb e 256) t), ltb→lt e 256 (T-right (ltb 0 e) (ltb e 256) t))
+
+pub narrow-offer : (tb f slip : List ℕ) → NarrowOffering (offerResult tb f slip)
+narrow-offer tb f slip = go (offerResult tb f slip) refl
+  where
+    go : (o : Offering) → offerResult tb f slip ≡ o → NarrowOffering o
+    go (offering.Refused e) q = number-of (11 ∷ 31 ∷ clauseRefusals) tt e (offerings .refusals tb f slip e q)
+    go offering.Done q = tt
+
+pub narrow-set : (tb slip : List ℕ) → NarrowOffering (setResult tb slip)
+narrow-set tb slip = go (setResult tb slip) refl
+  where
+    go : (o : Offering) → setResult tb slip ≡ o → NarrowOffering o
+    go (offering.Refused e) q = number-of (11 ∷ 31 ∷ 43 ∷ clauseRefusals) tt e (offerings .set-refusals tb slip e q)
+    go offering.Done q = tt
 
 -- ---- a violated instance
 

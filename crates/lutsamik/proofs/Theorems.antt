@@ -13,6 +13,9 @@ use Rattle.reading.specs.Read.{readResult}
 use Rattle.writing.specs.declared.write.Writing.{Writing}
 use Rattle.writing.specs.declared.write.Writing.the-variants as writing
 use Rattle.writing.specs.Write.{writeResult}
+use Rattle.offering.specs.declared.offer.Offering.{Offering}
+use Rattle.offering.specs.declared.offer.Offering.the-variants as offering
+use Rattle.offering.specs.Offer.{offerResult, setResult}
 use Rattle.ground.specs.declared.verdict.Verdict.{Verdict}
 use Rattle.ground.specs.declared.verdict.Verdict.the-variants as verdict
 use Rattle.judging.specs.declared.judge.Judging.{Judging}
@@ -26,9 +29,9 @@ use Rattle.rewriting.specs.declared.rewrite.Rewriting.the-variants as rewriting
 use Rattle.rewriting.specs.Rewrite.{rewriteResult}
 use Rattle.relevancy.specs.Engine.{fitResult}
 use Rattle.magic.specs.Engine.{magicResult}
-use Rattle.lutsamik.specs.Pack.{packed, packReading, packWriting, packJudging, packHolding, packVerdict, packRewriting, unpacked, asReading, asWriting, violatedBy, asJudging, asHolding, asVerdict, asRewriting}
+use Rattle.lutsamik.specs.Pack.{packed, packReading, packWriting, packOffering, packJudging, packHolding, packVerdict, packRewriting, unpacked, asReading, asWriting, asOffering, violatedBy, asJudging, asHolding, asVerdict, asRewriting}
 use Rattle.lutsamik.specs.Claims.{Narrow, Theorems}
-use Rattle.lutsamik.proofs.Narrow.{NarrowReading, NarrowWriting, NarrowJudging, NarrowHolding, NarrowVerdict, NarrowRewriting, narrow-reading, narrow-writing, narrow-judging, narrow-holding, narrow-relevancy, narrow-magic, narrow-rewriting}
+use Rattle.lutsamik.proofs.Narrow.{NarrowReading, NarrowWriting, NarrowOffering, NarrowJudging, NarrowHolding, NarrowVerdict, NarrowRewriting, narrow-reading, narrow-writing, narrow-offer, narrow-set, narrow-judging, narrow-holding, narrow-relevancy, narrow-magic, narrow-rewriting}
 
 -- a part of a number, between what stands above it and what stands below
 part : (n above w q m below : ℕ) → n ≡ (above * w + q) * m + below → q < w → below < m → n / m % w ≡ q
@@ -62,6 +65,10 @@ writing-back : (w : Writing) → NarrowWriting w → asWriting (unpacked (packWr
 writing-back (writing.Unwritten e) h = ap asWriting (parts-back (refusedAt e 0) (refused-narrow e 0 (h .1) (omega arith))) ∙ rw (ne-eqb e 0 (omega arith))
 writing-back (writing.Written n) h = ap asWriting (parts-back (answered 0 n) (answered-narrow 0 n (omega arith) h))
 
+offering-back : (o : Offering) → NarrowOffering o → asOffering (unpacked (packOffering o)) ≡ o
+offering-back (offering.Refused e) h = ap asOffering (parts-back (refusedAt e 0) (refused-narrow e 0 (h .1) (omega arith))) ∙ rw (ne-eqb e 0 (omega arith))
+offering-back offering.Done h = refl
+
 judging-back : (j : Judging) → NarrowJudging j → asJudging (unpacked (packJudging j)) ≡ j
 judging-back (judging.Unjudged e) h = ap asJudging (parts-back (refusedAt e 0) (refused-narrow e 0 (h .1) (omega arith))) ∙ rw (ne-eqb e 0 (omega arith))
 judging-back judging.Model h = refl
@@ -92,6 +99,8 @@ theorems =
       parts-back = parts-back;
       reading-back = λ x tb. reading-back (readResult x tb) (narrow-reading x tb);
       writing-back = λ tb out. writing-back (writeResult tb out) (narrow-writing tb out);
+      offer-back = λ tb f slip. offering-back (offerResult tb f slip) (narrow-offer tb f slip);
+      set-back = λ tb slip. offering-back (setResult tb slip) (narrow-set tb slip);
       judging-back = λ tb answer. judging-back (judgeResult tb answer) (narrow-judging tb answer);
       holding-back = λ tb answer k a b c d. holding-back (holdingResult tb answer k a b c d) (narrow-holding tb answer k a b c d);
       rewriting-back = λ tb rules. rewriting-back (rewriteResult tb rules) (narrow-rewriting tb rules);

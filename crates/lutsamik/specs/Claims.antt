@@ -5,12 +5,13 @@ use mathlib.Core.Path.{_≡_}
 use Rattle.problem.specs.Numbers.{Numbers}
 use Rattle.reading.specs.Read.{readResult}
 use Rattle.writing.specs.Write.{writeResult}
+use Rattle.offering.specs.Offer.{offerResult, setResult}
 use Rattle.judging.specs.ModelCheck.{judgeResult}
 use Rattle.judging.specs.Holding.{holdingResult}
 use Rattle.rewriting.specs.Rewrite.{rewriteResult}
 use Rattle.relevancy.specs.Engine.{fitResult}
 use Rattle.magic.specs.Engine.{magicResult}
-use Rattle.lutsamik.specs.Pack.{packed, packReading, packWriting, packJudging, packHolding, packVerdict, packRewriting, unpacked, asReading, asWriting, asJudging, asHolding, asVerdict, asRewriting}
+use Rattle.lutsamik.specs.Pack.{packed, packReading, packWriting, packOffering, packJudging, packHolding, packVerdict, packRewriting, unpacked, asReading, asWriting, asOffering, asJudging, asHolding, asVerdict, asRewriting}
 
 -- numbers that have room in their bits
 pub record Narrow (a : Numbers) : Type 0 where
@@ -23,6 +24,8 @@ pub record Theorems : Type 0 where
   pub parts-back : (a : Numbers) → Narrow a → unpacked (packed a) ≡ a
   pub reading-back : (x tb : List ℕ) → asReading (unpacked (packReading (readResult x tb))) ≡ readResult x tb
   pub writing-back : (tb out : List ℕ) → asWriting (unpacked (packWriting (writeResult tb out))) ≡ writeResult tb out
+  pub offer-back : (tb f slip : List ℕ) → asOffering (unpacked (packOffering (offerResult tb f slip))) ≡ offerResult tb f slip
+  pub set-back : (tb slip : List ℕ) → asOffering (unpacked (packOffering (setResult tb slip))) ≡ setResult tb slip
   pub judging-back : (tb answer : List ℕ) → asJudging (unpacked (packJudging (judgeResult tb answer))) ≡ judgeResult tb answer
   pub holding-back : (tb answer : List ℕ) (k a b c d : ℕ) → asHolding (unpacked (packHolding (holdingResult tb answer k a b c d))) ≡ holdingResult tb answer k a b c d
   pub rewriting-back : (tb rules : List ℕ) → asRewriting (unpacked (packRewriting (rewriteResult tb rules))) ≡ rewriteResult tb rules

@@ -13,6 +13,9 @@ use Rattle.reading.specs.Read.{readingNumbers}
 use Rattle.writing.specs.declared.write.Writing.{Writing}
 use Rattle.writing.specs.declared.write.Writing.the-variants as writing
 use Rattle.writing.specs.Write.{writingNumbers}
+use Rattle.offering.specs.declared.offer.Offering.{Offering}
+use Rattle.offering.specs.declared.offer.Offering.the-variants as offering
+use Rattle.offering.specs.Offer.{offeringNumbers}
 use Rattle.judging.specs.declared.judge.Judging.{Judging}
 use Rattle.judging.specs.declared.judge.Judging.the-variants as judging
 use Rattle.judging.specs.ModelCheck.{judgingNumbers}
@@ -35,6 +38,9 @@ packReading r = packed (readingNumbers r)
 abbrev pub packWriting : Writing → ℕ
 packWriting w = packed (writingNumbers w)
 
+abbrev pub packOffering : Offering → ℕ
+packOffering o = packed (offeringNumbers o)
+
 abbrev pub packJudging : Judging → ℕ
 packJudging j = packed (judgingNumbers j)
 
@@ -56,6 +62,9 @@ asReading a = cond (eqb (a .refusal) 0) reading.Accepted (reading.Refused (a .re
 
 abbrev pub asWriting : Numbers → Writing
 asWriting a = cond (eqb (a .refusal) 0) (writing.Written (a .value)) (writing.Unwritten (a .refusal))
+
+abbrev pub asOffering : Numbers → Offering
+asOffering a = cond (eqb (a .refusal) 0) offering.Done (offering.Refused (a .refusal))
 
 -- clause k with the values of 83, 82, 81 and 80
 abbrev pub violatedBy : ℕ → List ℕ → Judging

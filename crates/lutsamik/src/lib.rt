@@ -3,18 +3,20 @@ use ground::verdict::Verdict;
 use ground::verdict::number_of;
 use judging::how_far::Holding;
 use judging::judge::Judging;
+use offering::offer::Offering;
 use reading::read::Reading;
 use rewriting::rewrite::Rewriting;
 use writing::write::Writing;
 ghost use mathlib.Core.Path.{_≡_};
 ghost use Rattle.reading.specs.Read.{readResult, readLeaves};
 ghost use Rattle.writing.specs.Write.{writeResult, writeLeaves};
+ghost use Rattle.offering.specs.Offer.{offerResult, offerLeaves, setResult, setLeaves};
 ghost use Rattle.judging.specs.ModelCheck.{judgeResult};
 ghost use Rattle.judging.specs.Holding.{holdingResult};
 ghost use Rattle.relevancy.specs.Engine.{fitResult, fitAnswer, fitWork};
 ghost use Rattle.magic.specs.Engine.{magicResult, magicRules, magicAnswer, magicWork};
 ghost use Rattle.rewriting.specs.Rewrite.{rewriteResult, rewriteLeaves};
-ghost use Rattle.lutsamik.specs.Pack.{packed, packReading, packWriting, packJudging, packHolding, packVerdict, packRewriting};
+ghost use Rattle.lutsamik.specs.Pack.{packed, packReading, packWriting, packOffering, packJudging, packHolding, packVerdict, packRewriting};
 
 // An answer's numbers as one.
 fn packed(refusal: u8, number: u8, clause: u8, value: u32) -> u64
@@ -41,6 +43,15 @@ fn pack_writing(w: Writing) -> u64
     match w {
         Writing::Unwritten(e) => packed(e, 0, 0, 0),
         Writing::Written(size) => packed(0, 0, 0, size as u32),
+    }
+}
+
+fn pack_offering(o: Offering) -> u64
+    ensures { λ n. ⌜ n ≡ packOffering o ⌝ }
+{
+    match o {
+        Offering::Refused(e) => packed(e, 0, 0, 0),
+        Offering::Done => packed(0, 0, 0, 0),
     }
 }
 
@@ -97,6 +108,22 @@ pub extern "C" fn lutsamik_write(table: &[u8], out: &mut [u8]) -> u64
     ensures { λ n. ⌜ (n ≡ packWriting (writeResult (now (table .entry)) (now (out .entry)))) × (now (out .exit) ≡ writeLeaves (now (table .entry)) (now (out .entry))) ⌝ }
 {
     pack_writing(writing::write::write(table, out))
+}
+
+// Offers the bytes of a clause frame to a table, with a slip of 37 bytes.
+#[no_mangle]
+pub extern "C" fn lutsamik_offer(table: &[u8], frame: &[u8], slip: &mut [u8]) -> u64
+    ensures { λ n. ⌜ (n ≡ packOffering (offerResult (now (table .entry)) (now (frame .entry)) (now (slip .entry)))) × (now (slip .exit) ≡ offerLeaves (now (table .entry)) (now (frame .entry)) (now (slip .entry))) ⌝ }
+{
+    pack_offering(offering::offer::offer(table, frame, slip))
+}
+
+// Sets the clause frame that a slip holds.
+#[no_mangle]
+pub extern "C" fn lutsamik_set(table: &mut [u8], slip: &[u8]) -> u64
+    ensures { λ n. ⌜ (n ≡ packOffering (setResult (now (table .entry)) (now (slip .entry)))) × (now (table .exit) ≡ setLeaves (now (table .entry)) (now (slip .entry))) ⌝ }
+{
+    pack_offering(offering::offer::set(table, slip))
 }
 
 // Judges an answer of 1,024 bytes by a table.

@@ -1,5 +1,5 @@
 -- The text of a well-formed problem is read to it.
-use Prim.Native.Nat.{ℕ, zero, suc, _+_, _≤_}
+use Prim.Native.Nat.{ℕ, zero, suc, _+_, _-_, _≤_}
 use mathlib.Core.Bool.{Bool, true, false}
 use mathlib.Core.List.{List, [], _∷_, _++_, append-assoc, append-nil, flatMap}
 use mathlib.Core.Path.{_≡_, refl, sym, ap, _∙_}
@@ -19,7 +19,7 @@ use Rattle.problem.specs.Line.{lineAt, frameAt, afterLine}
 use Rattle.problem.specs.Problem.{Clause, Problem, ClauseFits, Fits, atomCount, weights}
 use Rattle.problem.specs.Judge.{judgeHeading, judgeArity, judgeClause}
 use Rattle.problem.specs.Parse.{Parsed, refused, parsed, judgeClosing, parseEnd, parseClosing, parseClauses, parseArities, parse}
-use Rattle.problem.specs.Print.{headingFrame, arityFrame, clauseFrame, closingFrame, textOf}
+use Rattle.problem.specs.Print.{headingFrame, arityFrame, clauseFrame, closingFrame, linesOf, textOf}
 use Rattle.problem.proofs.Lines.{Holding, line-past, line-printed}
 use Rattle.problem.proofs.Parse.{arityLines, clauseLines}
 use Rattle.problem.proofs.TableLayout.{atomCount-snoc, weights-snoc}
@@ -27,7 +27,7 @@ use Rattle.problem.proofs.WellFormed.{heading-taken, arity-taken, claus
 
 -- reading goes on past a line, a judge and a test
 module _ (line : ℕ) where
-  past-line : (o : Line) (g : ℕ → Parsed) (n : ℕ) → o ≡ Holds n → _≡_ {A = Parsed} (elim o [ Absent ↦ refused 2 line | Bad ↦ refused 1 line | Holds m ↦ g m ]) (g n)
+  pub past-line : (o : Line) (g : ℕ → Parsed) (n : ℕ) → o ≡ Holds n → _≡_ {A = Parsed} (elim o [ Absent ↦ refused 2 line | Bad ↦ refused 1 line | Holds m ↦ g m ]) (g n)
   past-line o g n e = rw e
 
   past-judge : (o : Judged) (g : ℕ → Parsed) (v : ℕ) → o ≡ Found v → _≡_ {A = Parsed} (elim o [ Fault e ↦ refused e line | Found w ↦ g w ]) (g v)
@@ -36,7 +36,7 @@ module _ (line : ℕ) where
   past-heading : (o : Heading) (g : ℕ → ℕ → Parsed) (c p : ℕ) → o ≡ Sizes c p → _≡_ {A = Parsed} (elim o [ Wrong e ↦ refused e line | Sizes d r ↦ g d r ]) (g c p)
   past-heading o g c p e = rw e
 
-past-test : (b : Bool) (r t : Parsed) → b ≡ true → _≡_ {A = Parsed} (elim b [ true ↦ r | false ↦ t ]) r
+pub past-test : (b : Bool) (r t : Parsed) → b ≡ true → _≡_ {A = Parsed} (elim b [ true ↦ r | false ↦ t ]) r
 past-test b r t e = rw e
 
 other-test : (b : Bool) (r t : Parsed) → b ≡ false → _≡_ {A = Parsed} (elim b [ true ↦ r | false ↦ t ]) t
@@ -84,69 +84,84 @@ module _ (q : Problem) (fits : Fits q) (x : List ℕ) where
         ∙ past-test (eqb (getD (frameAt x at 2) 0 0) 255) _ _ (rw (last-held .frame))
         ∙ closing-read
 
-    last-taken : (left : ℕ) → parseClauses x (q .constants) (q .limit) (q .arities) left (q .clauses) line at ≡ parsed q
+    pub last-taken : (left : ℕ) → parseClauses x (q .constants) (q .limit) (q .arities) left (q .clauses) line at ≡ parsed q
     unfolding parseClauses
     last-taken zero = no-clause _
     last-taken (suc left) = no-clause _
 
+-- reading so comes to what stands after the clause lines of a problem
+pub record LinesTaken (q : Problem) (x last : List ℕ) (o : Parsed) : Type 0 where
+  pub at : ℕ
+  pub rest : drop at x ≡ last
+  pub read : o ≡ parseClauses x (q .constants) (q .limit) (q .arities) (64 - length (q .clauses)) (q .clauses) (2 + length (q .arities) + length (q .clauses)) at
+
+lines-on : (q : Problem) (x last : List ℕ) (o p : Parsed) → o ≡ p → LinesTaken q x last p → LinesTaken q x last o
+lines-on q x last o p e r = record { at = r .at; rest = r .rest; read = e ∙ r .read }
+
+module _ (q : Problem) (fits : Fits q) (x last : List ℕ) where
   clauses-taken : (rest : List Clause) (left : ℕ) (ks : List Clause) (line at : ℕ) → ks ++ rest ≡ q .clauses → length ks + left ≡ 64
-      → All (ClauseFits (q .constants) (q .arities)) rest → weights (q .constants) ks + weights (q .constants) rest ≤ 16384
-      → drop at x ≡ clauseLines rest ++ hexLine (closingFrame q) → parseClauses x (q .constants) (q .limit) (q .arities) left ks line at ≡ parsed q
+      → line ≡ 2 + length (q .arities) + length ks → All (ClauseFits (q .constants) (q .arities)) rest → weights (q .constants) ks + weights (q .constants) rest ≤ 16384
+      → drop at x ≡ clauseLines rest ++ last → LinesTaken q x last (parseClauses x (q .constants) (q .limit) (q .arities) left ks line at)
   unfolding parseClauses flatMap
-  clauses-taken [] left ks line at whole count fit light e =
+  clauses-taken [] left ks line at whole count place fit light e =
       let same : ks ≡ q .clauses = sym (append-nil ks) ∙ whole in
-      rw same (last-taken line at e left)
-  clauses-taken (k ∷ rest) zero ks line at whole count fit light e =
+      let room : left ≡ 64 - length ks = omega arith in
+      record { at = at; rest = e; read = rw (place, room, same) }
+  clauses-taken (k ∷ rest) zero ks line at whole count place fit light e =
       absurd (omega (arith, fits .clauses-fit, simp length-append at (ap length whole)))
-  clauses-taken (k ∷ rest) (suc left) ks line at whole count fit light e =
+  clauses-taken (k ∷ rest) (suc left) ks line at whole count place fit light e =
       let f = clauseFrame k in
       let n = length f in
       let held =
-      line-printed x at f (clauseLines rest ++ hexLine (closingFrame q))
+      line-printed x at f (clauseLines rest ++ last)
       (clause-bytes (q .constants) (q .arities) (fits .predicates-fit) (fits .arities-fit) k (fit .0)) (omega arith)
       (clause-short (q .constants) (q .arities) (fits .predicates-fit) (fits .arities-fit) k (fit .0))
-      (e ∙ append-assoc (hexLine f) (clauseLines rest) (hexLine (closingFrame q)))
+      (e ∙ append-assoc (hexLine f) (clauseLines rest) last)
       in
-      past-line line (lineAt x at) _ n (held .line)
+      lines-on q x last _ _
+      (past-line line (lineAt x at) _ n (held .line)
       ∙ past-test (eqb (getD (frameAt x at n) 0 0) 3) _ _ (rw (held .frame))
       ∙ past-judge line (judgeClause (q .constants) (q .arities) (weights (q .constants) ks) (frameAt x at n)) _ (k .vars)
-      (rw (held .frame) (clause-taken (q .constants) (q .arities) k (fit .0) (weights (q .constants) ks) (omega arith)))
-      ∙ rw (held .frame, clause-cut (q .constants) (q .arities) k (fit .0))
-      (clauses-taken rest left (ks ++ (k ∷ [])) (suc line) (afterLine at n) (append-snoc ks k rest ∙ whole) (simp length-append (omega arith))
-      (fit .1) (rw (weights-snoc (q .constants) ks k) (omega arith)) (held .rest))
+      (rw (held .frame) (clause-taken (q .constants) (q .arities) k (fit .0) (weights (q .constants) ks) (omega arith))))
+      (rw (held .frame, clause-cut (q .constants) (q .arities) k (fit .0))
+      (clauses-taken rest left (ks ++ (k ∷ [])) (suc line) (afterLine at n) (append-snoc ks k rest ∙ whole) (simp length-append (omega arith)) (simp length-append (omega arith))
+      (fit .1) (rw (weights-snoc (q .constants) ks k) (omega arith)) (held .rest)))
 
-  arities-taken : (rest arities : List ℕ) (line at : ℕ) → arities ++ rest ≡ q .arities → All (λ a. a ≤ 3) rest
-      → atomCount (q .constants) arities + atomCount (q .constants) rest ≤ 1024
-      → drop at x ≡ arityLines rest ++ (clauseLines (q .clauses) ++ hexLine (closingFrame q))
-      → parseArities x (q .constants) (q .limit) (length rest) arities line at ≡ parsed q
+  arities-taken : (rest arities : List ℕ) (line at : ℕ) → arities ++ rest ≡ q .arities → line ≡ 2 + length arities → All (λ a. a ≤ 3) rest
+      → atomCount (q .constants) arities + atomCount (q .constants) rest ≤ 1024 → drop at x ≡ arityLines rest ++ (clauseLines (q .clauses) ++ last)
+      → LinesTaken q x last (parseArities x (q .constants) (q .limit) (length rest) arities line at)
   unfolding parseArities flatMap
-  arities-taken [] arities line at whole fit room e =
+  arities-taken [] arities line at whole place fit room e =
       let same : arities ≡ q .arities = sym (append-nil arities) ∙ whole in
-      rw same (clauses-taken (q .clauses) 64 [] line at refl refl (fits .each-fits) (omega (arith, fits .weights-fit)) e)
-  arities-taken (a ∷ rest) arities line at whole fit room e =
+      rw same (clauses-taken (q .clauses) 64 [] line at refl refl (omega (arith, ap length same)) (fits .each-fits) (omega (arith, fits .weights-fit)) e)
+  arities-taken (a ∷ rest) arities line at whole place fit room e =
       let small : a ≤ 3 = fit .0 in
-      let after = arityLines rest ++ (clauseLines (q .clauses) ++ hexLine (closingFrame q)) in
       let held =
-      line-printed x at (arityFrame a) after (omega arith, (omega arith, tt)) (omega arith) (omega arith)
-      (e ∙ append-assoc (hexLine (arityFrame a)) (arityLines rest) (clauseLines (q .clauses) ++ hexLine (closingFrame q)))
+      line-printed x at (arityFrame a) (arityLines rest ++ (clauseLines (q .clauses) ++ last)) (omega arith, (omega arith, tt)) (omega arith) (omega arith)
+      (e ∙ append-assoc (hexLine (arityFrame a)) (arityLines rest) (clauseLines (q .clauses) ++ last))
       in
-      past-line line (lineAt x at) _ 2 (held .line)
+      lines-on q x last _ _
+      (past-line line (lineAt x at) _ 2 (held .line)
       ∙ past-judge line (judgeArity (q .constants) (atomCount (q .constants) arities) (frameAt x at 2)) _ a
-      (rw (held .frame) (arity-taken (q .constants) (atomCount (q .constants) arities) a small (omega arith)))
-      ∙ arities-taken rest (arities ++ (a ∷ [])) (suc line) (afterLine at 2) (append-snoc arities a rest ∙ whole) (fit .1)
-      (rw (atomCount-snoc (q .constants) arities a) (omega arith)) (held .rest)
+      (rw (held .frame) (arity-taken (q .constants) (atomCount (q .constants) arities) a small (omega arith))))
+      (arities-taken rest (arities ++ (a ∷ [])) (suc line) (afterLine at 2) (append-snoc arities a rest ∙ whole) (simp length-append (omega arith)) (fit .1)
+      (rw (atomCount-snoc (q .constants) arities a) (omega arith)) (held .rest))
 
-  text-taken : x ≡ textOf q → parse x ≡ parsed q
-  unfolding parse textOf
-  text-taken e =
+  pub lines-taken : x ≡ linesOf q last → LinesTaken q x last (parse x)
+  unfolding parse
+  lines-taken e =
       let f = headingFrame q in
       let eight : length f ≡ 8 = omega (arith, fits .limit-four) in
-      let after = arityLines (q .arities) ++ (clauseLines (q .clauses) ++ hexLine (closingFrame q)) in
+      let after = arityLines (q .arities) ++ (clauseLines (q .clauses) ++ last) in
       let held = line-printed x 0 f after (heading-bytes q fits) (omega arith) (omega arith) (e ∙ simp append-assoc) in
       let limit : take 4 (drop 4 f) ≡ q .limit = take-all 4 (q .limit) (omega (arith, fits .limit-four)) in
-      past-line 1 (lineAt x 0) _ (length f) (held .line)
-      ∙ past-heading 1 (judgeHeading (frameAt x 0 (length f))) _ (q .constants) (length (q .arities)) (rw (held .frame) (heading-taken q fits))
-      ∙ rw (held .frame, limit) (arities-taken (q .arities) [] 2 (afterLine 0 (length f)) refl (fits .arities-fit) (omega (arith, fits .atoms-fit)) (held .rest))
+      lines-on q x last _ _
+      (past-line 1 (lineAt x 0) _ (length f) (held .line)
+      ∙ past-heading 1 (judgeHeading (frameAt x 0 (length f))) _ (q .constants) (length (q .arities)) (rw (held .frame) (heading-taken q fits)))
+      (rw (held .frame, limit) (arities-taken (q .arities) [] 2 (afterLine 0 (length f)) refl refl (fits .arities-fit) (omega (arith, fits .atoms-fit)) (held .rest)))
 
 pub parse-accepts : (q : Problem) → Fits q → parse (textOf q) ≡ parsed q
-parse-accepts q fits = text-taken q fits (textOf q) refl
+unfolding textOf
+parse-accepts q fits =
+    let lines = lines-taken q fits (textOf q) (hexLine (closingFrame q)) refl in
+    lines .read ∙ last-taken q fits (textOf q) (2 + length (q .arities) + length (q .clauses)) (lines .at) (lines .rest) (64 - length (q .clauses))

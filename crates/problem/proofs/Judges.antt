@@ -362,6 +362,7 @@ pub record ClauseJudged (c : ℕ) (arities : List ℕ) (sum : ℕ) (f : List ℕ
   pub bytes : f ≡ clauseFrame (clauseAt arities f v)
   pub fits : ClauseFits c arities (clauseAt arities f v)
   pub light : sum + weight c (clauseAt arities f v) ≤ 16384
+  pub ended : afterAtoms arities f (getD f 2 0) (afterAtoms arities f (getD f 1 0) 3) ≡ length f
 
 module _ (c : ℕ) (arities : List ℕ) (sum : ℕ) (f : List ℕ) (v : ℕ) where
   -- what the alternatives name is named by the conditions
@@ -402,6 +403,7 @@ module _ (c : ℕ) (arities : List ℕ) (sum : ℕ) (f : List ℕ) (v : ℕ) whe
           in-order = rw (← rest) (clause-ordered i j n m conds alts);
         };
         light = rw first light;
+        ended = rw (← conds .place) (sym (alts .place) ∙ end);
       }
 
   pub clause-found : judgeClause c arities sum f ≡ Found v → getD f 0 0 ≡ 3 → ClauseJudged c arities sum f v

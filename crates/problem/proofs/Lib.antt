@@ -7,6 +7,7 @@ pub mod Parse
 pub mod WellFormed
 pub mod Accepted
 pub mod Refusals
+pub mod Next
 pub mod Access
 pub mod Cases
 pub mod Theorems

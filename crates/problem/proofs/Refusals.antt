@@ -26,13 +26,17 @@ use Rattle.problem.proofs.Judges.{heading-sizes}
 abbrev Numbered : ℕ → Type 0
 Numbered e = T (leb 1 e && leb e 10)
 
-abbrev JudgedNumbered : Judged → Type 0
-JudgedNumbered (Fault e) = Numbered e
-JudgedNumbered (Found v) = Unit
+-- if a fault, then one with such a number
+abbrev pub JudgedBy : (ℕ → Type 0) → Judged → Type 0
+JudgedBy N (Fault e) = N e
+JudgedBy N (Found v) = Unit
 
-abbrev SpanNumbered : Span → Type 0
-SpanNumbered (Broken e) = Numbered e
-SpanNumbered (Reached i w) = Unit
+abbrev pub SpanBy : (ℕ → Type 0) → Span → Type 0
+SpanBy N (Broken e) = N e
+SpanBy N (Reached i w) = Unit
+
+abbrev JudgedNumbered : Judged → Type 0
+JudgedNumbered o = JudgedBy Numbered o
 
 abbrev HeadingNumbered : Heading → Type 0
 HeadingNumbered (Wrong e) = Numbered e
@@ -44,17 +48,18 @@ either P true r missing p m = p
 either P false r missing p m = m
 
 -- a fault is passed on with its number
-arg-passed : (o : Judged) (g : ℕ → Span) → JudgedNumbered o → ((v : ℕ) → SpanNumbered (g v)) → SpanNumbered (elim o [ Fault e ↦ Broken e | Found v ↦ g v ])
-arg-passed (Fault e) g n f = n
-arg-passed (Found v) g n f = f v
+module _ (N : ℕ → Type 0) where
+  arg-passed : (o : Judged) (g : ℕ → Span) → JudgedBy N o → ((v : ℕ) → SpanBy N (g v)) → SpanBy N (elim o [ Fault e ↦ Broken e | Found v ↦ g v ])
+  arg-passed (Fault e) g n f = n
+  arg-passed (Found v) g n f = f v
 
-atom-passed : (o : Span) (g : ℕ → ℕ → Span) → SpanNumbered o → ((i w : ℕ) → SpanNumbered (g i w)) → SpanNumbered (elim o [ Broken e ↦ Broken e | Reached i w ↦ g i w ])
-atom-passed (Broken e) g n f = n
-atom-passed (Reached i w) g n f = f i w
+  atom-passed : (o : Span) (g : ℕ → ℕ → Span) → SpanBy N o → ((i w : ℕ) → SpanBy N (g i w)) → SpanBy N (elim o [ Broken e ↦ Broken e | Reached i w ↦ g i w ])
+  atom-passed (Broken e) g n f = n
+  atom-passed (Reached i w) g n f = f i w
 
-atoms-passed : (o : Span) (g : ℕ → ℕ → Judged) → SpanNumbered o → ((i w : ℕ) → JudgedNumbered (g i w)) → JudgedNumbered (elim o [ Broken e ↦ Fault e | Reached i w ↦ g i w ])
-atoms-passed (Broken e) g n f = n
-atoms-passed (Reached i w) g n f = f i w
+  atoms-passed : (o : Span) (g : ℕ → ℕ → Judged) → SpanBy N o → ((i w : ℕ) → JudgedBy N (g i w)) → JudgedBy N (elim o [ Broken e ↦ Fault e | Reached i w ↦ g i w ])
+  atoms-passed (Broken e) g n f = n
+  atoms-passed (Reached i w) g n f = f i w
 
 heading-numbered : (f : List ℕ) → HeadingNumbered (judgeHeading f)
 unfolding judgeHeading judgeSizes
@@ -75,34 +80,38 @@ arity-numbered c atoms f =
     (either JudgedNumbered (ltb (getD f 1 0) 4) _ _
     (either JudgedNumbered (eqb (length f) 2) _ _ (either JudgedNumbered (leb (atoms + c ^ getD f 1 0) 1024) _ _ tt tt) tt) tt) tt) tt
 
-arg-numbered : (c v b : ℕ) → JudgedNumbered (judgeArg c v b)
-unfolding judgeArg judgeVariable
-arg-numbered c v b =
-    either JudgedNumbered (ltb b 32) _ _
-    (either JudgedNumbered (ltb b c) _ _ tt tt)
-    (either JudgedNumbered (leb 128 b && ltb b 132) _ _ (either JudgedNumbered (ltb (b - 128) v) _ _ tt (either JudgedNumbered (eqb (b - 128) v) _ _ tt tt)) tt)
+-- an atom's faults are 3, 6 and 7
+module _ (N : ℕ → Type 0) (three : N 3) (six : N 6) (seven : N 7) (c : ℕ) where
+  arg-numbered : (v b : ℕ) → JudgedBy N (judgeArg c v b)
+  unfolding judgeArg judgeVariable
+  arg-numbered v b =
+      either (JudgedBy N) (ltb b 32) _ _
+      (either (JudgedBy N) (ltb b c) _ _ tt six)
+      (either (JudgedBy N) (leb 128 b && ltb b 132) _ _ (either (JudgedBy N) (ltb (b - 128) v) _ _ tt (either (JudgedBy N) (eqb (b - 128) v) _ _ tt seven)) six)
 
-args-numbered : (c : ℕ) (f : List ℕ) (n j v : ℕ) → SpanNumbered (judgeArgs c f n j v)
-unfolding judgeArgs
-args-numbered c f zero j v = tt
-args-numbered c f (suc n) j v = either SpanNumbered (ltb j (length f)) _ _ (arg-passed (judgeArg c v (getD f j 0)) _ (arg-numbered c v (getD f j 0)) (λ w. args-numbered c f n (suc j) w)) tt
+  args-numbered : (f : List ℕ) (n j v : ℕ) → SpanBy N (judgeArgs c f n j v)
+  unfolding judgeArgs
+  args-numbered f zero j v = tt
+  args-numbered f (suc n) j v =
+      either (SpanBy N) (ltb j (length f)) _ _ (arg-passed N (judgeArg c v (getD f j 0)) _ (arg-numbered v (getD f j 0)) (λ w. args-numbered f n (suc j) w)) three
+
+  atom-numbered : (arities f : List ℕ) (j v : ℕ) → SpanBy N (judgeAtom c arities f j v)
+  unfolding judgeAtom
+  atom-numbered arities f j v =
+      either (SpanBy N) (ltb j (length f)) _ _
+      (either (SpanBy N) (ltb (getD f j 0) (length arities)) _ _ (args-numbered f (getD arities (getD f j 0) 0) (suc j) v) six) three
+
+  pub atoms-numbered : (arities f : List ℕ) (n j v : ℕ) → SpanBy N (judgeAtoms c arities f n j v)
+  unfolding judgeAtoms
+  atoms-numbered arities f zero j v = tt
+  atoms-numbered arities f (suc n) j v = atom-passed N (judgeAtom c arities f j v) _ (atom-numbered arities f j v) (λ i w. atoms-numbered arities f n i w)
 
 module _ (c : ℕ) (arities f : List ℕ) where
-  atom-numbered : (j v : ℕ) → SpanNumbered (judgeAtom c arities f j v)
-  unfolding judgeAtom
-  atom-numbered j v =
-      either SpanNumbered (ltb j (length f)) _ _ (either SpanNumbered (ltb (getD f j 0) (length arities)) _ _ (args-numbered c f (getD arities (getD f j 0) 0) (suc j) v) tt) tt
-
-  atoms-numbered : (n j v : ℕ) → SpanNumbered (judgeAtoms c arities f n j v)
-  unfolding judgeAtoms
-  atoms-numbered zero j v = tt
-  atoms-numbered (suc n) j v = atom-passed (judgeAtom c arities f j v) _ (atom-numbered j v) (λ i w. atoms-numbered n i w)
-
   body-numbered : (sum conds alts : ℕ) → JudgedNumbered (judgeBody c arities sum conds alts f)
   unfolding judgeBody judgeEnd
   body-numbered sum conds alts =
-      atoms-passed (judgeAtoms c arities f conds 3 0) _ (atoms-numbered conds 3 0) λ i v.
-      atoms-passed (judgeAtoms c arities f alts i v) _ (atoms-numbered alts i v) λ j w.
+      atoms-passed Numbered (judgeAtoms c arities f conds 3 0) _ (atoms-numbered Numbered tt tt tt c arities f conds 3 0) λ i v.
+      atoms-passed Numbered (judgeAtoms c arities f alts i v) _ (atoms-numbered Numbered tt tt tt c arities f alts i v) λ j w.
       either JudgedNumbered (eqb j (length f)) _ _ (either JudgedNumbered (eqb w v) _ _ (either JudgedNumbered (leb (sum + conds * c ^ v) 16384) _ _ tt tt) tt) tt
 
   clause-numbered : (sum : ℕ) → JudgedNumbered (judgeClause c arities sum f)

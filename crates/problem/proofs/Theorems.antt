@@ -14,6 +14,7 @@ use Rattle.problem.specs.Claims.{Theorems}
 use Rattle.problem.proofs.Parse.{parse-text, parse-fits}
 use Rattle.problem.proofs.Accepted.{parse-accepts}
 use Rattle.problem.proofs.Refusals.{parse-refuses}
+use Rattle.problem.proofs.Next.{next-line, next-clause, left-over}
 use Rattle.problem.proofs.Cases.{refusals-hold}
 use Rattle.problem.proofs.TableLayout.{layout-length, problem-back}
 
@@ -57,4 +58,7 @@ theorems =
       problem-back = problem-back;
       valid = λ tb. (valid-from tb, valid-to tb);
       lawful = valid-lawful;
+      next-line = next-line;
+      next-clause = λ q f v fits found. next-clause q f v found fits;
+      left-over = λ q f bs b v found. left-over q f v found bs b;
     }

@@ -1,16 +1,26 @@
 -- What is claimed of reading and writing, whatever the code. `proofs/Theorems.antt` proves `Theorems`.
-use Prim.Native.Nat.{ℕ, _≤_}
-use mathlib.Core.List.{List}
+use Prim.Native.Nat.{ℕ, _≤_, _<_}
+use mathlib.Core.List.{List, _∷_, _++_}
 use mathlib.Core.Logic.{_↔_}
 use mathlib.Core.Path.{_≡_}
 use lib.Dec.{T}
-use lib.ListN.{length}
-use Rattle.problem.specs.Problem.{Problem, Fits}
+use lib.ListN.{length, getD}
+use Rattle.lists.specs.Member.{All}
+use Rattle.problem.specs.declared.judge.Judged.the-variants.{Fault, Found}
+use Rattle.problem.specs.Problem.{Clause, Problem, Fits}
 use Rattle.problem.specs.Parse.{refused, parsed, parse}
 use Rattle.problem.specs.Layout.{layout, problemIn}
-use Rattle.problem.specs.Print.{textOf}
+use Rattle.problem.specs.Print.{clauseFrame, textOf}
 use Rattle.problem.specs.Table.{Valid, Lawful, isValid}
+use Rattle.problem.specs.Judge.{clauseAt}
+use Rattle.problem.specs.Extended.{withClause, judgeNext, textWith, nextRead}
 use Rattle.problem.specs.Cases.{RefusalsHold}
+
+-- the clause of a frame that is taken as the next clause line: its line is the frame's, which is no longer than a line, and the longer problem is well formed
+pub record NextClause (q : Problem) (f : List ℕ) (k : Clause) : Type 0 where
+  pub said : clauseFrame k ≡ f
+  pub short : length f ≤ 35
+  pub fits : Fits (withClause q k)
 
 pub record Theorems : Type 0 where
   -- exactly the texts of well-formed problems are accepted, and each reads to the problem whose text it is
@@ -26,3 +36,8 @@ pub record Theorems : Type 0 where
   pub valid : (tb : List ℕ) → T (isValid tb) ↔ Valid tb
   -- and what is found in it then keeps every bound
   pub lawful : (tb : List ℕ) → Valid tb → Lawful tb
+  -- a frame's bytes as the next clause line: the refusal is the one that reading the longer text gives, and what is taken is the longer problem
+  pub next-line : (q : Problem) (f : List ℕ) → Fits q → All (λ b. b < 256) f → length f ≤ 35 → getD f 0 0 ≡ 3 → parse (textWith q f) ≡ nextRead q f (judgeNext q f)
+  pub next-clause : (q : Problem) (f : List ℕ) (v : ℕ) → Fits q → judgeNext q f ≡ Found v → NextClause q f (clauseAt (q .arities) f v)
+  -- whatever stands after a clause is left over
+  pub left-over : (q : Problem) (f bs : List ℕ) (b v : ℕ) → judgeNext q f ≡ Found v → judgeNext q (f ++ (b ∷ bs)) ≡ Fault 3

@@ -7,6 +7,7 @@ pub mod Parse
 pub mod Layout
 pub mod Print
 pub mod Table
+pub mod Extended
 pub mod Cases
 pub mod Claims
 pub mod contracts

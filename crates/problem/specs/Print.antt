@@ -22,12 +22,16 @@ clauseFrame k = 3 ∷ length (k .conds) ∷ length (k .alts) ∷ flatMap atomByt
 abbrev pub closingFrame : Problem → List ℕ
 closingFrame q = 255 ∷ length (q .clauses) ∷ []
 
-unfoldable pub textOf : Problem → List ℕ
-textOf q =
+-- the lines of a problem up to its last clause, and then these bytes
+abbrev pub linesOf : Problem → List ℕ → List ℕ
+linesOf q last =
     hexLine (headingFrame q)
     ++ flatMap (λ a. hexLine (arityFrame a)) (q .arities)
     ++ flatMap (λ k. hexLine (clauseFrame k)) (q .clauses)
-    ++ hexLine (closingFrame q)
+    ++ last
+
+unfoldable pub textOf : Problem → List ℕ
+textOf q = linesOf q (hexLine (closingFrame q))
 
 unfoldable pub print : List ℕ → List ℕ
 print tb = textOf (problemIn tb)

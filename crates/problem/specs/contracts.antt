@@ -1,2 +1,3 @@
 -- The vocabulary of inner contracts: what functions say to each other of their buffers.
 pub mod Sized
+pub mod PastLine

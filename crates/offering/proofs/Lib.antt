@@ -1,0 +1,4 @@
+pub mod NextLaws
+pub mod OfferLaws
+pub mod RefusalLaws
+pub mod Theorems
