@@ -1,7 +1,7 @@
 -- The bytes of a frame as a problem's next clause line, and a frame that goes on past a line.
 use Prim.Native.Nat.{ℕ, zero, suc, _+_, _-_, _*_, _^_, _≤_, _<_}
 use mathlib.Core.Bool.{Bool, true, false, cond}
-use mathlib.Core.List.{List, [], _∷_, _++_}
+use mathlib.Core.List.{List, [], _∷_, _++_, append-assoc, append-nil, flatMap}
 use mathlib.Core.Logic.{_⊎_, inl, inr}
 use mathlib.Core.Path.{_≡_, refl, sym, ap, _∙_}
 use native.Mathlib.Omega.{arith}
@@ -20,14 +20,15 @@ use Rattle.problem.specs.declared.judge.Span.{Span}
 use Rattle.problem.specs.declared.judge.Span.the-variants.{Broken, Reached}
 use Rattle.problem.specs.Digit.{hexLine}
 use Rattle.problem.specs.Line.{lineAt, frameAt, afterLine}
-use Rattle.problem.specs.Problem.{Problem, ClauseFits, Fits, weights}
+use Rattle.problem.specs.Problem.{Clause, Problem, ClauseFits, Fits, weights}
 use Rattle.problem.specs.Judge.{judgeArg, judgeArgs, judgeAtom, judgeAtoms, judgeEnd, judgeBody, judgeClause, afterAtom, afterAtoms, clauseAt}
 use Rattle.problem.specs.Parse.{Parsed, refused, parsed, parseClauses, parse}
-use Rattle.problem.specs.Extended.{withClause, judgeNext, textWith, nextRead}
+use Rattle.problem.specs.Print.{headingFrame, clauseFrame, textOf}
+use Rattle.problem.specs.Extended.{withClause, judgeNext, pastLine, textWith, nextRead}
 use Rattle.problem.specs.Claims.{NextClause}
-use Rattle.problem.specs.contracts.PastLine.{pastLine}
 use Rattle.problem.proofs.Lines.{Holding, line-printed}
 use Rattle.problem.proofs.Judges.{ClauseJudged, passed, fault-found, atom-reached, atoms-reached, clause-found}
+use Rattle.problem.proofs.Parse.{arityLines, clauseLines}
 use Rattle.problem.proofs.TableLayout.{weights-snoc}
 use Rattle.problem.proofs.WellFormed.{clause-short}
 use Rattle.problem.proofs.Accepted.{past-line, past-test, lines-taken, last-taken}
@@ -229,11 +230,15 @@ module _ (q : Problem) (f : List ℕ) (v : ℕ) (found : judgeNext q f ≡ Found
       (clause-longer (q .constants) (q .arities) f (b ∷ bs) (weights (q .constants) (q .clauses)) (omega arith) two (λ m n. omega (arith, clause .ended))
       ∙ rw (taken .judged))
 
+pub next-kind : (q : Problem) (f : List ℕ) → (getD f 0 0 ≡ 3 → ⊥) → judgeNext q f ≡ Fault 2
+unfolding judgeNext
+next-kind q f other = rw (ne-eqb (getD f 0 0) 3 other)
+
 -- ---- the longer text is read so
 
 module _ (q : Problem) (f : List ℕ) (kind : getD f 0 0 ≡ 3) where
   -- "5 after 64 clauses", and else it is judged
-  next-full : length (q .clauses) ≡ 64 → judgeNext q f ≡ Fault 5
+  pub next-full : length (q .clauses) ≡ 64 → judgeNext q f ≡ Fault 5
   unfolding judgeNext
   next-full e = rw (kind, eq-eqb (length (q .clauses)) 64 e)
 
@@ -287,3 +292,33 @@ next-line q (b ∷ bs) fits bytes short kind =
     let lines = lines-taken q fits (textWith q f) (hexLine f ++ last) refl in
     let held = line-printed (textWith q f) (lines .at) f last bytes (omega arith) (omega arith) (lines .rest) in
     lines .read ∙ clause-next q f kind fits (textWith q f) (lines .at) held (64 - length (q .clauses)) refl
+
+pub next-longer : (q : Problem) (f : List ℕ) → Fits q → getD f 0 0 ≡ 3 → 35 < length f → length (q .clauses) < 64 → judgeNext q f ≡ pastLine (judgeNext q (take 35 f))
+next-longer q [] fits kind long room = absurd (omega arith)
+next-longer q (b ∷ bs) fits kind long room =
+    let f = b ∷ bs in
+    next-judged q f kind (λ full. omega arith)
+    ∙ judged-past (q .constants) (q .arities) (weights (q .constants) (q .clauses)) f (fits .arities-fit) long
+    ∙ ap pastLine (sym (next-judged q (take 35 f) kind (λ full. omega arith)))
+
+-- the lines of one clause more
+lines-longer : (k : Clause) (ks : List Clause) (last : List ℕ) → clauseLines (ks ++ (k ∷ [])) ++ last ≡ clauseLines ks ++ (hexLine (clauseFrame k) ++ last)
+unfolding flatMap
+lines-longer k [] last = rw append-nil
+lines-longer k (j ∷ ks) last =
+    append-assoc (hexLine (clauseFrame j)) (clauseLines (ks ++ (k ∷ []))) last
+    ∙ ap (λ (x : List ℕ). hexLine (clauseFrame j) ++ x) (lines-longer k ks last)
+    ∙ sym (append-assoc (hexLine (clauseFrame j)) (clauseLines ks) (hexLine (clauseFrame k) ++ last))
+
+pub text-longer : (q : Problem) (k : Clause) → textWith q (clauseFrame k) ≡ textOf (withClause q k)
+unfolding textWith textOf
+text-longer q k =
+    let count : suc (length (q .clauses)) ≡ length (q .clauses ++ (k ∷ [])) = simp length-append (omega arith) in
+    let lines : clauseLines (q .clauses) ++ (hexLine (clauseFrame k) ++ hexLine (255 ∷ suc (length (q .clauses)) ∷ []))
+    ≡ clauseLines (q .clauses ++ (k ∷ [])) ++ hexLine (255 ∷ length (q .clauses ++ (k ∷ [])) ∷ []) =
+    sym (lines-longer k (q .clauses) (hexLine (255 ∷ suc (length (q .clauses)) ∷ []))) ∙ rw count
+    in
+    let before = hexLine (headingFrame q) ++ arityLines (q .arities) in
+    append-assoc before (clauseLines (q .clauses)) (hexLine (clauseFrame k) ++ hexLine (255 ∷ suc (length (q .clauses)) ∷ []))
+    ∙ ap (λ (x : List ℕ). before ++ x) lines
+    ∙ sym (append-assoc before (clauseLines (q .clauses ++ (k ∷ []))) (hexLine (255 ∷ length (q .clauses ++ (k ∷ [])) ∷ [])))

@@ -14,7 +14,7 @@ use Rattle.problem.specs.Claims.{Theorems}
 use Rattle.problem.proofs.Parse.{parse-text, parse-fits}
 use Rattle.problem.proofs.Accepted.{parse-accepts}
 use Rattle.problem.proofs.Refusals.{parse-refuses}
-use Rattle.problem.proofs.Next.{next-line, next-clause, left-over}
+use Rattle.problem.proofs.Next.{next-kind, next-full, next-longer, text-longer, next-line, next-clause, left-over}
 use Rattle.problem.proofs.Cases.{refusals-hold}
 use Rattle.problem.proofs.TableLayout.{layout-length, problem-back}
 
@@ -60,5 +60,9 @@ theorems =
       lawful = valid-lawful;
       next-line = next-line;
       next-clause = λ q f v fits found. next-clause q f v found fits;
+      next-kind = next-kind;
+      next-full = next-full;
+      next-longer = next-longer;
       left-over = λ q f bs b v found. left-over q f v found bs b;
+      text-longer = text-longer;
     }

@@ -4,7 +4,7 @@ use mathlib.Core.List.{List, _∷_, _++_}
 use mathlib.Core.Logic.{_↔_}
 use mathlib.Core.Path.{_≡_}
 use lib.Dec.{T}
-use lib.ListN.{length, getD}
+use lib.ListN.{length, take, getD}
 use Rattle.lists.specs.Member.{All}
 use Rattle.problem.specs.declared.judge.Judged.the-variants.{Fault, Found}
 use Rattle.problem.specs.Problem.{Clause, Problem, Fits}
@@ -13,7 +13,7 @@ use Rattle.problem.specs.Layout.{layout, problemIn}
 use Rattle.problem.specs.Print.{clauseFrame, textOf}
 use Rattle.problem.specs.Table.{Valid, Lawful, isValid}
 use Rattle.problem.specs.Judge.{clauseAt}
-use Rattle.problem.specs.Extended.{withClause, judgeNext, textWith, nextRead}
+use Rattle.problem.specs.Extended.{withClause, judgeNext, pastLine, textWith, nextRead}
 use Rattle.problem.specs.Cases.{RefusalsHold}
 
 -- the clause of a frame that is taken as the next clause line: its line is the frame's, which is no longer than a line, and the longer problem is well formed
@@ -39,5 +39,12 @@ pub record Theorems : Type 0 where
   -- a frame's bytes as the next clause line: the refusal is the one that reading the longer text gives, and what is taken is the longer problem
   pub next-line : (q : Problem) (f : List ℕ) → Fits q → All (λ b. b < 256) f → length f ≤ 35 → getD f 0 0 ≡ 3 → parse (textWith q f) ≡ nextRead q f (judgeNext q f)
   pub next-clause : (q : Problem) (f : List ℕ) (v : ℕ) → Fits q → judgeNext q f ≡ Found v → NextClause q f (clauseAt (q .arities) f v)
+  -- "no bytes, or a first byte other than 03, is 2", and 5 after 64 clauses
+  pub next-kind : (q : Problem) (f : List ℕ) → (getD f 0 0 ≡ 3 → ⊥) → judgeNext q f ≡ Fault 2
+  pub next-full : (q : Problem) (f : List ℕ) → getD f 0 0 ≡ 3 → length (q .clauses) ≡ 64 → judgeNext q f ≡ Fault 5
+  -- a frame longer than a line is judged by the bytes that a line would hold
+  pub next-longer : (q : Problem) (f : List ℕ) → Fits q → getD f 0 0 ≡ 3 → 35 < length f → length (q .clauses) < 64 → judgeNext q f ≡ pastLine (judgeNext q (take 35 f))
   -- whatever stands after a clause is left over
   pub left-over : (q : Problem) (f bs : List ℕ) (b v : ℕ) → judgeNext q f ≡ Found v → judgeNext q (f ++ (b ∷ bs)) ≡ Fault 3
+  -- the text with a clause's line more is that of the problem with this clause
+  pub text-longer : (q : Problem) (k : Clause) → textWith q (clauseFrame k) ≡ textOf (withClause q k)

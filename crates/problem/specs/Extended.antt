@@ -1,8 +1,8 @@
 -- A problem with one clause more, and the bytes of a clause frame as its next clause line (02: U4).
 use Prim.Native.Nat.{ℕ, suc, _+_}
-use mathlib.Core.Bool.{cond}
+use mathlib.Core.Bool.{cond, _&&_}
 use mathlib.Core.List.{List, [], _∷_, _++_}
-use lib.Dec.{eqb}
+use lib.Dec.{eqb, leb}
 use lib.ListN.{length, getD}
 use Rattle.problem.specs.declared.judge.Judged.{Judged}
 use Rattle.problem.specs.declared.judge.Judged.the-variants.{Fault, Found}
@@ -22,6 +22,11 @@ judgeNext q f =
     cond (eqb (getD f 0 0) 3)
     (cond (eqb (length (q .clauses)) 64) (Fault 5) (judgeClause (q .constants) (q .arities) (weights (q .constants) (q .clauses)) f))
     (Fault 2)
+
+-- a frame whose first 35 bytes are judged so, and that has more: bytes left over are 3, but a fault before the end comes first
+unfoldable pub pastLine : Judged → Judged
+pastLine (Fault e) = cond (leb 5 e && leb e 7) (Fault e) (Fault 3)
+pastLine (Found v) = Fault 3
 
 -- the written-out text with the frame's line before FF, and FF one higher
 unfoldable pub textWith : Problem → List ℕ → List ℕ
