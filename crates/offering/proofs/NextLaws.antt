@@ -19,8 +19,7 @@ use Rattle.problem.specs.Problem.{firstAtom, weights}
 use Rattle.problem.specs.Judge.{judgeClause}
 use Rattle.problem.specs.Layout.{aritiesIn, problemIn, predicateRecord}
 use Rattle.problem.specs.Table.{Lawful}
-use Rattle.problem.specs.Extended.{judgeNext}
-use Rattle.problem.specs.contracts.PastLine.{pastLine}
+use Rattle.problem.specs.Extended.{judgeNext, pastLine}
 use Rattle.problem.proofs.TableLayout.{predicate-byte}
 use Rattle.problem.proofs.Access.{predicates-in}
 use Rattle.problem.proofs.Judges.{fault-found}

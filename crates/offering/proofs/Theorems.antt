@@ -175,6 +175,12 @@ slip-holds tb f slip done =
     let o = offered tb f slip done in
     subst (Held tb f) (sym (o .leaves)) (held-holds tb f slip o)
 
+slip-beyond : (tb f slip : List ℕ) → offerResult tb f slip ≡ Done → drop 37 (offerLeaves tb f slip) ≡ drop 37 slip
+slip-beyond tb f slip done =
+    let o = offered tb f slip done in
+    let size : length (pad 35 f) ≡ 35 = pad-length 35 f (few tb f slip o) in
+    ap (drop 37) (o .leaves) ∙ drop-at (length ((problemLent tb) .clauses) ∷ length f ∷ pad 35 f) (drop 37 slip) 37 (omega (arith, size))
+
 -- ---- offers in between
 
 offer-sets : (tb f slip : List ℕ) → offerResult tb f slip ≡ Done → setResult tb (offerLeaves tb f slip) ≡ Done
@@ -194,6 +200,27 @@ still-sets tb f slip sets = go (offerResult tb f slip) refl
 offers-set : (tb : List ℕ) (fs : List (List ℕ)) (slip : List ℕ) → setResult tb slip ≡ Done → setResult tb (afterOffers tb fs slip) ≡ Done
 offers-set tb [] slip sets = sets
 offers-set tb (f ∷ fs) slip sets = offers-set tb fs (offerLeaves tb f slip) (still-sets tb f slip sets)
+
+-- ---- a slip that may hold anything
+
+module _ (tb slip : List ℕ) (long : 4096 ≤ length tb) (room : 37 ≤ length slip) (valid : Valid (take 4096 tb)) where
+  any-lent : Taken tb (ltb (length slip) 37)
+  any-lent = record { long = long; room = le-ltb (length slip) 37 room; valid = T-true _ (valid-to (take 4096 tb) valid) }
+
+  any-judged : (o : Judged) → judgeSlip (problemLent tb) slip ≡ o → setResult tb slip ≡ offeringOf o
+  any-judged o e = sym (subst (Judges tb slip) e (slip-judged tb slip any-lent) .0)
+
+  seen-first : (countHeld slip ≡ length ((problemLent tb) .clauses) → ⊥) → setResult tb slip ≡ Refused 43
+  unfolding judgeSlip
+  seen-first other = any-judged (Fault 43) (rw (ne-eqb (countHeld slip) (length ((problemLent tb) .clauses)) other))
+
+  too-long : countHeld slip ≡ length ((problemLent tb) .clauses) → 36 ≤ getD slip 1 0 → setResult tb slip ≡ Refused 3
+  unfolding judgeSlip
+  too-long same long = any-judged (Fault 3) (rw (eq-eqb (countHeld slip) (length ((problemLent tb) .clauses)) same, le-ltb (getD slip 1 0) 36 long))
+
+set-as-offered : (tb slip : List ℕ) → countHeld slip ≡ length ((problemLent tb) .clauses) → getD slip 1 0 ≤ 35 → setResult tb slip ≡ offerResult tb (frameHeld slip) slip
+unfolding setResult offerResult judgeSlip
+set-as-offered tb slip same short = rw (eq-eqb (countHeld slip) (length ((problemLent tb) .clauses)) same, lt-ltb (getD slip 1 0) 36 (omega (arith, short)))
 
 -- ---- what is set
 
@@ -282,9 +309,13 @@ theorems =
       unoffered-kept = unoffered-kept;
       unset-kept = unset-kept;
       slip-holds = slip-holds;
+      slip-beyond = slip-beyond;
       offers-between = λ tb f slip fs done. offers-set tb fs (offerLeaves tb f slip) (offer-sets tb f slip done);
       set-as = λ tb slip done. set-as tb slip (settled tb slip done);
       set-once = λ tb slip done. set-once tb slip (settled tb slip done);
+      seen-first = seen-first;
+      too-long = too-long;
+      set-as-offered = set-as-offered;
       offered-as-read = offered-as-read;
       set-as-read = set-as-read;
     }

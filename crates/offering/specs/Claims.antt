@@ -59,12 +59,19 @@ pub record Theorems : Type 0 where
   pub unset-kept : (tb slip : List ℕ) (e : ℕ) → setResult tb slip ≡ Refused e → setLeaves tb slip ≡ tb
   -- "The slip holds the frame and the clause count seen."
   pub slip-holds : (tb f slip : List ℕ) → offerResult tb f slip ≡ Done → Held tb f (offerLeaves tb f slip)
+  pub slip-beyond : (tb f slip : List ℕ) → offerResult tb f slip ≡ Done → drop 37 (offerLeaves tb f slip) ≡ drop 37 slip
   -- "If only offers were made in between, setting succeeds": any number of them, with any bytes, into this slip or another
   pub offers-between : (tb f slip : List ℕ) (fs : List (List ℕ)) → offerResult tb f slip ≡ Done → setResult tb (afterOffers tb fs (offerLeaves tb f slip)) ≡ Done
   -- "Setting it adds exactly that clause after the others."
   pub set-as : (tb slip : List ℕ) → setResult tb slip ≡ Done → SetAs tb slip
   -- a slip is set once
   pub set-once : (tb slip : List ℕ) → setResult tb slip ≡ Done → setResult (setLeaves tb slip) slip ≡ Refused 43
+  -- a slip may hold anything: 43 comes before its clause is looked at, a frame longer than its room is 3, and else its clause is judged as an offer of it is
+  pub seen-first : (tb slip : List ℕ) → 4096 ≤ length tb → 37 ≤ length slip → Valid (take 4096 tb) → (countHeld slip ≡ length ((problemLent tb) .clauses) → ⊥)
+      → setResult tb slip ≡ Refused 43
+  pub too-long : (tb slip : List ℕ) → 4096 ≤ length tb → 37 ≤ length slip → Valid (take 4096 tb) → countHeld slip ≡ length ((problemLent tb) .clauses)
+      → 36 ≤ getD slip 1 0 → setResult tb slip ≡ Refused 3
+  pub set-as-offered : (tb slip : List ℕ) → countHeld slip ≡ length ((problemLent tb) .clauses) → getD slip 1 0 ≤ 35 → setResult tb slip ≡ offerResult tb (frameHeld slip) slip
   -- the refusal is the one that reading the text with this line gives, at that line
   pub offered-as-read : (tb f slip : List ℕ) → 4096 ≤ length tb → 37 ≤ length slip → Valid (take 4096 tb) → All (λ b. b < 256) f → length f ≤ 35 → getD f 0 0 ≡ 3
       → readResult (textWith (problemLent tb) f) tb ≡ asRead (2 + length ((problemLent tb) .arities) + length ((problemLent tb) .clauses)) (offerResult tb f slip)

@@ -15,7 +15,7 @@ ghost use Rattle.problem.specs.Layout.{problemIn};
 ghost use Rattle.problem.specs.Table.{Lawful};
 ghost use Rattle.writing.specs.contracts.Printed.{Put};
 ghost use Rattle.clause_line.specs.contracts.Record.{ClauseFilled};
-ghost use Rattle.problem.specs.contracts.PastLine.{pastLine};
+ghost use Rattle.problem.specs.Extended.{pastLine};
 ghost use Rattle.offering.specs.contracts.Next.{NextFilled};
 
 // Writes a frame of at most 35 bytes as a line.
