@@ -12,7 +12,8 @@ use Rattle.search.specs.Ground.{Ground, Found}
 use Rattle.search.specs.Relevancy.{findR}
 use Rattle.search.specs.Magic.{rewriting, findM}
 use Rattle.search.specs.Machine.{entered, Satisfied, last, root, trail, outcome}
-use Rattle.search.specs.Claims.{Smallest, AnyWalk, lastPlace, modelAt, SameFacts, OneTrail, Theorems}
+use Rattle.search.specs.Trails.{SameFacts, OneTrail}
+use Rattle.search.specs.Claims.{Smallest, AnyWalk, lastPlace, modelAt, Theorems}
 use Rattle.search.proofs.Cases.{cases-hold}
 use Rattle.search.proofs.Closure.{least-seeds, least-closed, least-ind}
 use Rattle.search.proofs.Machine.{entries-on, proceed-on, whole-unique, whole-over, answer-none, proceed-limit}

@@ -5,5 +5,8 @@ pub mod Magic
 pub mod Machine
 pub mod Sound
 pub mod Choice
+pub mod Trails
+pub mod Session
+pub mod SessionClaims
 pub mod Claims
 pub mod Cases
