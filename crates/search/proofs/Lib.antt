@@ -13,5 +13,8 @@ pub mod Magic
 pub mod Regroup
 pub mod OneTrail
 pub mod MagicPath
+pub mod Session
+pub mod SessionWalk
+pub mod SessionClaims
 pub mod Cases
 pub mod Theorems

@@ -16,6 +16,7 @@ use Rattle.search.specs.Ground.{Ground, Found, goals, orFalse, disjuncti
 use Rattle.search.specs.Relevancy.{isTrue, isRelevant, splittable, modelBits, foundAs, withAlts, findR}
 use Rattle.search.specs.Magic.{Magic, tru, rel, cont, heads, MagicRule, stages, rewriteInstance, rewriting, holds, ready, withHeads, findM}
 use Rattle.search.specs.Machine.{Branch, Place, entered, nextPath, answer, last, place, placed, root, entries, trail, outcome, proceed, Genuine}
+use Rattle.search.specs.Trails.{SameFacts}
 use Rattle.search.proofs.Machine.{entries-zero, entries-none, entries-some}
 use Rattle.search.proofs.Path.{Reached, place-reached, next-genuine}
 use Rattle.search.proofs.Relevancy.{relevant-false}
@@ -165,6 +166,11 @@ module _ {I : Type 0} (k : Key I) (p : Ground I) (l : List ℕ) (relevant : AllR
 -- every atom entered on the relevancy walk is relevant, so the magic walk finds its places alike
 pub magic-same : {I : Type 0} (k : Key I) (p : Ground I) (bs : List (Branch I)) → Genuine (findR p) bs → findM k (p .atoms) (rewriting p) (entered bs) ≡ findR p (entered bs)
 magic-same k p bs g = find-same k p (entered bs) (path-relevant p bs g)
+
+pub same-facts : {I : Type 0} (k : Key I) (p : Ground I) (s : Place I) → Genuine (findR p) (s .path) → (x : ℕ) → SameFacts k p s x
+same-facts k p s g x =
+    let relevant = path-relevant p (s .path) g in
+    record { relevant = same-relevant k p (entered (s .path)) relevant x; true-relevant = same-true k p (entered (s .path)) relevant x }
 
 -- two ways of finding that agree on the genuine paths of one make the same entries
 module _ {I : Type 0} (f g : List ℕ → Found I) (same : (bs : List (Branch I)) → Genuine f bs → g (entered bs) ≡ f (entered bs)) where

@@ -21,11 +21,10 @@ use Rattle.search.proofs.Path.{Reached, trail-reached, last-opened}
 use Rattle.search.proofs.Sound.{sound-walk}
 use Rattle.search.proofs.Found.{findR-opened}
 use Rattle.search.proofs.Choice.{relevancy-chooses, magic-chooses}
-use Rattle.search.proofs.Walk.{path-relevant}
 use Rattle.search.proofs.Model.{relevancy-sound}
-use Rattle.search.proofs.Magic.{same-relevant, same-true}
-use Rattle.search.proofs.OneTrail.{magic-same, trail-same, outcome-same}
+use Rattle.search.proofs.OneTrail.{magic-same, same-facts, trail-same, outcome-same}
 use Rattle.search.proofs.MagicPath.{magic-sound}
+use Rattle.search.proofs.SessionClaims.{one-walk-kept, any-origin}
 
 smallest : {F : Type 0} (k : Key F) (rs : List (Rule F)) (seeds : List F) → Smallest k rs seeds
 smallest k rs seeds = record { seeds-in = least-seeds k rs seeds; closed = least-closed k rs seeds; inside = least-ind k rs seeds }
@@ -51,11 +50,7 @@ one-trail k p limit =
           all-map
           (Reached (findR p))
           (λ s. (x : ℕ) → SameFacts k p s x)
-          (λ s r x.
-          record {
-            relevant = same-relevant k p (entered (s .path)) (path-relevant p (s .path) (r .0)) x;
-            true-relevant = same-true k p (entered (s .path)) (path-relevant p (s .path) (r .0)) x;
-          })
+          (λ s r. same-facts k p s (r .0))
           (trail (findR p) limit)
           (trail-reached (findR p) limit);
       outcomes = outcome-same (findR p) (findM k (p .atoms) (rewriting p)) (magic-same k p) limit;
@@ -73,5 +68,7 @@ theorems =
       magic-chooses = magic-chooses;
       model-given = model-given;
       one-trail = one-trail;
+      one-walk-kept = one-walk-kept;
+      any-origin = any-origin;
       cases-hold = cases-hold;
     }
