@@ -12,7 +12,7 @@ use Rattle.lists.proofs.Member.{all-map}
 use Rattle.search.specs.Ground.{Ground, Proper, Model, Marked}
 use Rattle.search.specs.Relevancy.{findR}
 use Rattle.search.specs.Magic.{rewriting, findM}
-use Rattle.search.specs.Machine.{Place, Outcome, Satisfied, last, root, entries, proceed, outcome}
+use Rattle.search.specs.Machine.{Place, Outcome, Satisfied, Exhausted, last, root, entries, proceed, outcome}
 use Rattle.search.specs.Session.{Session, placeOf, sessionAfter, firstSession, Called, declined, told, called}
 use Rattle.search.specs.Trails.{SameFacts}
 use Rattle.search.specs.SessionClaims.{findBy, Call, Kept, keptAfter, firstKept, afterCalls, OneWalkKept, AnyOrigin}
@@ -20,7 +20,7 @@ use Rattle.search.proofs.Path.{Reached, place-reached, entries-reached,
 use Rattle.search.proofs.Model.{relevancy-sound}
 use Rattle.search.proofs.OneTrail.{magic-same, same-facts, entries-same, outcome-same}
 use Rattle.search.proofs.Session.{stands-reached}
-use Rattle.search.proofs.SessionWalk.{goes-on, stands-same, first-same, called-same}
+use Rattle.search.proofs.SessionWalk.{goes-on, proceed-over, session-over, stands-same, first-same, called-same}
 
 module _ {I : Type 0} (k : Key I) (p : Ground I) where
   engine-called : (by : Bool) (s : Session) (further : ℕ) → called (findBy k p by) s further ≡ called (findR p) s further
@@ -69,6 +69,22 @@ module _ {I : Type 0} (k : Key I) (p : Ground I) where
   not-foreign true o s e = let z : _≡_ {A = ℕ} 41 42 = cc in omega arith
   not-foreign false o s e = let z : _≡_ {A = ℕ} 0 1 = cc in omega arith
 
+  told-is : (b : Bool) (x o : Outcome) (y s : Session) → cond b (declined 41) (told x y) ≡ told o s → (o ≡ x) × (s ≡ y)
+  told-is true x o y s e = let z : _≡_ {A = ℕ} 0 1 = cc in absurd (omega arith)
+  told-is false x o y s e = (cc, (cc))
+
+  again : (n : ℕ) → ((i : ℕ) → outcome (findR p) n ≡ Exhausted i → ⊥) → (by : Bool) (further : ℕ) (o : Outcome) (s : Session)
+      → called (findBy k p by) (firstSession (findR p) n) further ≡ told o s → (o ≡ outcome (findR p) n) × (s ≡ firstSession (findR p) n)
+  again n h by further o s e =
+      let q = told-is
+      (ltb 4294967295 ((firstSession (findR p) n) .count + further))
+      (outcome (findR p) (n + further))
+      o
+      (firstSession (findR p) (n + further))
+      s
+      (sym (whole-on by n further) ∙ e) in
+      (q .0 ∙ proceed-over (findR p) n further 0 (root (findR p)) h, q .1 ∙ session-over (findR p) n further 0 (root (findR p)) h)
+
   pub one-walk-kept : (magic : Bool) (limit : ℕ) (calls : List Call) → OneWalkKept k p magic limit calls
   one-walk-kept magic limit calls =
       let w = calls-whole calls (firstKept k p magic limit) limit (first-whole magic limit) in
@@ -81,6 +97,12 @@ module _ {I : Type 0} (k : Key I) (p : Ground I) where
             (outcome (findR p) (w .0 + further))
             (firstSession (findR p) (w .0 + further))
             (sym (ap (λ (x : Kept). called (findBy k p by) (x .session) further) (w .1) ∙ whole-on by (w .0) further) ∙ e);
+        finished-again =
+            subst
+            (λ (x : Kept). ((n : ℕ) → x .answered ≡ Exhausted n → ⊥) → (by : Bool) (further : ℕ) (o : Outcome) (s : Session)
+            → called (findBy k p by) (x .session) further ≡ told o s → (o ≡ x .answered) × (s ≡ x .session))
+            (sym (w .1))
+            (again (w .0));
       }
 
   -- ---- any origin

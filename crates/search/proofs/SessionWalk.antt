@@ -8,9 +8,9 @@ use native.Mathlib.Nat.{add-assoc}
 use lib.Dec.{ltb}
 use lib.ListN.{length, length-append}
 use Rattle.search.specs.Ground.{Found}
-use Rattle.search.specs.Machine.{Branch, Place, entered, nextPath, Outcome, Satisfied, Refuted, Exhausted, answer, last, placed, root, entries, proceed, Genuine}
+use Rattle.search.specs.Machine.{Branch, Place, entered, nextPath, Outcome, Satisfied, Refuted, Exhausted, answer, last, placed, advance, root, entries, proceed, Genuine}
 use Rattle.search.specs.Session.{Step, Session, stepTaken, whereStands, pathOf, nodeOf, placeOf, stepsOf, dueAt, leftBy, sessionAfter, firstSession, Called, declined, told, called}
-use Rattle.search.proofs.Machine.{entries-on, proceed-on, last-append}
+use Rattle.search.proofs.Machine.{entries-none, entries-on, proceed-none, proceed-on, last-append, answer-some}
 use Rattle.search.proofs.Path.{Reached, place-reached, next-genuine, last-reached}
 use Rattle.search.proofs.OneTrail.{place-same, entries-same, proceed-same}
 use Rattle.search.proofs.Session.{Alike, alike-self, Rests, rests, path-genuine, stands-reached}
@@ -63,6 +63,29 @@ module _ {I : Type 0} (find : List ℕ → Found I) where
       let s : Session = sessionAfter find m c t in
       ap (cond (ltb 4294967295 (s .count + n)) (declined 41))
       (resumes u k n s (rests find u k (last-reached find m t r)) ∙ ap₂ told (sym (proceed-on find m n c t)) (sym (session-on m n c t)))
+
+  -- a run that is not spent is over
+  over-next : (u : Place I) (k : ℕ) → ((i : ℕ) → answer u k ≡ Exhausted i → ⊥) → advance find u ≡ none
+  over-next u k h = go (advance find u) refl
+    where
+      go : (o : Option (Place I)) → advance find u ≡ o → advance find u ≡ none
+      go none e = e
+      go (some t) e = absurd (h k (answer-some find u t k e))
+
+  pub proceed-over : (m n c : ℕ) (t : Place I) → ((i : ℕ) → proceed find m c t ≡ Exhausted i → ⊥) → proceed find (m + n) c t ≡ proceed find m c t
+  unfolding proceed
+  proceed-over m n c t h =
+      let u : Place I = last t (entries find m t) in
+      let k : ℕ = c + length (entries find m t) in
+      proceed-on find m n c t ∙ proceed-none find n k u (over-next u k h)
+
+  pub session-over : (m n c : ℕ) (t : Place I) → ((i : ℕ) → proceed find m c t ≡ Exhausted i → ⊥) → sessionAfter find (m + n) c t ≡ sessionAfter find m c t
+  unfolding sessionAfter proceed
+  session-over m n c t h =
+      let u : Place I = last t (entries find m t) in
+      let k : ℕ = c + length (entries find m t) in
+      let e : advance find u ≡ none = over-next u k h in
+      session-on m n c t ∙ ap₂ (λ (x : Outcome) (es : List (Place I)). leftBy find x (last u es)) (proceed-none find n k u e) (entries-none find n u e)
 
 -- two ways of finding that agree on the genuine paths of one
 module _ {I : Type 0} (f g : List ℕ → Found I) (same : (bs : List (Branch I)) → Genuine f bs → g (entered bs) ≡ f (entered bs)) where

@@ -10,7 +10,7 @@ use Rattle.lists.specs.Member.{All}
 use Rattle.search.specs.Ground.{Ground, Model, Marked, Found}
 use Rattle.search.specs.Relevancy.{findR}
 use Rattle.search.specs.Magic.{rewriting, findM}
-use Rattle.search.specs.Machine.{Place, Outcome, Satisfied, entries, outcome}
+use Rattle.search.specs.Machine.{Place, Outcome, Satisfied, Exhausted, entries, outcome}
 use Rattle.search.specs.Session.{Session, placeOf, firstSession, Called, declined, told, called}
 use Rattle.search.specs.Trails.{SameFacts}
 
@@ -51,6 +51,10 @@ module _ {I : Type 0} (k : Key I) (p : Ground I) where
     pub answer-is : (afterCalls calls (firstKept magic limit)) .answered ≡ outcome (findR p) ((afterCalls calls (firstKept magic limit)) .sum)
     pub session-is : (afterCalls calls (firstKept magic limit)) .session ≡ firstSession (findR p) ((afterCalls calls (firstKept magic limit)) .sum)
     pub never-foreign : (by : Bool) (further : ℕ) → called (findBy k p by) ((afterCalls calls (firstKept magic limit)) .session) further ≡ declined 42 → ⊥
+    -- a finished session answers again as before, and is left as it was
+    pub finished-again : ((n : ℕ) → (afterCalls calls (firstKept magic limit)) .answered ≡ Exhausted n → ⊥) → (by : Bool) (further : ℕ) (o : Outcome) (s : Session)
+        → called (findBy k p by) ((afterCalls calls (firstKept magic limit)) .session) further ≡ told o s
+        → (o ≡ (afterCalls calls (firstKept magic limit)) .answered) × (s ≡ (afterCalls calls (firstKept magic limit)) .session)
 
   -- Whatever a session holds: both engines take it to stand at the same place; from there on their trails are one, at every place of which the facts agree; what they say
   -- and leave is the same; and fits comes with a model
