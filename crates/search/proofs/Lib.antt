@@ -14,6 +14,7 @@ pub mod Regroup
 pub mod OneTrail
 pub mod MagicPath
 pub mod Session
+pub mod SessionRest
 pub mod SessionWalk
 pub mod SessionClaims
 pub mod Cases

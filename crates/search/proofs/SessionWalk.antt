@@ -13,7 +13,8 @@ use Rattle.search.specs.Session.{Step, Session, stepTaken, whereStands, 
 use Rattle.search.proofs.Machine.{entries-none, entries-on, proceed-none, proceed-on, last-append, answer-some}
 use Rattle.search.proofs.Path.{Reached, place-reached, next-genuine, last-reached}
 use Rattle.search.proofs.OneTrail.{place-same, entries-same, proceed-same}
-use Rattle.search.proofs.Session.{Alike, alike-self, Rests, rests, path-genuine, stands-reached}
+use Rattle.search.proofs.Session.{path-genuine, stands-reached}
+use Rattle.search.proofs.SessionRest.{Alike, alike-self, Rests, rests}
 
 module _ {I : Type 0} (find : List ℕ → Found I) where
   entries-alike : (n : ℕ) (u v : Place I) → nextPath v ≡ nextPath u → entries find n v ≡ entries find n u
