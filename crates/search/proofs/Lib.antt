@@ -15,7 +15,9 @@ pub mod OneTrail
 pub mod MagicPath
 pub mod Session
 pub mod SessionRest
+pub mod SessionRight
 pub mod SessionWalk
+pub mod SessionLeft
 pub mod SessionClaims
 pub mod Cases
 pub mod Theorems

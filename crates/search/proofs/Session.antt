@@ -67,6 +67,10 @@ is-taken i tried left a next bs f e n =
     let some-tried : ltb 0 (suc (length tried)) ≡ true = lt-ltb 0 (suc (length tried)) (omega arith) in
     rw (e, n, some-tried, le-leb (suc (length tried)) (length ds) (d .0), before, eq-eqb (getD ds (length tried) 0) a (d .1), d .2)
 
+-- the next alternative after one that is entered
+pub next-after : {I : Type 0} (i : I) (tried left : List ℕ) (a : ℕ) (f : Found I) → f ≡ split i (tried ++ (a ∷ left)) → length (altsFound f) - length left ≡ suc (length tried)
+next-after i tried left a f e = rw e (omega (arith, length-append tried (a ∷ left)))
+
 module _ {I : Type 0} (find : List ℕ → Found I) where
   -- the path without its latest step, and that step
   pub step-off : (s : Step) (steps : List Step) (bs : List (Branch I)) → pathOf find (s ∷ steps) ≡ some bs
@@ -88,10 +92,8 @@ module _ {I : Type 0} (find : List ℕ → Found I) where
   pub steps-path : (bs : List (Branch I)) → Genuine find bs → pathOf find (stepsOf find bs) ≡ some bs
   steps-path [] g = refl
   steps-path (b ∷ bs) g =
-      let ds : List ℕ = g .0 .0 ++ (b .atom ∷ b .rest) in
-      let next : length ds - length (b .rest) ≡ suc (length (g .0 .0)) = omega (arith, length-append (g .0 .0) (b .atom ∷ b .rest)) in
-      rw (steps-path bs (g .1))
-      (is-taken (b .site) (g .0 .0) (b .rest) (b .atom) _ bs (find (entered bs)) (g .0 .1) (ap (λ (f : Found I). length (altsFound f) - length (b .rest)) (g .0 .1) ∙ next))
+      let next = next-after (b .site) (g .0 .0) (b .rest) (b .atom) (find (entered bs)) (g .0 .1) in
+      rw (steps-path bs (g .1)) (is-taken (b .site) (g .0 .0) (b .rest) (b .atom) _ bs (find (entered bs)) (g .0 .1) next)
 
   -- the parts of where a session stands
   pub record Stands (s : Session) (t : Place I) : Type 0 where

@@ -22,7 +22,7 @@ module _ {I : Type 0} where
   going-answer (opened bits) o n e = absurd (subst T e tt)
   going-answer (split i ds) o n e = refl
 
-  tried-open : (tried : List ℕ) (f : Found I) → isOpen (withTried tried f) ≡ isOpen f
+  pub tried-open : (tried : List ℕ) (f : Found I) → isOpen (withTried tried f) ≡ isOpen f
   tried-open tried closed = refl
   tried-open tried (opened bits) = refl
   tried-open tried (split i ds) = refl
@@ -57,7 +57,7 @@ module _ {I : Type 0} where
   back-made [] e = Option·none-ne-some [] e
   back-made (b ∷ bs) e = enter-made (b .site) (b .rest) bs (back bs) (back-made bs) e
 
-  after-made : (f : Found I) (bs : List (Branch I)) → after f bs ≡ some [] → ⊥
+  pub after-made : (f : Found I) (bs : List (Branch I)) → after f bs ≡ some [] → ⊥
   after-made closed bs e = back-made bs e
   after-made (opened bits) bs e = Option·none-ne-some [] e
   after-made (split i ds) bs e = enter-made i ds bs (back bs) (back-made bs) e

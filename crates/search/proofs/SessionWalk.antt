@@ -65,6 +65,10 @@ module _ {I : Type 0} (find : List ℕ → Found I) where
       ap (cond (ltb 4294967295 (s .count + n)) (declined 41))
       (resumes u k n s (rests find u k (last-reached find m t r)) ∙ ap₂ told (sym (proceed-on find m n c t)) (sym (session-on m n c t)))
 
+  pub session-none : (n c : ℕ) (u : Place I) → advance find u ≡ none → sessionAfter find n c u ≡ leftBy find (answer u c) u
+  unfolding sessionAfter
+  session-none n c u e = ap₂ (λ (x : Outcome) (es : List (Place I)). leftBy find x (last u es)) (proceed-none find n c u e) (entries-none find n u e)
+
   -- a run that is not spent is over
   over-next : (u : Place I) (k : ℕ) → ((i : ℕ) → answer u k ≡ Exhausted i → ⊥) → advance find u ≡ none
   over-next u k h = go (advance find u) refl
@@ -85,8 +89,7 @@ module _ {I : Type 0} (find : List ℕ → Found I) where
   session-over m n c t h =
       let u : Place I = last t (entries find m t) in
       let k : ℕ = c + length (entries find m t) in
-      let e : advance find u ≡ none = over-next u k h in
-      session-on m n c t ∙ ap₂ (λ (x : Outcome) (es : List (Place I)). leftBy find x (last u es)) (proceed-none find n k u e) (entries-none find n u e)
+      session-on m n c t ∙ session-none n k u (over-next u k h)
 
 -- two ways of finding that agree on the genuine paths of one
 module _ {I : Type 0} (f g : List ℕ → Found I) (same : (bs : List (Branch I)) → Genuine f bs → g (entered bs) ≡ f (entered bs)) where

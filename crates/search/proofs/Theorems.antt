@@ -24,6 +24,7 @@ use Rattle.search.proofs.Choice.{relevancy-chooses, magic-chooses}
 use Rattle.search.proofs.Model.{relevancy-sound}
 use Rattle.search.proofs.OneTrail.{magic-same, same-facts, trail-same, outcome-same}
 use Rattle.search.proofs.MagicPath.{magic-sound}
+use Rattle.search.proofs.SessionLeft.{any-session}
 use Rattle.search.proofs.SessionClaims.{one-walk-kept, any-origin}
 
 smallest : {F : Type 0} (k : Key F) (rs : List (Rule F)) (seeds : List F) → Smallest k rs seeds
@@ -61,6 +62,7 @@ theorems =
     record {
       smallest = smallest;
       any-walk = any-walk;
+      any-session = any-session;
       sound-walk = sound-walk;
       relevancy-sound = relevancy-sound;
       magic-sound = magic-sound;

@@ -14,6 +14,7 @@ use Rattle.search.specs.Magic.{MagicRule, rewriting, findM}
 use Rattle.search.specs.Trails.{OneTrail}
 use Rattle.search.specs.SessionClaims.{Call, OneWalkKept, AnyOrigin}
 use Rattle.search.specs.Session.{Session}
+use Rattle.search.specs.SessionRight.{AnySession}
 use Rattle.search.specs.Choice.{RelevancyChoice, MagicChoice}
 use Rattle.search.specs.Sound.{SoundFind}
 use Rattle.search.specs.Machine.{Place, entered, Satisfied, Refuted, Exhausted, answer, last, root, entries, trail, proceed, outcome, FullWalk}
@@ -66,6 +67,8 @@ modelAt p s = modelBits (p .atoms) (isTrue p (entered (s .path))) (isRelevant p 
 pub record Theorems : Type 1 where
   pub smallest : {F : Type 0} (k : Key F) (rs : List (Rule F)) (seeds : List F) → Smallest k rs seeds
   pub any-walk : {I : Type 0} (find : List ℕ → Found I) → AnyWalk find
+  -- any session: when a call is refused, and what one that is not says and leaves
+  pub any-session : {I : Type 0} (find : List ℕ → Found I) → AnySession find
   pub sound-walk : {I : Type 0} (p : Ground I) (find : List ℕ → Found I) → SoundFind p find → SoundWalk p find
   -- both walks of a ground problem are sound
   pub relevancy-sound : {I : Type 0} (p : Ground I) → Proper p → SoundFind p (findR p)

@@ -7,6 +7,7 @@ pub mod Sound
 pub mod Choice
 pub mod Trails
 pub mod Session
+pub mod SessionRight
 pub mod SessionClaims
 pub mod Claims
 pub mod Cases
