@@ -6,7 +6,7 @@ use mathlib.Core.Option.{Option, none, some}
 use lib.Dec.{eqb, ltb, leb}
 use lib.ListN.{length, drop, getD}
 use Rattle.search.specs.Ground.{Found, closed, opened, split}
-use Rattle.search.specs.Machine.{Branch, Place, entered, nextPath, Outcome, Satisfied, Refuted, Exhausted, answer, last, root, entries, proceed}
+use Rattle.search.specs.Machine.{Branch, Place, entered, nextPath, Outcome, Satisfied, Refuted, Exhausted, last, root, entries, proceed}
 
 -- an entry of the path: its atom, and the next alternative of the node that it was entered from
 pub record Step : Type 0 where

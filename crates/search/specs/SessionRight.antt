@@ -8,7 +8,7 @@ use mathlib.Core.Path.{_≡_}
 use lib.ListN.{length, getD}
 use Rattle.search.specs.Ground.{Found, opened, split}
 use Rattle.search.specs.Machine.{Branch, Place, entered, nextPath, Outcome, Satisfied, Refuted, Exhausted, last, root, entries, proceed}
-use Rattle.search.specs.Session.{Step, Standing, refuted, satisfied, exhausted, Session, altsFound, placeOf, sessionAfter, Called, declined, told, called}
+use Rattle.search.specs.Session.{Step, Standing, refuted, satisfied, exhausted, Session, altsFound, placeOf, sessionAfter, declined, told, called}
 
 -- the atoms that the steps of a path enter
 abbrev pub atomsOf : List Step → List ℕ
