@@ -8,7 +8,7 @@ use Rattle.search.specs.Ground.{Ground, Found}
 use Rattle.search.specs.Relevancy.{findR}
 use Rattle.search.specs.Magic.{tru, rel, rewriting, findM}
 use Rattle.search.specs.Machine.{Outcome, entered, trail, outcome}
-use Rattle.search.specs.Claims.{OneTrail, SameFacts as SameAt}
+use Rattle.search.specs.Trails.{OneTrail, SameFacts as SameAt}
 use Rattle.search.proofs.Theorems.{theorems as walks}
 use Rattle.problem.specs.Problem.{Problem, limitOf}
 use Rattle.problem.proofs.Parse.{parse-text}

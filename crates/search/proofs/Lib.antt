@@ -13,5 +13,11 @@ pub mod Magic
 pub mod Regroup
 pub mod OneTrail
 pub mod MagicPath
+pub mod Session
+pub mod SessionRest
+pub mod SessionRight
+pub mod SessionWalk
+pub mod SessionLeft
+pub mod SessionClaims
 pub mod Cases
 pub mod Theorems

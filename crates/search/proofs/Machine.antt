@@ -102,7 +102,7 @@ module _ {I : Type 0} (find : List ℕ → Found I) where
       rw (same, whole-unique u ts us (subst (λ (x : Place I). Whole find x ts) same (w .1)) (v .1))
 
   -- a further entry can be made, and none has been allowed
-  answer-some : (s t : Place I) (c : ℕ) → advance find s ≡ some t → answer s c ≡ Exhausted c
+  pub answer-some : (s t : Place I) (c : ℕ) → advance find s ≡ some t → answer s c ≡ Exhausted c
   answer-some s t c e = go (s .found) (s .path) e
     where
       stays : (o : Option (List (Branch I))) → placed find o ≡ some t → stopped o c ≡ Exhausted c

@@ -16,8 +16,9 @@ use Rattle.search.specs.Ground.{Ground, Found, goals, orFalse, disjuncti
 use Rattle.search.specs.Relevancy.{isTrue, isRelevant, splittable, modelBits, foundAs, withAlts, findR}
 use Rattle.search.specs.Magic.{Magic, tru, rel, cont, heads, MagicRule, stages, rewriteInstance, rewriting, holds, ready, withHeads, findM}
 use Rattle.search.specs.Machine.{Branch, Place, entered, nextPath, answer, last, place, placed, root, entries, trail, outcome, proceed, Genuine}
+use Rattle.search.specs.Trails.{SameFacts}
 use Rattle.search.proofs.Machine.{entries-zero, entries-none, entries-some}
-use Rattle.search.proofs.Path.{next-genuine}
+use Rattle.search.proofs.Path.{Reached, place-reached, next-genuine}
 use Rattle.search.proofs.Relevancy.{relevant-false}
 use Rattle.search.proofs.Walk.{AllRelevant, path-relevant}
 use Rattle.search.proofs.Magic.{lastAsks, same-relevant, same-true, last-from, last-to}
@@ -166,29 +167,35 @@ module _ {I : Type 0} (k : Key I) (p : Ground I) (l : List ℕ) (relevant : AllR
 pub magic-same : {I : Type 0} (k : Key I) (p : Ground I) (bs : List (Branch I)) → Genuine (findR p) bs → findM k (p .atoms) (rewriting p) (entered bs) ≡ findR p (entered bs)
 magic-same k p bs g = find-same k p (entered bs) (path-relevant p bs g)
 
+pub same-facts : {I : Type 0} (k : Key I) (p : Ground I) (s : Place I) → Genuine (findR p) (s .path) → (x : ℕ) → SameFacts k p s x
+same-facts k p s g x =
+    let relevant = path-relevant p (s .path) g in
+    record { relevant = same-relevant k p (entered (s .path)) relevant x; true-relevant = same-true k p (entered (s .path)) relevant x }
+
 -- two ways of finding that agree on the genuine paths of one make the same entries
 module _ {I : Type 0} (f g : List ℕ → Found I) (same : (bs : List (Branch I)) → Genuine f bs → g (entered bs) ≡ f (entered bs)) where
-  place-same : (bs : List (Branch I)) → Genuine f bs → place g bs ≡ place f bs
+  pub place-same : (bs : List (Branch I)) → Genuine f bs → place g bs ≡ place f bs
   place-same bs w = ap (λ (x : Found I). record { path = bs; found = x }) (same bs w)
 
-  pub entries-same : (n : ℕ) (bs : List (Branch I)) → Genuine f bs → entries g n (place f bs) ≡ entries f n (place f bs)
-  entries-same zero bs w = entries-zero g (place f bs) ∙ sym (entries-zero f (place f bs))
-  entries-same (suc n) bs w = go (nextPath (place f bs)) refl (entries-same n)
+  pub entries-same : (n : ℕ) (s : Place I) → Reached f s → entries g n s ≡ entries f n s
+  entries-same zero s w = entries-zero g s ∙ sym (entries-zero f s)
+  entries-same (suc n) s w = go (nextPath s) refl (entries-same n)
     where
-      go : (o : Option (List (Branch I))) → nextPath (place f bs) ≡ o → ((cs : List (Branch I)) → Genuine f cs → entries g n (place f cs) ≡ entries f n (place f cs))
-          → entries g (suc n) (place f bs) ≡ entries f (suc n) (place f bs)
-      go none e k = entries-none g (suc n) (place f bs) (ap (placed g) e) ∙ sym (entries-none f (suc n) (place f bs) (ap (placed f) e))
+      go : (o : Option (List (Branch I))) → nextPath s ≡ o → ((t : Place I) → Reached f t → entries g n t ≡ entries f n t) → entries g (suc n) s ≡ entries f (suc n) s
+      go none e k = entries-none g (suc n) s (ap (placed g) e) ∙ sym (entries-none f (suc n) s (ap (placed f) e))
       go (some cs) e k =
-          let gen : Genuine f cs = next-genuine f bs cs w e in
-          let here : place g cs ≡ place f cs = place-same cs gen in
-          entries-some g n (place f bs) (place f cs) (ap (placed g) e ∙ ap some here)
-          ∙ ap {B = List (Place I)} (λ es. place f cs ∷ es) (k cs gen)
-          ∙ sym (entries-some f n (place f bs) (place f cs) (ap (placed f) e))
+          let gen : Genuine f cs = next-genuine f s cs w e in
+          entries-some g n s (place f cs) (ap (placed g) e ∙ ap some (place-same cs gen))
+          ∙ ap {B = List (Place I)} (λ es. place f cs ∷ es) (k (place f cs) (place-reached f cs gen))
+          ∙ sym (entries-some f n s (place f cs) (ap (placed f) e))
 
   pub trail-same : (n : ℕ) → trail g n ≡ trail f n
-  trail-same n = ap (λ (s : Place I). s ∷ entries g n s) (place-same [] tt) ∙ ap {B = List (Place I)} (λ es. root f ∷ es) (entries-same n [] tt)
+  trail-same n =
+      ap (λ (s : Place I). s ∷ entries g n s) (place-same [] tt) ∙ ap {B = List (Place I)} (λ es. root f ∷ es) (entries-same n (root f) (place-reached f [] tt))
+
+  pub proceed-same : (n c : ℕ) (s : Place I) → Reached f s → proceed g n c s ≡ proceed f n c s
+  unfolding proceed
+  proceed-same n c s w = ap (λ (es : List (Place I)). answer (last s es) (c + length es)) (entries-same n s w)
 
   pub outcome-same : (n : ℕ) → outcome g n ≡ outcome f n
-  unfolding proceed
-  outcome-same n =
-      ap (λ (s : Place I). proceed g n 0 s) (place-same [] tt) ∙ ap (λ (es : List (Place I)). answer (last (root f) es) (0 + length es)) (entries-same n [] tt)
+  outcome-same n = ap (λ (s : Place I). proceed g n 0 s) (place-same [] tt) ∙ proceed-same n 0 (root f) (place-reached f [] tt)

@@ -9,9 +9,20 @@ use lib.ListN.{length}
 use Rattle.lists.specs.Member.{All}
 use Rattle.lists.proofs.Member.{append-right}
 use Rattle.search.specs.Ground.{Found, closed, opened, split}
-use Rattle.search.specs.Machine.{Branch, Place, entered, enter, back, after, nextPath, Satisfied, place, placed, advance, root, entries, trail, proceed, outcome, Whole, FullWalk, Genuine}
+use Rattle.search.specs.Machine.{Branch, Place, entered, enter, back, after, nextPath, Satisfied, last, place, placed, advance, root, entries, trail, proceed, outcome, Whole, FullWalk, Genuine}
 use Rattle.search.specs.Claims.{lastPlace}
 use Rattle.search.proofs.Machine.{entries-zero, entries-none, entries-some, last-all, answer-satisfied}
+
+-- the alternatives tried, put back before those left
+abbrev pub withTried : {I : Type 0} → List ℕ → Found I → Found I
+withTried tried closed = closed
+withTried tried (opened bits) = opened bits
+withTried tried (split i ds) = split i (tried ++ ds)
+
+none-tried : {I : Type 0} (f : Found I) → withTried [] f ≡ f
+none-tried closed = refl
+none-tried (opened bits) = refl
+none-tried (split i ds) = refl
 
 module _ {I : Type 0} (find : List ℕ → Found I) where
   -- entries stay on genuine paths
@@ -25,47 +36,54 @@ module _ {I : Type 0} (find : List ℕ → Found I) where
   back-genuine (b ∷ bs) cs g q =
       enter-genuine (b .site) (g .0 .0 ++ (b .atom ∷ [])) (b .rest) bs (back bs) cs (rw append-assoc (g .0 .1)) (g .1) (back-genuine bs cs (g .1)) q
 
-  pub next-genuine : (bs cs : List (Branch I)) → Genuine find bs → nextPath (place find bs) ≡ some cs → Genuine find cs
-  next-genuine bs cs g q = go (find (entered bs)) refl q
-    where
-      go : (f : Found I) → find (entered bs) ≡ f → after f bs ≡ some cs → Genuine find cs
-      go closed e u = back-genuine bs cs g u
-      go (opened b) e u = absurd (Option·none-ne-some cs u)
-      go (split i ds) e u = enter-genuine i [] ds bs (back bs) cs e g (back-genuine bs cs g) u
-
-  -- a place of the walk: its path is genuine, and it is found as `find` says
+  -- a place of the walk, or where a session may stand: its path is genuine, and it is found as `find` says, its first alternatives taken off
   abbrev pub Reached : Place I → Type 0
-  Reached s = Genuine find (s .path) × (s ≡ place find (s .path))
+  Reached s = Genuine find (s .path) × ((tried : List ℕ) × (find (entered (s .path)) ≡ withTried tried (s .found)))
 
-  advance-reached : (bs : List (Branch I)) → Genuine find bs → (t : Place I) → advance find (place find bs) ≡ some t → Reached t
-  advance-reached bs g t e = go (nextPath (place find bs)) refl e
+  pub place-reached : (bs : List (Branch I)) → Genuine find bs → Reached (place find bs)
+  place-reached bs g = (g, ([], sym (none-tried (find (entered bs)))))
+
+  pub next-genuine : (s : Place I) (cs : List (Branch I)) → Reached s → nextPath s ≡ some cs → Genuine find cs
+  next-genuine s cs r q = go (s .found) (r .1 .1) q
     where
-      go : (o : Option (List (Branch I))) → nextPath (place find bs) ≡ o → placed find o ≡ some t → Reached t
-      go none u w = absurd (Option·none-ne-some t w)
-      go (some cs) u w = let same : place find cs ≡ t = cc in subst Reached same (next-genuine bs cs g u, refl)
+      go : (f : Found I) → find (entered (s .path)) ≡ withTried (r .1 .0) f → after f (s .path) ≡ some cs → Genuine find cs
+      go closed e u = back-genuine (s .path) cs (r .0) u
+      go (opened b) e u = absurd (Option·none-ne-some cs u)
+      go (split i ds) e u = enter-genuine i (r .1 .0) ds (s .path) (back (s .path)) cs e (r .0) (back-genuine (s .path) cs (r .0)) u
 
-  entries-reached : (n : ℕ) (s : Place I) → Reached s → All Reached (entries find n s)
+  advance-reached : (s t : Place I) → Reached s → advance find s ≡ some t → Reached t
+  advance-reached s t r e = go (nextPath s) refl e
+    where
+      go : (o : Option (List (Branch I))) → nextPath s ≡ o → placed find o ≡ some t → Reached t
+      go none u w = absurd (Option·none-ne-some t w)
+      go (some cs) u w = let same : place find cs ≡ t = cc in subst Reached same (place-reached cs (next-genuine s cs r u))
+
+  pub entries-reached : (n : ℕ) (s : Place I) → Reached s → All Reached (entries find n s)
   entries-reached zero s h = rw (entries-zero find) tt
   entries-reached (suc n) s h = go (advance find s) refl (entries-reached n)
     where
       go : (o : Option (Place I)) → advance find s ≡ o → ((t : Place I) → Reached t → All Reached (entries find n t)) → All Reached (entries find (suc n) s)
       go none e f = rw (entries-none find (suc n) s e) tt
-      go (some t) e f =
-          let r : Reached t = advance-reached (s .path) (h .0) t (subst (λ (x : Place I). advance find x ≡ some t) (h .1) e) in
-          rw (entries-some find n s t e) (r, f t r)
+      go (some t) e f = let r : Reached t = advance-reached s t h e in rw (entries-some find n s t e) (r, f t r)
+
+  pub last-reached : (n : ℕ) (s : Place I) → Reached s → Reached (last s (entries find n s))
+  last-reached n s h = last-all Reached s (entries find n s) h (entries-reached n s h)
 
   pub trail-reached : (limit : ℕ) → All Reached (trail find limit)
-  trail-reached limit = ((tt, refl), entries-reached limit (root find) (tt, refl))
+  trail-reached limit = let r = place-reached [] tt in (r, entries-reached limit (root find) r)
 
-  -- a satisfied walk stands at an open place
+  -- a satisfied run ends at an open place
+  pub run-opened : (limit count n : ℕ) (bits : List Bool) (s : Place I) → Reached s → proceed find limit count s ≡ Satisfied n bits
+      → Genuine find ((last s (entries find limit s)) .path) × (find (entered ((last s (entries find limit s)) .path)) ≡ opened bits)
+  unfolding proceed
+  run-opened limit count n bits s h e =
+      let t = last s (entries find limit s) in
+      let r : Reached t = last-reached limit s h in
+      (r .0, r .1 .1 ∙ ap (withTried (r .1 .0)) (answer-satisfied t _ n bits e))
+
   pub last-opened : (limit n : ℕ) (bits : List Bool) → outcome find limit ≡ Satisfied n bits
       → Genuine find ((lastPlace find limit) .path) × (find (entered ((lastPlace find limit) .path)) ≡ opened bits)
-  unfolding proceed
-  last-opened limit n bits e =
-      let s = lastPlace find limit in
-      let all = trail-reached limit in
-      let r : Reached s = last-all Reached (root find) (entries find limit (root find)) (all .0) (all .1) in
-      (r .0, ap (λ (x : Place I). x .found) (sym (r .1)) ∙ answer-satisfied s _ n bits e)
+  last-opened limit n bits e = run-opened limit 0 n bits (root find) (place-reached [] tt) e
 
   -- what holds of the empty list, and of each alternative of a split found under a list of which it holds, holds on every genuine path
   pub genuine-ind {ℓ} : (Q : List ℕ → Type ℓ) → Q [] → ((l : List ℕ) (i : I) (ds : List ℕ) → Q l → find l ≡ split i ds → All (λ a. Q (a ∷ l)) ds)

@@ -11,7 +11,7 @@ use Rattle.lists.specs.Member.{All, Any}
 use Rattle.search.specs.Ground.{Found, closed, opened, split}
 use Rattle.search.specs.Machine.{Branch, entered, enter, back, after, nextPath, Refuted, stopped, answerAt, answer, place, placed, proceed, outcome, Genuine}
 use Rattle.search.proofs.Machine.{proceed-zero, proceed-none, proceed-some}
-use Rattle.search.proofs.Path.{next-genuine}
+use Rattle.search.proofs.Path.{place-reached, next-genuine}
 
 module _ {I : Type 0} (find : List ℕ → Found I) (M : ℕ → Type 0) where
   -- the set holds a node of the path and one of the alternatives left there
@@ -94,7 +94,7 @@ module _ {I : Type 0} (find : List ℕ → Found I) (M : ℕ → Type 0) where
         go (some cs) e f =
             f
             cs
-            (next-genuine find bs cs g e)
+            (next-genuine find (place find bs) cs (place-reached find bs g) e)
             (∥∥₁-elim h ∥∥₁-prop (λ a. subst AheadAt e (next-ahead bs g (next-open bs cs e) a)))
             (sym (proceed-some find n c (place find bs) (place find cs) (ap (placed find) e)) ∙ q)
 

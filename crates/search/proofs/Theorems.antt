@@ -14,7 +14,8 @@ use Rattle.search.specs.Ground.{Ground, Found}
 use Rattle.search.specs.Relevancy.{findR}
 use Rattle.search.specs.Magic.{rewriting, findM}
 use Rattle.search.specs.Machine.{entered, Satisfied, last, root, trail, outcome}
-use Rattle.search.specs.Claims.{Smallest, AnyWalk, lastPlace, modelAt, SameFacts, OneTrail, ByHolding, Theorems}
+use Rattle.search.specs.Trails.{SameFacts, OneTrail}
+use Rattle.search.specs.Claims.{Smallest, AnyWalk, lastPlace, modelAt, ByHolding, Theorems}
 use Rattle.search.proofs.Cases.{cases-hold}
 use Rattle.search.proofs.Closure.{least-seeds, least-closed, least-ind}
 use Rattle.search.proofs.Machine.{entries-on, proceed-on, whole-unique, whole-over, answer-none, proceed-limit}
@@ -23,11 +24,11 @@ use Rattle.search.proofs.Sound.{sound-walk}
 use Rattle.search.proofs.Found.{findR-opened}
 use Rattle.search.proofs.Choice.{relevancy-chooses, magic-chooses}
 use Rattle.search.proofs.Relevancy.{asks-by}
-use Rattle.search.proofs.Walk.{path-relevant}
 use Rattle.search.proofs.Model.{relevancy-sound}
-use Rattle.search.proofs.Magic.{same-relevant, same-true}
-use Rattle.search.proofs.OneTrail.{magic-same, trail-same, outcome-same}
+use Rattle.search.proofs.OneTrail.{magic-same, same-facts, trail-same, outcome-same}
 use Rattle.search.proofs.MagicPath.{magic-sound}
+use Rattle.search.proofs.SessionLeft.{any-session}
+use Rattle.search.proofs.SessionClaims.{one-walk-kept, any-origin}
 
 smallest : {F : Type 0} (k : Key F) (rs : List (Rule F)) (seeds : List F) → Smallest k rs seeds
 smallest k rs seeds = record { seeds-in = least-seeds k rs seeds; closed = least-closed k rs seeds; inside = least-ind k rs seeds }
@@ -53,11 +54,7 @@ one-trail k p limit =
           all-map
           (Reached (findR p))
           (λ s. (x : ℕ) → SameFacts k p s x)
-          (λ s r x.
-          record {
-            relevant = same-relevant k p (entered (s .path)) (path-relevant p (s .path) (r .0)) x;
-            true-relevant = same-true k p (entered (s .path)) (path-relevant p (s .path) (r .0)) x;
-          })
+          (λ s r. same-facts k p s (r .0))
           (trail (findR p) limit)
           (trail-reached (findR p) limit);
       outcomes = outcome-same (findR p) (findM k (p .atoms) (rewriting p)) (magic-same k p) limit;
@@ -76,6 +73,7 @@ theorems =
     record {
       smallest = smallest;
       any-walk = any-walk;
+      any-session = any-session;
       sound-walk = sound-walk;
       relevancy-sound = relevancy-sound;
       magic-sound = magic-sound;
@@ -85,5 +83,7 @@ theorems =
       model-given = model-given;
       one-trail = one-trail;
       by-holding = by-holding;
+      one-walk-kept = one-walk-kept;
+      any-origin = any-origin;
       cases-hold = cases-hold;
     }

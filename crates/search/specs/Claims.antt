@@ -10,7 +10,11 @@ use Rattle.lists.specs.Member.{All, every, has, In, Distinct, EachOnce, lead}
 use Rattle.search.specs.Closure.{Rule, Closed, broken, least}
 use Rattle.search.specs.Ground.{Ground, Proper, Model, Marked, Found, disjunctive}
 use Rattle.search.specs.Relevancy.{asked, isTrue, isRelevant, splittable, branches, modelBits, findR}
-use Rattle.search.specs.Magic.{tru, rel, MagicRule, rewriting, holds, findM}
+use Rattle.search.specs.Magic.{MagicRule, rewriting, findM}
+use Rattle.search.specs.Trails.{OneTrail}
+use Rattle.search.specs.SessionClaims.{Call, OneWalkKept, AnyOrigin}
+use Rattle.search.specs.Session.{Session}
+use Rattle.search.specs.SessionRight.{AnySession}
 use Rattle.search.specs.Choice.{RelevancyChoice, MagicChoice}
 use Rattle.search.specs.Sound.{SoundFind}
 use Rattle.search.specs.Machine.{Place, entered, Satisfied, Refuted, Exhausted, answer, last, root, entries, trail, proceed, outcome, FullWalk}
@@ -59,17 +63,6 @@ lastPlace find limit = last (root find) (entries find limit (root find))
 abbrev pub modelAt : {I : Type 0} → Ground I → Place I → List Bool
 modelAt p s = modelBits (p .atoms) (isTrue p (entered (s .path))) (isRelevant p (entered (s .path)))
 
--- at a place, for every atom and "false": held relevant = relevant, and held true = true and relevant
-pub record SameFacts {I : Type 0} (k : Key I) (p : Ground I) (s : Place I) (x : ℕ) : Type 0 where
-  pub relevant : holds k (p .atoms) (rewriting p) (entered (s .path)) (rel x) ≡ isRelevant p (entered (s .path)) x
-  pub true-relevant : holds k (p .atoms) (rewriting p) (entered (s .path)) (tru x) ≡ (isTrue p (entered (s .path)) x && isRelevant p (entered (s .path)) x)
-
--- Demand 3: the two whole trails are equal, place by place, with lists and findings; at every place the facts agree; and so do verdict, count and model
-pub record OneTrail {I : Type 0} (k : Key I) (p : Ground I) (limit : ℕ) : Type 0 where
-  pub trails : trail (findM k (p .atoms) (rewriting p)) limit ≡ trail (findR p) limit
-  pub facts : All (λ s. (x : ℕ) → SameFacts k p s x) (trail (findR p) limit)
-  pub outcomes : outcome (findM k (p .atoms) (rewriting p)) limit ≡ outcome (findR p) limit
-
 -- the number of conditions that hold from the left, before the first that does not, decides what closing, marking and splitting by an instance do
 pub record ByHolding : Type 1 where
   -- a rule is to fire: its body holds, as many from the left as there are, and its head does not
@@ -84,6 +77,8 @@ pub record ByHolding : Type 1 where
 pub record Theorems : Type 1 where
   pub smallest : {F : Type 0} (k : Key F) (rs : List (Rule F)) (seeds : List F) → Smallest k rs seeds
   pub any-walk : {I : Type 0} (find : List ℕ → Found I) → AnyWalk find
+  -- any session: when a call is refused, and what one that is not says and leaves
+  pub any-session : {I : Type 0} (find : List ℕ → Found I) → AnySession find
   pub sound-walk : {I : Type 0} (p : Ground I) (find : List ℕ → Found I) → SoundFind p find → SoundWalk p find
   -- both walks of a ground problem are sound
   pub relevancy-sound : {I : Type 0} (p : Ground I) → Proper p → SoundFind p (findR p)
@@ -97,4 +92,7 @@ pub record Theorems : Type 1 where
   pub model-given : {I : Type 0} (p : Ground I) (limit n : ℕ) (bits : List Bool) → outcome (findR p) limit ≡ Satisfied n bits → bits ≡ modelAt p (lastPlace (findR p) limit)
   pub one-trail : {I : Type 0} (k : Key I) (p : Ground I) (limit : ℕ) → OneTrail k p limit
   pub by-holding : ByHolding
+  -- a walk in pieces, by both engines in turn, is the whole walk; and a session of any origin goes on alike in both
+  pub one-walk-kept : {I : Type 0} (k : Key I) (p : Ground I) (magic : Bool) (limit : ℕ) (calls : List Call) → OneWalkKept k p magic limit calls
+  pub any-origin : {I : Type 0} (k : Key I) (p : Ground I) → Proper p → (s : Session) (further : ℕ) → AnyOrigin k p s further
   pub cases-hold : CasesHold

@@ -5,5 +5,9 @@ pub mod Magic
 pub mod Machine
 pub mod Sound
 pub mod Choice
+pub mod Trails
+pub mod Session
+pub mod SessionRight
+pub mod SessionClaims
 pub mod Claims
 pub mod Cases

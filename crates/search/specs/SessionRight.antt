@@ -1,0 +1,87 @@
+-- When a session is one of a walk, and what a call leaves, said without replaying it: of any way of finding a node.
+use Prim.Native.Nat.{ℕ, suc, _+_, _≤_, _<_}
+use mathlib.Core.Bool.{Bool}
+use mathlib.Core.List.{List, [], _∷_, _++_, map}
+use mathlib.Core.Logic.{_↔_}
+use mathlib.Core.Option.{some}
+use mathlib.Core.Path.{_≡_}
+use lib.ListN.{length, getD}
+use Rattle.search.specs.Ground.{Found, opened, split}
+use Rattle.search.specs.Machine.{Branch, Place, entered, nextPath, Outcome, Satisfied, Refuted, Exhausted, last, root, entries, proceed}
+use Rattle.search.specs.Session.{Step, Standing, refuted, satisfied, exhausted, Session, altsFound, placeOf, sessionAfter, declined, told, called}
+
+-- the atoms that the steps of a path enter
+abbrev pub atomsOf : List Step → List ℕ
+atomsOf steps = map (λ s. s .atom) steps
+
+abbrev pub standingOf : Outcome → Standing
+standingOf (Satisfied n bits) = satisfied
+standingOf (Refuted n) = refuted
+standingOf (Exhausted n) = exhausted
+
+abbrev pub countOf : Outcome → ℕ
+countOf (Satisfied n bits) = n
+countOf (Refuted n) = n
+countOf (Exhausted n) = n
+
+module _ {I : Type 0} (find : List ℕ → Found I) where
+  -- after these steps the walk splits, and this one enters the alternative just before its next one
+  pub record StepRight (steps : List Step) (s : Step) : Type 0 where
+    pub site : I
+    pub tried : List ℕ
+    pub left : List ℕ
+    pub found : find (atomsOf steps) ≡ split site (tried ++ (s .atom ∷ left))
+    pub next-is : s .next ≡ suc (length tried)
+
+  abbrev pub StepsRight : List Step → Type 0
+  StepsRight [] = Unit
+  StepsRight (s ∷ steps) = StepRight steps s × StepsRight steps
+
+  -- the alternatives of the node where a session stands
+  abbrev pub altsHere : Session → List ℕ
+  altsHere s = altsFound (find (atomsOf (s .path)))
+
+  -- "42 unless each entry of the path is the alternative just before the next one of the split that the walk takes there, the last node's next one is at most m (0 if it
+  -- has no split), fits stands at an open node, and none at a root that is closed or split to its end"
+  pub record Right (s : Session) : Type 0 where
+    pub steps : StepsRight (s .path)
+    pub next-fits : s .next ≤ length (altsHere s)
+    pub fits-open : s .standing ≡ satisfied → (bits : List Bool) × (find (atomsOf (s .path)) ≡ opened bits)
+    pub none-root : s .standing ≡ refuted → s .path ≡ []
+    pub none-over : s .standing ≡ refuted → s .next ≡ length (altsHere s)
+    pub none-shut : s .standing ≡ refuted → (bits : List Bool) → find (atomsOf (s .path)) ≡ opened bits → ⊥
+
+  -- what a run from a place on, which counts as entry `base`, leaves under a limit
+  pub record RunLeft (t : Place I) (base limit : ℕ) (o : Outcome) (left : Session) : Type 0 where
+    pub verdict-is : left .standing ≡ standingOf o
+    pub count-is : left .count ≡ countOf o
+    pub made : countOf o ≡ base + length (entries find limit t)
+    -- it is a session of the walk
+    pub right : Right left
+    -- spent after all entries that the limit allows, at the node whose next alternative is due
+    pub spent-all : left .standing ≡ exhausted → left .count ≡ base + limit
+    pub spent-due : left .standing ≡ exhausted → left .next < length (altsHere left)
+    pub spent-next : (bs : List (Branch I)) → left .standing ≡ exhausted → nextPath (last t (entries find limit t)) ≡ some bs
+        → entered bs ≡ getD (altsHere left) (left .next) 0 ∷ atomsOf (left .path)
+    -- fits at the last entry
+    pub fits-last : left .standing ≡ satisfied → atomsOf (left .path) ≡ entered ((last t (entries find limit t)) .path)
+
+  -- what a call that is not refused says and leaves
+  pub record CallTold (s : Session) (further : ℕ) : Type 0 where
+    pub place : Place I
+    pub outcome : Outcome
+    pub left : Session
+    pub stands : placeOf find s ≡ some place
+    pub path-is : entered (place .path) ≡ atomsOf (s .path)
+    pub calls : called find s further ≡ told outcome left
+    pub runs : RunLeft place (s .count) further outcome left
+    -- "A finished session answers again as before."
+    pub again : (s .standing ≡ exhausted → ⊥) → left ≡ s
+
+  pub record AnySession : Type 0 where
+    -- 41 looks at count and limit alone, before 42
+    pub refused-41 : (s : Session) (further : ℕ) → 4294967295 < s .count + further → called find s further ≡ declined 41
+    pub refused-42 : (s : Session) (further : ℕ) → s .count + further ≤ 4294967295 → (called find s further ≡ declined 42) ↔ (Right s → ⊥)
+    pub told-right : (s : Session) (further : ℕ) → s .count + further ≤ 4294967295 → Right s → CallTold s further
+    -- a first run
+    pub first-left : (limit : ℕ) → RunLeft (root find) 0 limit (proceed find limit 0 (root find)) (sessionAfter find limit 0 (root find))
