@@ -16,6 +16,7 @@ use Rattle.rewriting.specs.RulesLayout.{rulesLayout}
 use Rattle.rewriting.specs.Facts.{findIn}
 use Rattle.rewriting.specs.contracts.Ruled.{Ruled}
 use Rattle.rewriting.specs.Rewrite.{rulesOver}
+use Rattle.walk.specs.contracts.Walker.{fromRoot}
 use Rattle.walk.specs.contracts.Place.{bitsIn}
 use Rattle.walk.specs.contracts.Walk.{Tells}
 use Rattle.walk.specs.declared.answer.Walked.{Walked}
@@ -75,15 +76,15 @@ module _ (tb rules answer work : List ℕ) where
 
 -- ---- what the walk's answer says of the outcome
 
-module _ (bs : List ℕ) (limit : ℕ) (x : Walked) (facts : List ℕ) (tells : Tells (magicWalker bs limit) x facts) where
+module _ (bs : List ℕ) (limit : ℕ) (x : Walked) (facts : List ℕ) (tells : Tells (magicWalker bs) (fromRoot (magicWalker bs) limit) x facts) where
   outcome-is : rulesOutcome bs limit ≡ outcome (findIn bs) (limit - 0)
   unfolding rulesOutcome
   outcome-is = let all : limit - 0 ≡ limit = omega arith in ap (outcome (findIn bs)) (sym all)
 
-  told : (y : Walked) → x ≡ y → Tells (magicWalker bs limit) y facts
-  told y e = subst (λ (z : Walked). Tells (magicWalker bs limit) z facts) e tells
+  told : (y : Walked) → x ≡ y → Tells (magicWalker bs) (fromRoot (magicWalker bs) limit) y facts
+  told y e = subst (λ (z : Walked). Tells (magicWalker bs) (fromRoot (magicWalker bs) limit) z facts) e tells
 
-  pub tells-open : (c d : ℕ) → x ≡ Opened c d → rulesOutcome bs limit ≡ Satisfied c (bitsIn (magicWalker bs limit) facts)
+  pub tells-open : (c d : ℕ) → x ≡ Opened c d → rulesOutcome bs limit ≡ Satisfied c (bitsIn (magicWalker bs) facts)
   tells-open c d e = outcome-is ∙ told (Opened c d) e
 
   pub tells-shut : (c : ℕ) → x ≡ Shut c → rulesOutcome bs limit ≡ Refuted c

@@ -4,7 +4,7 @@ use mathlib.Core.List.{List, [], _∷_, map}
 use mathlib.Core.Path.{_≡_, refl, sym, ap, _∙_}
 use native.Mathlib.Omega.{arith}
 use lib.Dec.{T}
-use lib.ListN.{length, getD}
+use lib.ListN.{length, take, getD}
 use Rattle.lists.specs.Key.{natKey}
 use Rattle.lists.specs.Tabulate.{tabulate}
 use Rattle.lists.proofs.Firsts.{firsts-length}
@@ -28,7 +28,7 @@ use Rattle.magic_node.specs.contracts.Watch.{sitePlace}
 use Rattle.magic_node.proofs.RuledLaws.{givenAtom, RuleRead, rule-read, ruled-few}
 use Rattle.walk.specs.contracts.Walker.{Site}
 use Rattle.walk.specs.contracts.Path.{numberAt, fourAt, nextAt, siteAt, altsAt}
-use Rattle.magic_walk.specs.contracts.Place.{ruleSite, siteAlts, Splitting, magicWalker, splitAt}
+use Rattle.magic_walk.specs.contracts.Place.{ruleSite, siteAlts, Splitting, magicWalker}
 
 -- two alternatives or more are those that the rule gives
 heads-given : (bs values : List ℕ) (g : RuleGives) → T (disjunctive (headsBy bs values g)) → headsBy bs values g ≡ map (number (getD bs 0 0) (aritiesIn bs) values) (givenAtoms g)
@@ -65,10 +65,14 @@ module _ (bs : List ℕ) (h : Ruled bs) (s : Site) (at : Splitting bs s) where
   rule-few = omega (arith, at .listed .known, ruled-few bs h)
 
 -- by the rule and the values that have been read from the path
-module _ (bs : List ℕ) (h : Ruled bs) (path : List ℕ) (depth : ℕ) (at : Splitting bs (splitAt bs path depth))
+module _ (bs : List ℕ) (h : Ruled bs) (path : List ℕ) (depth : ℕ) (named : Splitting bs (siteAt (magicWalker bs) path depth))
     (q : ℕ) (number-is : q ≡ numberAt path depth) (values : List ℕ) (four-is : values ≡ fourAt path depth) where
   abbrev site : Site
-  site = splitAt bs path depth
+  site = record { number = numberAt path depth; values = take ((theRule bs (numberAt path depth)) .vars) (fourAt path depth) }
+
+  at : Splitting bs site
+  unfolding siteAt
+  at = named
 
   pub read-few : q < 320
   read-few = omega (arith, number-is, rule-few bs h site at)
@@ -76,7 +80,8 @@ module _ (bs : List ℕ) (h : Ruled bs) (path : List ℕ) (depth : ℕ) (at : Sp
   pub read-applied : Applied bs q values
   read-applied = rw (number-is, four-is) (record { known = at .listed .known; four = refl; below = at .listed .valued .below })
 
-  pub read-place : sitePlace bs (siteWith bs q values) ≡ sitePlace bs (ruleSite (splitAt bs path depth))
+  pub read-place : sitePlace bs (siteWith bs q values) ≡ sitePlace bs (ruleSite (siteAt (magicWalker bs) path depth))
+  unfolding siteAt
   read-place = rw (number-is, four-is)
 
   abbrev v : ℕ
@@ -107,7 +112,8 @@ module _ (bs : List ℕ) (h : Ruled bs) (path : List ℕ) (depth : ℕ) (at : Sp
             };
       }
 
-  alts-are : branches (slotNumbers bs (ruleAt (numberAt path depth) + 26) 4 (fourAt path depth) count) ≡ siteAlts bs (splitAt bs path depth)
+  alts-are : branches (slotNumbers bs (ruleAt (numberAt path depth) + 26) 4 (fourAt path depth) count) ≡ altsAt (magicWalker bs) path depth
+  unfolding siteAt
   alts-are =
       ap branches
       (sym
@@ -121,15 +127,5 @@ module _ (bs : List ℕ) (h : Ruled bs) (path : List ℕ) (depth : ℕ) (at : Sp
   read-slots = rw (number-is, four-is) slots
 
   pub read-next : (n : ℕ) → n ≡ nextAt path depth → (r : NextBranch) → NextOf (branches (slotNumbers bs (ruleAt q + 26) 4 values (getD bs (ruleAt q + 5) 0))) n r
-      → NextOf (siteAlts bs (splitAt bs path depth)) (nextAt path depth) r
+      → NextOf (altsAt (magicWalker bs) path depth) (nextAt path depth) r
   read-next n n-is r next = rw (← alts-are, ← n-is, ← number-is, ← four-is) next
-
--- what a split node's record names is the same whatever the limit
-module _ (bs : List ℕ) (limit : ℕ) (path : List ℕ) (depth : ℕ) where
-  pub split-listed : Splitting bs (siteAt (magicWalker bs limit) path depth) → Splitting bs (splitAt bs path depth)
-  unfolding siteAt
-  split-listed at = at
-
-  pub split-next : (r : NextBranch) → NextOf (siteAlts bs (splitAt bs path depth)) (nextAt path depth) r → NextOf (altsAt (magicWalker bs limit) path depth) (nextAt path depth) r
-  unfolding siteAt
-  split-next r next = next

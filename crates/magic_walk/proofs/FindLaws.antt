@@ -33,19 +33,19 @@ split-few bs h r n m q a b c d left node =
     (omega (arith, node .listed .known, ruled-few bs h), omega (arith, store-few (node .rests .leaves .store)))
 
 module _ (bs : List ℕ) (h : Ruled bs) (facts path : List ℕ) (depth n done from : ℕ) (room : Room path depth) (opening : HeldOpening bs facts n done from) (left-facts : List ℕ)
-    (limit : ℕ) (fresh : HeldFresh bs limit facts path depth n) where
+    (fresh : HeldFresh bs facts path depth n) where
   abbrev w : Walker Instance
-  w = magicWalker bs limit
+  w = magicWalker bs
 
   abbrev l : List ℕ
   l = entered (pathIn w path depth)
 
-  pub node-closed : (m : ℕ) → ClosedByRules bs facts n m left-facts → Finding (magicWalker bs limit) facts path depth n done (ToldClosed m) left-facts path
+  pub node-closed : (m : ℕ) → ClosedByRules bs facts n m left-facts → Finding (magicWalker bs) facts path depth n done (ToldClosed m) left-facts path
   node-closed m node =
       found-here w facts path depth n done (ToldClosed m) left-facts room (fresh .kept) (node .found l (fresh .seeded)) (node .rests .leaves .store) (node .held l (fresh .seeded))
       (omega (arith, node .rests .leaves .grows, opening .part)) (node .rests .leaves .kept)
 
-  pub node-open : (m : ℕ) → OpenByRules bs facts n m left-facts → Finding (magicWalker bs limit) facts path depth n done (ToldOpen m) left-facts path
+  pub node-open : (m : ℕ) → OpenByRules bs facts n m left-facts → Finding (magicWalker bs) facts path depth n done (ToldOpen m) left-facts path
   node-open m node =
       found-here w facts path depth n done (ToldOpen m) left-facts room (fresh .kept) (node .found l (fresh .seeded)) (node .rests .leaves .store) (node .held l (fresh .seeded))
       (omega (arith, node .rests .leaves .grows, opening .part)) (node .rests .leaves .kept)
@@ -74,8 +74,8 @@ module _ (bs : List ℕ) (h : Ruled bs) (facts path : List ℕ) (depth n done fr
         subst (λ (j : ℕ). RestedAtSplit bs site l (logged left-facts 18434 j)) (sym (wrote .mark-is))
         (record { rested = node .passed; following = node .rests .follows l (fresh .seeded); untrue = node .untrue })
 
-    pub node-split : Finding (magicWalker bs limit) facts path depth n done (ToldSplit m) left-facts left
+    pub node-split : Finding (magicWalker bs) facts path depth n done (ToldSplit m) left-facts left
     node-split =
-        found-split w (sound bs h limit) facts path depth n done room (fresh .kept) site splitting (node .found l (fresh .seeded))
+        found-split w (sound bs h) facts path depth n done room (fresh .kept) site splitting (node .found l (fresh .seeded))
         left-facts left size (wrote .before) site-is (wrote .next) m (node .rests .leaves .store)
         (omega (arith, wrote .mark-is)) (omega (arith, wrote .mark-is, node .rests .leaves .grows, opening .part)) rests (node .held l (fresh .seeded)) (node .rests .leaves .kept)

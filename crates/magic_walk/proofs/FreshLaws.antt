@@ -21,17 +21,17 @@ use Rattle.magic_node.specs.contracts.Node.{HeldOpening, HeldStarted, HeldSeede
 use Rattle.magic_node.proofs.WatchLaws.{met-grows, continuations-all, continuations-same}
 use Rattle.walk.specs.contracts.Walker.{Walker}
 use Rattle.walk.specs.contracts.Path.{Room, nextAt, markAt, Passed, siteAt, altsAt, entryAt, pathIn}
-use Rattle.walk.specs.contracts.Place.{Parted, Trying, Finding, Making}
+use Rattle.walk.specs.contracts.Place.{Parted, Finding, Making}
 use Rattle.walk.specs.declared.answer.Found.{Found as Told}
 use Rattle.walk.proofs.PathLaws.{path-deep, path-entered}
 use Rattle.walk.proofs.PlaceLaws.{entered-kept, place-made}
-use Rattle.magic_walk.specs.contracts.Place.{ruleSite, RestedAtSplit, magicWalker, splitAt, HeldFresh}
+use Rattle.magic_walk.specs.contracts.Place.{ruleSite, RestedAtSplit, magicWalker, HeldFresh}
 use Rattle.magic_walk.proofs.SoundLaws.{sound}
 
-module _ (bs : List ℕ) (h : Ruled bs) (limit : ℕ) (facts path : List ℕ) (depth : ℕ) (node : Parted (magicWalker bs limit) facts path depth)
-    (some-left : nextAt path depth < length (altsAt (magicWalker bs limit) path depth)) where
+module _ (bs : List ℕ) (h : Ruled bs) (facts path : List ℕ) (depth : ℕ) (node : Parted (magicWalker bs) facts path depth)
+    (some-left : nextAt path depth < length (altsAt (magicWalker bs) path depth)) where
   abbrev w : Walker Instance
-  w = magicWalker bs limit
+  w = magicWalker bs
 
   abbrev mark : ℕ
   mark = markAt path depth
@@ -48,11 +48,11 @@ module _ (bs : List ℕ) (h : Ruled bs) (limit : ℕ) (facts path : List ℕ) (d
   rests : RestedAtSplit bs (siteAt w path depth) l before
   rests = node .at-split .rests
 
-  pub next-small : getD (altsAt (magicWalker bs limit) path depth) (nextAt path depth) 0 < falseIn bs
-  next-small = (sound bs h limit) .small (entryAt w path depth) (pathIn w path depth) (node .at-split .enters (nextAt path depth) some-left)
+  pub next-small : getD (altsAt (magicWalker bs) path depth) (nextAt path depth) 0 < falseIn bs
+  next-small = (sound bs h) .small (entryAt w path depth) (pathIn w path depth) (node .at-split .enters (nextAt path depth) some-left)
 
   -- the next alternative is put into the set
-  module _ (own : ℕ) (own-is : own ≡ markAt path depth) (a : ℕ) (a-is : a ≡ getD (altsAt (magicWalker bs limit) path depth) (nextAt path depth) 0)
+  module _ (own : ℕ) (own-is : own ≡ markAt path depth) (a : ℕ) (a-is : a ≡ getD (altsAt (magicWalker bs) path depth) (nextAt path depth) 0)
       (left : List ℕ) (n : ℕ) (added : Added 18434 facts own a left n) where
     abbrev after : List ℕ
     after = logged left 18434 n
@@ -75,14 +75,13 @@ module _ (bs : List ℕ) (h : Ruled bs) (limit : ℕ) (facts path : List ℕ) (d
     -- what rested is worked off, and the truth is still to be
     inside : All (In natKey before) (logged left 18434 mark ++ continuationsIn after)
     inside =
-        let small : atom < 2050 = omega (arith, next-small, (sound bs h limit) .few) in
+        let small : atom < 2050 = omega (arith, next-small, (sound bs h) .few) in
         all-append (In natKey before) (logged left 18434 mark) (continuationsIn after)
         (subst (All (In natKey before)) (sym (put .kept mark (omega arith))) (all-in natKey before))
         (subst (All (In natKey before)) (sym (ap continuationsIn (put .list) ∙ continuations-same before atom small (has natKey before atom)))
         (continuations-all (In natKey before) before (all-in natKey before)))
 
-    pub added-opening : (from : ℕ) → from ≡ sitePlace bs (ruleSite (splitAt bs path depth)) → HeldOpening bs left n own from
-    unfolding siteAt
+    pub added-opening : (from : ℕ) → from ≡ sitePlace bs (ruleSite (siteAt (magicWalker bs) path depth)) → HeldOpening bs left n own from
     added-opening from from-is =
         let done : List ℕ = logged left 18434 mark ++ continuationsIn after in
         rw own-is
@@ -90,8 +89,8 @@ module _ (bs : List ℕ) (h : Ruled bs) (limit : ℕ) (facts path : List ℕ) (d
           store = put .store;
           part = put .grows;
           worked = λ i listed asked.
-              all-map (Met bs (sitePlace bs (ruleSite (splitAt bs path depth))) before) (Met bs from after)
-              (met-grows bs (sitePlace bs (ruleSite (splitAt bs path depth))) from before after (omega (arith, from-is)) carried) (siteGoals bs i)
+              all-map (Met bs (sitePlace bs (ruleSite (siteAt (magicWalker bs) path depth))) before) (Met bs from after)
+              (met-grows bs (sitePlace bs (ruleSite (siteAt (magicWalker bs) path depth))) from before after (omega (arith, from-is)) carried) (siteGoals bs i)
               (rests .rested i listed (all-map (In natKey done) (In natKey before) (λ x t. has-all natKey (In natKey before) done inside x t) (askedAt bs i) asked));
         })
 
@@ -101,22 +100,22 @@ module _ (bs : List ℕ) (h : Ruled bs) (limit : ℕ) (facts path : List ℕ) (d
       kept = entered-kept w facts path depth 0 some-left went p node
 
       pub added-room : length went ≡ 9225 → Room went (depth + 1)
-      added-room size = record { size = size; deep = path-deep w (sound bs h limit) went (depth + 1) kept }
+      added-room size = record { size = size; deep = path-deep w (sound bs h) went (depth + 1) kept }
 
-      pub added-made : (count : ℕ) → Trying (magicWalker bs limit) path depth count → (x : Told) (last-facts last : List ℕ)
-          → ((top : ℕ) → HeldFresh bs top left went (depth + 1) n → Finding (magicWalker bs top) left went (depth + 1) n own x last-facts last)
-          → Making (magicWalker bs limit) facts path depth count x last-facts last
-      added-made count due x last-facts last found =
-          let fresh : HeldFresh bs limit left went (depth + 1) n =
-          record { kept = kept; seeded = subst (λ (b : List (Branch Instance)). HeldSeeded bs (entered b) left n) (sym (path-entered w path went depth p)) added-seeded } in
-          place-made w facts path depth count some-left n left went p (put .grows) (put .kept) x last-facts last (rw (← own-is) (found limit fresh)) due
+      pub added-fresh : HeldFresh bs left went (depth + 1) n
+      added-fresh = record { kept = kept; seeded = subst (λ (b : List (Branch Instance)). HeldSeeded bs (entered b) left n) (sym (path-entered w path went depth p)) added-seeded }
+
+      pub added-made : (count : ℕ) (x : Told) (last-facts last : List ℕ) → Finding (magicWalker bs) left went (depth + 1) n own x last-facts last
+          → Making (magicWalker bs) facts path depth count x last-facts last
+      added-made count x last-facts last found =
+          place-made w facts path depth count some-left n left went p (put .grows) (put .kept) x last-facts last (rw (← own-is) found)
 
 -- the root, once "false" relevant is in
 module _ (bs : List ℕ) (left path : List ℕ) (n : ℕ) (started : HeldStarted bs left n) where
   pub root-opening : Ruled bs → HeldOpening bs left n 0 0
   unfolding logged
   root-opening h =
-      let few = (sound bs h 0) .few in
+      let few = (sound bs h) .few in
       record {
         store = started .store;
         part = omega arith;
@@ -125,9 +124,9 @@ module _ (bs : List ℕ) (left path : List ℕ) (n : ℕ) (started : HeldStarted
             (subst (λ (done : List ℕ). All (In natKey done) (askedAt bs i)) (ap continuationsIn (started .list) ∙ continuations-same [] (relevantFact (falseIn bs)) (omega arith) false) asked);
       }
 
-  pub root-fresh : (limit : ℕ) → HeldFresh bs limit left path 0 n
+  pub root-fresh : HeldFresh bs left path 0 n
   unfolding pathIn
-  root-fresh limit =
+  root-fresh =
       record {
         kept = tt;
         seeded =

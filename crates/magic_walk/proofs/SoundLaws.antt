@@ -34,14 +34,14 @@ module _ (bs : List ℕ) (h : Ruled bs) where
   finds : SoundFind ground (findIn bs)
   finds = subst (λ (xs : List ℕ). SoundFind ground (findIn xs)) (h .laid) (rules-sound (h .problem) (h .fits) (h .rest))
 
-  pub sound : (limit : ℕ) → Sound (magicWalker bs limit)
-  sound limit =
+  pub sound : Sound (magicWalker bs)
+  sound =
       record {
         few = false-few;
         short = λ path g. omega (arith, path-short ground (findIn bs) (finds .split-fresh) path g, false-is);
         small = λ b path g. omega (arith, (path-small ground (findIn bs) (finds .split-fresh) (b ∷ path) g) .1 .0, false-is);
         four = alts-few bs h;
-        enters = λ path s kept found. genuine-enters (findIn bs) path ((magicWalker bs limit) .instance s) (siteAlts bs s) kept found;
+        enters = λ path s kept found. genuine-enters (findIn bs) path ((magicWalker bs) .instance s) (siteAlts bs s) kept found;
         has-entered = λ s l facts at. at .following .seeds .1;
         untrue = λ s l facts at. at .untrue;
       }

@@ -14,7 +14,7 @@ use walk::node::number;
 use walk::node::pass;
 use walk::node::values;
 ghost use mathlib.Core.Path.{_≡_};
-ghost use Prim.Native.Nat.{ℕ, _+_, _<_};
+ghost use Prim.Native.Nat.{_+_, _<_};
 ghost use Rattle.store.specs.contracts.Store.{Store};
 ghost use Rattle.rewriting.specs.contracts.Ruled.{Ruled};
 ghost use Rattle.magic_node.specs.contracts.Index.{RulesIndexed};
@@ -22,15 +22,15 @@ ghost use Rattle.magic_node.specs.contracts.Watch.{sitePlace};
 ghost use Rattle.magic_node.specs.contracts.Node.{HeldOpening};
 ghost use Rattle.ground.specs.contracts.Branching.{NextOf};
 ghost use Rattle.ground.specs.declared.branch.NextBranch.the-variants.{Atom};
-ghost use Rattle.walk.specs.contracts.Path.{Room, nextAt, altsAt};
-ghost use Rattle.walk.specs.contracts.Place.{Parted, Trying, Finding, Making, Beginning};
-ghost use Rattle.magic_walk.specs.contracts.Place.{ruleSite, siteAlts, Splitting, magicWalker, splitAt, HeldFresh, OwnFacts};
+ghost use Rattle.walk.specs.contracts.Path.{Room, nextAt, siteAt, altsAt};
+ghost use Rattle.walk.specs.contracts.Place.{Parted, Finding, Making, Beginning};
+ghost use Rattle.magic_walk.specs.contracts.Place.{ruleSite, magicWalker, HeldFresh, OwnFacts};
 
 // The alternative that the split node at `depth` enters next.
 pub fn alternative(rules: &[u8], path: &[u8], depth: usize) -> NextBranch
     requires { ⌜ Ruled (now rules) ⌝ }
-    requires { ⌜ Room (now path) depth × Splitting (now rules) (splitAt (now rules) (now path) depth) ⌝ }
-    ensures { λ r. ⌜ NextOf (siteAlts (now (rules .entry)) (splitAt (now (rules .entry)) (now (path .entry)) depth)) (nextAt (now (path .entry)) depth) r ⌝ }
+    requires { ⌜ Room (now path) depth × (magicWalker (now rules)) .Named (siteAt (magicWalker (now rules)) (now path) depth) ⌝ }
+    ensures { λ r. ⌜ NextOf (altsAt (magicWalker (now (rules .entry))) (now (path .entry)) depth) (nextAt (now (path .entry)) depth) r ⌝ }
 {
     let four = values(path, depth);
     let record = 144 + 42 * number(path, depth);
@@ -48,8 +48,8 @@ pub fn alternative(rules: &[u8], path: &[u8], depth: usize) -> NextBranch
 // The place, in the walk's order, of the instance that it is split at.
 fn split_place(rules: &[u8], path: &[u8], depth: usize) -> usize
     requires { ⌜ Ruled (now rules) ⌝ }
-    requires { ⌜ Room (now path) depth × Splitting (now rules) (splitAt (now rules) (now path) depth) ⌝ }
-    ensures { λ r. ⌜ r ≡ sitePlace (now (rules .entry)) (ruleSite (splitAt (now (rules .entry)) (now (path .entry)) depth)) ⌝ }
+    requires { ⌜ Room (now path) depth × (magicWalker (now rules)) .Named (siteAt (magicWalker (now rules)) (now path) depth) ⌝ }
+    ensures { λ r. ⌜ r ≡ sitePlace (now (rules .entry)) (ruleSite (siteAt (magicWalker (now (rules .entry))) (now (path .entry)) depth)) ⌝ }
 {
     let four = values(path, depth);
     place_at(rules, number(path, depth) as u16, &four)
@@ -68,8 +68,8 @@ fn find(
 ) -> Found
     requires { ⌜ Ruled (now rules) ⌝ }
     requires { ⌜ RulesIndexed (now rules) (now index) ⌝ }
-    requires { ⌜ Room (now path) depth × HeldOpening (now rules) (now facts) n done from ⌝ }
-    ensures { λ x. ⌜ ((limit : ℕ) → HeldFresh (now (rules .entry)) limit (now (facts .entry)) (now (path .entry)) depth n → Finding (magicWalker (now (rules .entry)) limit) (now (facts .entry)) (now (path .entry)) depth n done x (now (facts .exit)) (now (path .exit))) × OwnFacts (now (path .exit)) depth x ⌝ }
+    requires { ⌜ Room (now path) depth × HeldOpening (now rules) (now facts) n done from × HeldFresh (now rules) (now facts) (now path) depth n ⌝ }
+    ensures { λ x. ⌜ Finding (magicWalker (now (rules .entry))) (now (facts .entry)) (now (path .entry)) depth n done x (now (facts .exit)) (now (path .exit)) × OwnFacts (now (path .exit)) depth x ⌝ }
 {
     let node = settle(rules, index, facts, n, done, from);
     match node {
@@ -86,7 +86,7 @@ fn find(
     }
 }
 
-// Makes the next place, entry `count` + 1 of the walk, where the limit allows one: enters atom a, the next alternative of the split node at `depth`.
+// Makes the next place, entry `count` + 1 of a run, where the limit allows one: enters atom a, the next alternative of the split node at `depth`.
 pub fn place(
     rules: &[u8],
     index: &[u16; 1536],
@@ -99,10 +99,10 @@ pub fn place(
 ) -> Found
     requires { ⌜ Ruled (now rules) ⌝ }
     requires { ⌜ RulesIndexed (now rules) (now index) ⌝ }
-    requires { ⌜ Parted (magicWalker (now rules) limit) (now facts) (now path) depth ⌝ }
-    requires { ⌜ NextOf (altsAt (magicWalker (now rules) limit) (now path) depth) (nextAt (now path) depth) (Atom a) ⌝ }
-    requires { ⌜ Trying (magicWalker (now rules) limit) (now path) depth count × (count < limit) ⌝ }
-    ensures { λ x. ⌜ Making (magicWalker (now (rules .entry)) limit) (now (facts .entry)) (now (path .entry)) depth count x (now (facts .exit)) (now (path .exit)) × OwnFacts (now (path .exit)) (depth + 1) x ⌝ }
+    requires { ⌜ Parted (magicWalker (now rules)) (now facts) (now path) depth ⌝ }
+    requires { ⌜ NextOf (altsAt (magicWalker (now rules)) (now path) depth) (nextAt (now path) depth) (Atom a) ⌝ }
+    requires { ⌜ count < limit ⌝ }
+    ensures { λ x. ⌜ Making (magicWalker (now (rules .entry))) (now (facts .entry)) (now (path .entry)) depth count x (now (facts .exit)) (now (path .exit)) × OwnFacts (now (path .exit)) (depth + 1) x ⌝ }
 {
     let own = mark(path, depth);
     let from = split_place(rules, path, depth);
@@ -116,7 +116,7 @@ pub fn root(rules: &[u8], index: &[u16; 1536], facts: &mut [u8], path: &mut [u8]
     requires { ⌜ Ruled (now rules) ⌝ }
     requires { ⌜ RulesIndexed (now rules) (now index) ⌝ }
     requires { ⌜ Store 18434 (now facts) 0 × Room (now path) 0 ⌝ }
-    ensures { λ x. ⌜ ((limit : ℕ) → Beginning (magicWalker (now (rules .entry)) limit) x (now (facts .exit)) (now (path .exit))) × OwnFacts (now (path .exit)) 0 x ⌝ }
+    ensures { λ x. ⌜ Beginning (magicWalker (now (rules .entry))) x (now (facts .exit)) (now (path .exit)) × OwnFacts (now (path .exit)) 0 x ⌝ }
 {
     let n = start(rules, facts);
     find(rules, index, facts, path, 0, n, 0, 0)

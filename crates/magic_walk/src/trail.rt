@@ -14,9 +14,11 @@ ghost use lib.ListN.{length};
 ghost use Rattle.store.specs.contracts.Store.{Store};
 ghost use Rattle.rewriting.specs.contracts.Ruled.{Ruled};
 ghost use Rattle.magic_node.specs.contracts.Index.{RulesIndexed};
+ghost use Rattle.ground.specs.Instance.{Instance};
+ghost use Rattle.walk.specs.contracts.Walker.{Run, fromRoot};
 ghost use Rattle.walk.specs.contracts.Path.{Room, markAt};
 ghost use Rattle.walk.specs.contracts.Place.{Parted, Reached, Visiting, Trying};
-ghost use Rattle.walk.specs.contracts.Walk.{Ended, Walks, WalkMade};
+ghost use Rattle.walk.specs.contracts.Walk.{Leaves, Ended, Walks, WalkMade};
 ghost use Rattle.magic_walk.specs.contracts.Place.{magicWalker, OwnFacts};
 
 // Visits the node at `depth`, which is entry `count` and found so; its facts are taken back to the first `done` where all is closed.
@@ -33,9 +35,9 @@ pub fn visit(
 ) -> Walked
     requires { ⌜ Ruled (now rules) ⌝ }
     requires { ⌜ RulesIndexed (now rules) (now index) ⌝ }
-    requires { ⌜ Reached (magicWalker (now rules) limit) (now facts) (now path) depth done found × OwnFacts (now path) depth found ⌝ }
-    requires { ⌜ Visiting (magicWalker (now rules) limit) (now facts) (now path) depth found count × (count ≤ limit) ⌝ }
-    ensures { λ x. ⌜ Ended (magicWalker (now (rules .entry)) limit) (now (facts .entry)) (now (path .entry)) depth done count x (now (facts .exit)) (now (path .exit)) ⌝ }
+    requires { ⌜ Reached (magicWalker (now rules)) (now facts) (now path) depth done found × OwnFacts (now path) depth found ⌝ }
+    requires { ⌜ count ≤ limit ⌝ }
+    ensures { λ x. ⌜ Leaves (magicWalker (now (rules .entry))) (now (facts .entry)) (now (path .entry)) depth done count limit x (now (facts .exit)) (now (path .exit)) × ((r : Run Instance) → r .limit ≡ limit → Visiting (magicWalker (now (rules .entry))) r (now (facts .entry)) (now (path .entry)) depth found count → Ended (magicWalker (now (rules .entry))) r (now (path .entry)) depth x (now (facts .exit)) (now (path .exit))) ⌝ }
 {
     match found {
         Found::Split(n) => {
@@ -59,7 +61,7 @@ pub fn visit(
 }
 
 // Tries the alternatives left at the split node at `depth`, after `count` entries.
-fn try_next(
+pub fn try_next(
     rules: &[u8],
     index: &[u16; 1536],
     facts: &mut [u8],
@@ -70,9 +72,9 @@ fn try_next(
 ) -> Walked
     requires { ⌜ Ruled (now rules) ⌝ }
     requires { ⌜ RulesIndexed (now rules) (now index) ⌝ }
-    requires { ⌜ Parted (magicWalker (now rules) limit) (now facts) (now path) depth ⌝ }
-    requires { ⌜ Trying (magicWalker (now rules) limit) (now path) depth count × (count ≤ limit) ⌝ }
-    ensures { λ x. ⌜ Ended (magicWalker (now (rules .entry)) limit) (now (facts .entry)) (now (path .entry)) depth (markAt (now (path .entry)) depth) count x (now (facts .exit)) (now (path .exit)) ⌝ }
+    requires { ⌜ Parted (magicWalker (now rules)) (now facts) (now path) depth ⌝ }
+    requires { ⌜ count ≤ limit ⌝ }
+    ensures { λ x. ⌜ Leaves (magicWalker (now (rules .entry))) (now (facts .entry)) (now (path .entry)) depth (markAt (now (path .entry)) depth) count limit x (now (facts .exit)) (now (path .exit)) × ((r : Run Instance) → r .limit ≡ limit → Trying (magicWalker (now (rules .entry))) r (now (path .entry)) depth count → Ended (magicWalker (now (rules .entry))) r (now (path .entry)) depth x (now (facts .exit)) (now (path .exit))) ⌝ }
 {
     let due = alternative(rules, path, depth);
     let NextBranch::Atom(a) = due else {
@@ -114,7 +116,7 @@ pub fn from_root(
     requires { ⌜ Ruled (now rules) ⌝ }
     requires { ⌜ RulesIndexed (now rules) (now index) ⌝ }
     requires { ⌜ Store 18434 (now facts) 0 × Room (now path) 0 ⌝ }
-    ensures { λ x. ⌜ Walks (magicWalker (now (rules .entry)) limit) x (now (facts .exit)) (now (path .exit)) ⌝ }
+    ensures { λ x. ⌜ Walks (magicWalker (now (rules .entry))) (fromRoot (magicWalker (now (rules .entry))) limit) x (now (facts .exit)) (now (path .exit)) ⌝ }
 {
     let found = root(rules, index, facts, path);
     visit(rules, index, facts, path, 0, 0, found, 0, limit)
@@ -124,7 +126,7 @@ pub fn from_root(
 pub fn whole_walk(rules: &[u8], facts: &mut [u8], limit: u32) -> Walked
     requires { ⌜ Ruled (now rules) ⌝ }
     requires { ⌜ length (now facts) ≡ 55302 ⌝ }
-    ensures { λ x. ⌜ WalkMade (magicWalker (now (rules .entry)) limit) x (now (facts .exit)) ⌝ }
+    ensures { λ x. ⌜ WalkMade (magicWalker (now (rules .entry))) (fromRoot (magicWalker (now (rules .entry))) limit) x (now (facts .exit)) ⌝ }
 {
     let index = build(rules);
     lists::zero(facts);

@@ -2,7 +2,7 @@
 use Prim.Native.Nat.{ℕ, _-_, _≤_, _<_}
 use mathlib.Core.Bool.{true, false}
 use mathlib.Core.List.{List, _++_}
-use mathlib.Core.Path.{_≡_, ap, sym, _∙_}
+use mathlib.Core.Path.{_≡_, ap, sym, subst, _∙_}
 use native.Mathlib.Omega.{arith}
 use lib.ListN.{length, take, drop, replicate}
 use borrow.Author.Tests.{lt-ltb, le-ltb}
@@ -15,8 +15,10 @@ use Rattle.ground.specs.declared.verdict.Verdict.{Verdict}
 use Rattle.ground.specs.declared.verdict.Verdict.the-variants.{Refused}
 use Rattle.ground.specs.Verdict.{verdictOf, answerOf}
 use Rattle.ground.specs.Instance.{groundIn}
+use Rattle.walk.specs.contracts.Walker.{fromRoot}
 use Rattle.walk.specs.contracts.Place.{bitsIn}
 use Rattle.walk.specs.contracts.Walk.{Tells}
+use Rattle.walk.specs.declared.answer.Walked.{Walked}
 use Rattle.walk.specs.declared.answer.Walked.the-variants.{Shut, Opened, Exhausted as LimitMet}
 use Rattle.relevancy_walk.specs.contracts.Place.{relevancyWalker}
 use Rattle.relevancy.specs.Engine.{outcomeIn, tooShort, fitResult, fitAnswer, fitWork}
@@ -56,18 +58,19 @@ module _ (tb answer work : List ℕ) where
 
 -- ---- what the walk's answer says of the outcome
 
-outcome-is : (tb : List ℕ) → outcomeIn tb ≡ outcome (findR (groundIn tb)) (limitOf ((problemIn tb) .limit) - 0)
-unfolding outcomeIn
-outcome-is tb =
-    let all : limitOf ((problemIn tb) .limit) - 0 ≡ limitOf ((problemIn tb) .limit) = omega arith in
-    ap (outcome (findR (groundIn tb))) (sym all)
+module _ (tb : List ℕ) (limit : ℕ) (limit-is : limit ≡ limitOf ((problemIn tb) .limit)) (x : Walked) (facts : List ℕ) (tells : Tells (relevancyWalker tb) (fromRoot (relevancyWalker tb) limit) x facts) where
+  outcome-is : outcomeIn tb ≡ outcome (findR (groundIn tb)) (limit - 0)
+  unfolding outcomeIn
+  outcome-is = let all : limit - 0 ≡ limitOf ((problemIn tb) .limit) = omega (arith, limit-is) in ap (outcome (findR (groundIn tb))) (sym all)
 
-module _ (tb facts : List ℕ) where
-  pub tells-open : (c d : ℕ) → Tells (relevancyWalker tb) (Opened c d) facts → outcomeIn tb ≡ Satisfied c (bitsIn (relevancyWalker tb) facts)
-  tells-open c d h = outcome-is tb ∙ h
+  told : (y : Walked) → x ≡ y → Tells (relevancyWalker tb) (fromRoot (relevancyWalker tb) limit) y facts
+  told y e = subst (λ (z : Walked). Tells (relevancyWalker tb) (fromRoot (relevancyWalker tb) limit) z facts) e tells
 
-  pub tells-shut : (c : ℕ) → Tells (relevancyWalker tb) (Shut c) facts → outcomeIn tb ≡ Refuted c
-  tells-shut c h = outcome-is tb ∙ h
+  pub tells-open : (c d : ℕ) → x ≡ Opened c d → outcomeIn tb ≡ Satisfied c (bitsIn (relevancyWalker tb) facts)
+  tells-open c d e = outcome-is ∙ told (Opened c d) e
 
-  pub tells-due : (d : ℕ) → Tells (relevancyWalker tb) (LimitMet d) facts → outcomeIn tb ≡ Exhausted (limitOf ((problemIn tb) .limit))
-  tells-due d h = outcome-is tb ∙ h
+  pub tells-shut : (c : ℕ) → x ≡ Shut c → outcomeIn tb ≡ Refuted c
+  tells-shut c e = outcome-is ∙ told (Shut c) e
+
+  pub tells-due : (d : ℕ) → x ≡ LimitMet d → outcomeIn tb ≡ Exhausted limit
+  tells-due d e = outcome-is ∙ told (LimitMet d) e

@@ -19,7 +19,8 @@ fn decide(table: &[u8], answer: &mut [u8], facts: &mut [u8]) -> Verdict
     requires { ⌜ (1024 ≤ length (now answer)) × (length (now facts) ≡ 6150) ⌝ }
     ensures { λ r. ⌜ (r ≡ verdictOf (outcomeIn (now (table .entry)))) × (now (answer .exit) ≡ answerOf (outcomeIn (now (table .entry))) (now (answer .entry))) ⌝ }
 {
-    let walked = whole_walk(table, facts);
+    let limit = limit_in(table);
+    let walked = whole_walk(table, facts, limit);
     match walked {
         Walked::Opened(count, _depth) => {
             give(facts, answer, pair(table[8], table[9]));
@@ -30,7 +31,7 @@ fn decide(table: &[u8], answer: &mut [u8], facts: &mut [u8]) -> Verdict
         }
         _ => {}
     }
-    Verdict::Exhausted(limit_in(table))
+    Verdict::Exhausted(limit)
 }
 
 // The same, in the first part of the work buffer, which is left zero.

@@ -20,7 +20,7 @@ ghost use Rattle.relevancy_node.specs.contracts.Index.{ClausesIndexed};
 ghost use Rattle.ground.specs.contracts.Branching.{NextOf};
 ghost use Rattle.ground.specs.declared.branch.NextBranch.the-variants.{Atom};
 ghost use Rattle.walk.specs.contracts.Path.{Room, nextAt, siteAt, altsAt};
-ghost use Rattle.walk.specs.contracts.Place.{Parted, Trying, Finding, Making, Beginning};
+ghost use Rattle.walk.specs.contracts.Place.{Parted, Finding, Making, Beginning};
 ghost use Rattle.relevancy_walk.specs.contracts.Place.{relevancyWalker, TrueFresh};
 
 // The alternative that the split node at `depth` enters next.
@@ -73,7 +73,7 @@ fn find(
     }
 }
 
-// Makes the next place, entry `count` + 1 of the walk, where the limit allows one: enters atom a, the next alternative of the split node at `depth`.
+// Makes the next place, entry `count` + 1 of a run, where the limit allows one: enters atom a, the next alternative of the split node at `depth`.
 pub fn place(
     table: &[u8],
     conds: &[u16; 384],
@@ -83,12 +83,13 @@ pub fn place(
     depth: usize,
     a: usize,
     count: u32,
+    limit: u32,
 ) -> Found
     requires { ⌜ Lawful (now table) ⌝ }
     requires { ⌜ ClausesIndexed (now table) false (now conds) × ClausesIndexed (now table) true (now alts) ⌝ }
     requires { ⌜ Parted (relevancyWalker (now table)) (now facts) (now path) depth ⌝ }
     requires { ⌜ NextOf (altsAt (relevancyWalker (now table)) (now path) depth) (nextAt (now path) depth) (Atom a) ⌝ }
-    requires { ⌜ Trying (relevancyWalker (now table)) (now path) depth count × (count < (relevancyWalker (now table)) .limit) ⌝ }
+    requires { ⌜ count < limit ⌝ }
     ensures { λ x. ⌜ Making (relevancyWalker (now (table .entry))) (now (facts .entry)) (now (path .entry)) depth count x (now (facts .exit)) (now (path .exit)) ⌝ }
 {
     let own = mark(path, depth);

@@ -3,7 +3,6 @@ use crate::place::alternative;
 use crate::place::place;
 use crate::place::root;
 use ground::branch::NextBranch;
-use ground::verdict::limit_in;
 use relevancy_node::index::build;
 use store::undo;
 use walk::answer::Found;
@@ -16,9 +15,11 @@ ghost use lib.ListN.{length};
 ghost use Rattle.store.specs.contracts.Store.{Store};
 ghost use Rattle.problem.specs.Table.{Lawful};
 ghost use Rattle.relevancy_node.specs.contracts.Index.{ClausesIndexed};
+ghost use Rattle.ground.specs.Instance.{Instance};
+ghost use Rattle.walk.specs.contracts.Walker.{Run, fromRoot};
 ghost use Rattle.walk.specs.contracts.Path.{Room, markAt};
 ghost use Rattle.walk.specs.contracts.Place.{Parted, Reached, Visiting, Trying};
-ghost use Rattle.walk.specs.contracts.Walk.{Ended, Walks, WalkMade};
+ghost use Rattle.walk.specs.contracts.Walk.{Leaves, Ended, Walks, WalkMade};
 ghost use Rattle.relevancy_walk.specs.contracts.Place.{relevancyWalker};
 
 // Visits the node at `depth`, which is entry `count` and found so; its facts are taken back to the first `done` where all is closed.
@@ -37,8 +38,8 @@ pub fn visit(
     requires { ⌜ Lawful (now table) ⌝ }
     requires { ⌜ ClausesIndexed (now table) false (now conds) × ClausesIndexed (now table) true (now alts) ⌝ }
     requires { ⌜ Reached (relevancyWalker (now table)) (now facts) (now path) depth done found ⌝ }
-    requires { ⌜ Visiting (relevancyWalker (now table)) (now facts) (now path) depth found count × (count ≤ limit) × (limit ≡ (relevancyWalker (now table)) .limit) ⌝ }
-    ensures { λ x. ⌜ Ended (relevancyWalker (now (table .entry))) (now (facts .entry)) (now (path .entry)) depth done count x (now (facts .exit)) (now (path .exit)) ⌝ }
+    requires { ⌜ count ≤ limit ⌝ }
+    ensures { λ x. ⌜ Leaves (relevancyWalker (now (table .entry))) (now (facts .entry)) (now (path .entry)) depth done count limit x (now (facts .exit)) (now (path .exit)) × ((r : Run Instance) → r .limit ≡ limit → Visiting (relevancyWalker (now (table .entry))) r (now (facts .entry)) (now (path .entry)) depth found count → Ended (relevancyWalker (now (table .entry))) r (now (path .entry)) depth x (now (facts .exit)) (now (path .exit))) ⌝ }
 {
     match found {
         Found::Split(n) => {
@@ -64,7 +65,7 @@ pub fn visit(
 }
 
 // Tries the alternatives left at the split node at `depth`, after `count` entries.
-fn try_next(
+pub fn try_next(
     table: &[u8],
     conds: &[u16; 384],
     alts: &[u16; 384],
@@ -77,8 +78,8 @@ fn try_next(
     requires { ⌜ Lawful (now table) ⌝ }
     requires { ⌜ ClausesIndexed (now table) false (now conds) × ClausesIndexed (now table) true (now alts) ⌝ }
     requires { ⌜ Parted (relevancyWalker (now table)) (now facts) (now path) depth ⌝ }
-    requires { ⌜ Trying (relevancyWalker (now table)) (now path) depth count × (count ≤ limit) × (limit ≡ (relevancyWalker (now table)) .limit) ⌝ }
-    ensures { λ x. ⌜ Ended (relevancyWalker (now (table .entry))) (now (facts .entry)) (now (path .entry)) depth (markAt (now (path .entry)) depth) count x (now (facts .exit)) (now (path .exit)) ⌝ }
+    requires { ⌜ count ≤ limit ⌝ }
+    ensures { λ x. ⌜ Leaves (relevancyWalker (now (table .entry))) (now (facts .entry)) (now (path .entry)) depth (markAt (now (path .entry)) depth) count limit x (now (facts .exit)) (now (path .exit)) × ((r : Run Instance) → r .limit ≡ limit → Trying (relevancyWalker (now (table .entry))) r (now (path .entry)) depth count → Ended (relevancyWalker (now (table .entry))) r (now (path .entry)) depth x (now (facts .exit)) (now (path .exit))) ⌝ }
 {
     let due = alternative(table, path, depth);
     let NextBranch::Atom(a) = due else {
@@ -88,7 +89,7 @@ fn try_next(
         return Walked::Exhausted(depth);
     }
     let own = mark(path, depth);
-    let found = place(table, conds, alts, facts, path, depth, a, count);
+    let found = place(table, conds, alts, facts, path, depth, a, count, limit);
     let walked = visit(
         table,
         conds,
@@ -110,7 +111,7 @@ fn try_next(
     walked
 }
 
-// The whole walk, from the root on, in a set without facts.
+// The whole walk under a limit, from the root on, in a set without facts.
 pub fn from_root(
     table: &[u8],
     conds: &[u16; 384],
@@ -121,23 +122,22 @@ pub fn from_root(
 ) -> Walked
     requires { ⌜ Lawful (now table) ⌝ }
     requires { ⌜ ClausesIndexed (now table) false (now conds) × ClausesIndexed (now table) true (now alts) ⌝ }
-    requires { ⌜ Store 2050 (now facts) 0 × Room (now path) 0 × (limit ≡ (relevancyWalker (now table)) .limit) ⌝ }
-    ensures { λ x. ⌜ Walks (relevancyWalker (now (table .entry))) x (now (facts .exit)) (now (path .exit)) ⌝ }
+    requires { ⌜ Store 2050 (now facts) 0 × Room (now path) 0 ⌝ }
+    ensures { λ x. ⌜ Walks (relevancyWalker (now (table .entry))) (fromRoot (relevancyWalker (now (table .entry))) limit) x (now (facts .exit)) (now (path .exit)) ⌝ }
 {
     let found = root(table, conds, alts, facts, path);
     visit(table, conds, alts, facts, path, 0, 0, found, 0, limit)
 }
 
-// Walks a table under its limit, in a buffer for facts with any bytes.
-pub fn whole_walk(table: &[u8], facts: &mut [u8]) -> Walked
+// Walks a table under a limit, in a buffer for facts with any bytes.
+pub fn whole_walk(table: &[u8], facts: &mut [u8], limit: u32) -> Walked
     requires { ⌜ Lawful (now table) ⌝ }
     requires { ⌜ length (now facts) ≡ 6150 ⌝ }
-    ensures { λ x. ⌜ WalkMade (relevancyWalker (now (table .entry))) x (now (facts .exit)) ⌝ }
+    ensures { λ x. ⌜ WalkMade (relevancyWalker (now (table .entry))) (fromRoot (relevancyWalker (now (table .entry))) limit) x (now (facts .exit)) ⌝ }
 {
     let conds = build(table, false);
     let alts = build(table, true);
     lists::zero(facts);
     let mut path = [0u8; 9225];
-    let limit = limit_in(table);
     from_root(table, &conds, &alts, facts, &mut path, limit)
 }

@@ -8,9 +8,9 @@ use lib.ListN.{length, drop}
 use Rattle.search.specs.Ground.{Found, split}
 use Rattle.search.specs.Machine.{Branch, entered, place, placed}
 use Rattle.store.specs.contracts.Store.{Store, Undone, logged}
-use Rattle.walk.specs.contracts.Walker.{Site, Walker, Sound, branchOf}
+use Rattle.walk.specs.contracts.Walker.{Site, Walker, Run, Sound, branchOf}
 use Rattle.walk.specs.contracts.Path.{Room, nextAt, markAt, PathKept, Passed, siteAt, altsAt, entryAt, pathIn, nextIn}
-use Rattle.walk.specs.contracts.Place.{factsOf, foundIn, placeIn, AtSplit, Parted, Ready, Reached, Visiting, Trying, Finding, Making, Beginning}
+use Rattle.walk.specs.contracts.Place.{factsOf, foundIn, placeIn, AtSplit, Parted, Ready, Reached, Visiting, Finding, Making, Beginning}
 use Rattle.walk.specs.declared.answer.Found.{Found as Told}
 use Rattle.walk.specs.declared.answer.Found.the-variants.{Split}
 use Rattle.walk.proofs.PathLaws.{path-same, path-entered, passed-still, next-some}
@@ -109,8 +109,8 @@ module _ {I : Type 0} (w : Walker I) where
     pub place-made : (n : ℕ) (went-facts went : List ℕ) → Passed path depth went → markAt path depth ≤ n
         → ((i : ℕ) → i ≤ markAt path depth → logged went-facts (w .capacity) i ≡ logged facts (w .capacity) i)
         → (x : Told) (left-facts left : List ℕ) → Finding w went-facts went (depth + 1) n (markAt path depth) x left-facts left
-        → Trying w path depth count → Making w facts path depth count x left-facts left
-    place-made n went-facts went p few logs x left-facts left f due =
+        → Making w facts path depth count x left-facts left
+    place-made n went-facts went p few logs x left-facts left f =
         let path-is : pathIn w left (depth + 1) ≡ entryAt w path depth ∷ pathIn w path depth = path-same w went left (depth + 1) (f .before) ∙ path-entered w path went depth p in
         let place-is : place (w .find) (pathIn w left (depth + 1)) ≡ placeIn w left-facts left (depth + 1) x =
         ap (λ (d : Found I). record { path = pathIn w left (depth + 1); found = d }) (f .reached .found) in
@@ -118,7 +118,7 @@ module _ {I : Type 0} (w : Walker I) where
         ap (placed (w .find)) (next-some w path depth some-left ∙ ap some (sym path-is)) ∙ ap some place-is in
         record {
           made = made;
-          trail = entry-made (w .find) (w .start) (w .base) count (nextIn w path depth) (placeIn w left-facts left (depth + 1) x) due made;
+          trail = λ r below due. entry-made (w .find) (r .start) (r .base) count (nextIn w path depth) (placeIn w left-facts left (depth + 1) x) due made;
           reached = f .reached;
           path-is = path-is;
           passed = passed-still path went left depth p (f .before);
@@ -133,5 +133,5 @@ module _ {I : Type 0} (w : Walker I) where
   pub reached-as : (facts path : List ℕ) (depth done : ℕ) (x y : Told) → x ≡ y → Reached w facts path depth done x → Reached w facts path depth done y
   reached-as facts path depth done x y e h = subst (Reached w facts path depth done) e h
 
-  pub visiting-as : (facts path : List ℕ) (depth count : ℕ) (x y : Told) → x ≡ y → Visiting w facts path depth x count → Visiting w facts path depth y count
-  visiting-as facts path depth count x y e h = subst (λ (z : Told). Visiting w facts path depth z count) e h
+  pub visiting-as : (r : Run I) (facts path : List ℕ) (depth count : ℕ) (x y : Told) → x ≡ y → Visiting w r facts path depth x count → Visiting w r facts path depth y count
+  visiting-as r facts path depth count x y e h = subst (λ (z : Told). Visiting w r facts path depth z count) e h

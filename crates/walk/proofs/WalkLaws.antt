@@ -18,10 +18,10 @@ use types.Run.{OneOf}
 use Rattle.store.specs.contracts.Store.{Store, Undone, logged}
 use Rattle.store.proofs.Laws.{logged-grows}
 use Rattle.walk.specs.contracts.Trail.{AtEntry}
-use Rattle.walk.specs.contracts.Walker.{Site, Walker, Sound}
+use Rattle.walk.specs.contracts.Walker.{Site, Walker, Run, fromRoot, Sound}
 use Rattle.walk.specs.contracts.Path.{nextAt, markAt, Passed, siteAt, altsAt, entryAt, pathIn, nextIn}
 use Rattle.walk.specs.contracts.Place.{bitsIn, placeIn, Parted, Reached, Visiting, Trying, Making, Beginning}
-use Rattle.walk.specs.contracts.Walk.{untrue, triesLeft, visitsLeft, AllShut, Ended, Walks, Tells}
+use Rattle.walk.specs.contracts.Walk.{untrue, triesLeft, visitsLeft, AllShut, Leaves, Ended, Walks, Tells}
 use Rattle.walk.specs.declared.answer.Found.{Found as Told}
 use Rattle.walk.specs.declared.answer.Found.the-variants.{Closed as ToldClosed, Open as ToldOpen, Split as ToldSplit}
 use Rattle.walk.specs.declared.answer.Walked.{Walked}
@@ -85,84 +85,93 @@ module _ (facts more : List ℕ) (grows : (x : ℕ) → In natKey facts x → In
 
 -- ---- visiting
 
-module _ {I : Type 0} (w : Walker I) (facts path : List ℕ) (depth done count : ℕ) (within : count ≤ w .limit) where
-  pub visit-open : (n : ℕ) → Reached w facts path depth done (ToldOpen n) → Visiting w facts path depth (ToldOpen n) count
-      → Ended w facts path depth done count (Opened count depth) facts path
-  visit-open n at here = record { facts-count = n; done = done; trail = here; within = within; reached = at }
+module _ {I : Type 0} (w : Walker I) (facts path : List ℕ) (depth done count limit : ℕ) (within : count ≤ limit) where
+  pub visit-open : (n : ℕ) → Reached w facts path depth done (ToldOpen n) → Leaves w facts path depth done count limit (Opened count depth) facts path
+  visit-open n at = record { facts-count = n; done = done; within = within; reached = at }
 
-  pub visit-closed : (n : ℕ) → Visiting w facts path depth (ToldClosed n) count → (left : List ℕ) → Undone (w .capacity) facts done left
-      → Ended w facts path depth done count (Shut count) left path
-  visit-closed n here left undone =
+  pub visit-closed : (left : List ℕ) → Undone (w .capacity) facts done left → Leaves w facts path depth done count limit (Shut count) left path
+  visit-closed left undone = record { grows = omega arith; within = within; undone = undone; before = λ i l. refl }
+
+  -- the alternatives of a split node are all shut, and the facts go back
+  pub split-shut : (n : ℕ) → Reached w facts path depth done (ToldSplit n) → (own : List ℕ) → Undone (w .capacity) facts (markAt path depth) own
+      → (c : ℕ) (tried-facts tried : List ℕ) → AllShut w own path depth (markAt path depth) count limit c tried-facts tried
+      → (left : List ℕ) → Undone (w .capacity) tried-facts done left
+      → Leaves w facts path depth done count limit (Shut c) left tried
+  split-shut n at own first c tried-facts tried shut left undone =
       record {
-        trail = next-of (w .find) (w .start) (w .base) count (placeIn w facts path depth (ToldClosed n)) closed-unopened here;
-        grows = omega arith;
-        within = within;
-        undone = undone;
-        before = λ i l. refl;
+        grows = shut .grows;
+        within = shut .within;
+        undone =
+            record {
+              store = undone .store;
+              kept = λ i l. undone .kept i l ∙ shut .undone .kept i (omega (arith, at .ready .0)) ∙ first .kept i (omega (arith, at .ready .0));
+            };
+        before = shut .before;
       }
 
-  -- the node is split: visiting it is trying all its alternatives
-  module _ (n : ℕ) where
-    pub split-tries : Visiting w facts path depth (ToldSplit n) count → Trying w path depth count
-    split-tries here =
-        next-of (w .find) (w .start) (w .base) count (placeIn w facts path depth (ToldSplit n))
-        (split-unopened (w .instance (siteAt w path depth)) (drop (nextAt path depth) (altsAt w path depth))) here
+-- where a run stands at a node that is visited
+module _ {I : Type 0} (w : Walker I) (r : Run I) (facts path : List ℕ) (depth count n : ℕ) where
+  pub closed-ended : Visiting w r facts path depth (ToldClosed n) count → (left : List ℕ) → Ended w r path depth (Shut count) left path
+  closed-ended here left = next-of (w .find) (r .start) (r .base) count (placeIn w facts path depth (ToldClosed n)) closed-unopened here
 
-    -- they are all shut, and the facts go back
-    pub split-shut : Reached w facts path depth done (ToldSplit n) → (own : List ℕ) → Undone (w .capacity) facts (markAt path depth) own
-        → (c : ℕ) (tried-facts tried : List ℕ) → AllShut w own path depth (markAt path depth) count c tried-facts tried
-        → (left : List ℕ) → Undone (w .capacity) tried-facts done left
-        → Ended w facts path depth done count (Shut c) left tried
-    split-shut at own first c tried-facts tried shut left undone =
-        record {
-          trail = shut .trail;
-          grows = shut .grows;
-          within = shut .within;
-          undone =
-              record {
-                store = undone .store;
-                kept = λ i l. undone .kept i l ∙ shut .undone .kept i (omega (arith, at .ready .0)) ∙ first .kept i (omega (arith, at .ready .0));
-              };
-          before = shut .before;
-        }
+  -- visiting a split node is trying all its alternatives
+  pub split-tries : Visiting w r facts path depth (ToldSplit n) count → Trying w r path depth count
+  split-tries here =
+      next-of (w .find) (r .start) (r .base) count (placeIn w facts path depth (ToldSplit n))
+      (split-unopened (w .instance (siteAt w path depth)) (drop (nextAt path depth) (altsAt w path depth))) here
 
 -- what is open or due below is so above
-pub passes : {I : Type 0} (w : Walker I) (facts path : List ℕ) (depth done count : ℕ) (above-facts above : List ℕ) (high base before : ℕ) (x : Walked) → OneOf (1 ∷ 2 ∷ []) (tagOf walked-type x)
-    → (left-facts left : List ℕ) → Ended w facts path depth done count x left-facts left → Ended w above-facts above high base before x left-facts left
-passes w facts path depth done count above-facts above high base before (Shut c) t left-facts left e = absurd (not-shut t)
-  where
-    not-shut : OneOf (1 ∷ 2 ∷ []) 0 → ⊥
-    not-shut (inl z) = let y : _≡_ {A = ℕ} 0 1 = z in omega arith
-    not-shut (inr z) = let y : _≡_ {A = ℕ} 0 2 = z in omega arith
-passes w facts path depth done count above-facts above high base before (Opened c d) t left-facts left e = e
-passes w facts path depth done count above-facts above high base before (LimitMet d) t left-facts left e = e
+not-shut : OneOf (1 ∷ 2 ∷ []) 0 → ⊥
+not-shut (inl z) = let y : _≡_ {A = ℕ} 0 1 = z in omega arith
+not-shut (inr z) = let y : _≡_ {A = ℕ} 0 2 = z in omega arith
+
+module _ {I : Type 0} (w : Walker I) (left-facts left : List ℕ) where
+  pub passes : (limit : ℕ) (facts path : List ℕ) (depth done count : ℕ) (above-facts above : List ℕ) (high base before : ℕ) (x : Walked) → OneOf (1 ∷ 2 ∷ []) (tagOf walked-type x)
+      → Leaves w facts path depth done count limit x left-facts left → Leaves w above-facts above high base before limit x left-facts left
+  passes limit facts path depth done count above-facts above high base before (Shut c) t e = absurd (not-shut t)
+  passes limit facts path depth done count above-facts above high base before (Opened c d) t e = e
+  passes limit facts path depth done count above-facts above high base before (LimitMet d) t e = e
+
+  pub passes-ended : (r : Run I) (path : List ℕ) (depth : ℕ) (above : List ℕ) (high : ℕ) (x : Walked) → OneOf (1 ∷ 2 ∷ []) (tagOf walked-type x)
+      → Ended w r path depth x left-facts left → Ended w r above high x left-facts left
+  passes-ended r path depth above high (Shut c) t e = absurd (not-shut t)
+  passes-ended r path depth above high (Opened c d) t e = e
+  passes-ended r path depth above high (LimitMet d) t e = e
+
+-- an end, by another name of the facts kept and of the answer
+pub leaves-as : {I : Type 0} (w : Walker I) (facts path : List ℕ) (depth done begun-done count limit : ℕ) (x y : Walked) (left-facts left : List ℕ)
+    → done ≡ begun-done → x ≡ y → Leaves w facts path depth done count limit x left-facts left → Leaves w facts path depth begun-done count limit y left-facts left
+leaves-as w facts path depth done begun-done count limit x y left-facts left d e h =
+    subst (λ (z : Walked). Leaves w facts path depth begun-done count limit z left-facts left) e
+    (subst (λ (m : ℕ). Leaves w facts path depth m count limit x left-facts left) d h)
+
+pub ended-as : {I : Type 0} (w : Walker I) (r : Run I) (path : List ℕ) (depth : ℕ) (x y : Walked) (left-facts left : List ℕ)
+    → x ≡ y → Ended w r path depth x left-facts left → Ended w r path depth y left-facts left
+ended-as w r path depth x y left-facts left e h = subst (λ (z : Walked). Ended w r path depth z left-facts left) e h
 
 -- ---- trying
 
-module _ {I : Type 0} (w : Walker I) (facts path : List ℕ) (depth count : ℕ) (node : Parted w facts path depth) (within : count ≤ w .limit) where
+module _ {I : Type 0} (w : Walker I) (facts path : List ℕ) (depth : ℕ) (node : Parted w facts path depth) where
   -- none is left
-  pub tried-none : length (altsAt w path depth) ≤ nextAt path depth → Trying w path depth count
-      → Ended w facts path depth (markAt path depth) count (Shut count) facts path
-  tried-none all due =
-      record {
-        trail =
-            next-as (w .find) (w .start) (w .base) count (nextIn w path depth) (back (pathIn w path depth))
-            (ap (λ (ds : List ℕ). enter (w .instance (siteAt w path depth)) ds (pathIn w path depth) (back (pathIn w path depth))) (drop-of-length-le (altsAt w path depth) all)) due;
-        grows = omega arith;
-        within = within;
-        undone = record { store = node .store; kept = λ i l. refl };
-        before = λ i l. refl;
-      }
+  pub tried-none : (count limit : ℕ) → count ≤ limit → Leaves w facts path depth (markAt path depth) count limit (Shut count) facts path
+  tried-none count limit within = record { grows = omega arith; within = within; undone = record { store = node .store; kept = λ i l. refl }; before = λ i l. refl }
+
+  pub none-ended : (r : Run I) (count : ℕ) → length (altsAt w path depth) ≤ nextAt path depth → Trying w r path depth count → Ended w r path depth (Shut count) facts path
+  none-ended r count all due =
+      next-as (w .find) (r .start) (r .base) count (nextIn w path depth) (back (pathIn w path depth))
+      (ap (λ (ds : List ℕ). enter (w .instance (siteAt w path depth)) ds (pathIn w path depth) (back (pathIn w path depth))) (drop-of-length-le (altsAt w path depth) all)) due
 
   -- one is left, and the limit is met
-  pub tried-due : nextAt path depth < length (altsAt w path depth) → count ≡ w .limit → Trying w path depth count
-      → Ended w facts path depth (markAt path depth) count (LimitMet depth) facts path
-  tried-due some-left e due = record { trail = subst (Trying w path depth) e due; left-over = some-left; node = node }
+  pub tried-due : (count limit : ℕ) → nextAt path depth < length (altsAt w path depth) → Leaves w facts path depth (markAt path depth) count limit (LimitMet depth) facts path
+  tried-due count limit some-left = record { left-over = some-left; node = node }
+
+  pub due-ended : (r : Run I) (count : ℕ) → count ≡ r .limit → Trying w r path depth count → Ended w r path depth (LimitMet depth) facts path
+  due-ended r count met due = subst (Trying w r path depth) met due
 
   -- one is entered, and it is shut: the next one is tried
-  module _ (x : Told) (made-facts made : List ℕ) (went : Making w facts path depth count x made-facts made)
-      (c : ℕ) (after-facts after : List ℕ) (size : length after ≡ 9225) (shut : AllShut w made-facts made (depth + 1) (markAt path depth) (count + 1) c after-facts after) where
-    after-passed : Passed path depth after
+  module _ (count : ℕ) (x : Told) (made-facts made : List ℕ) (went : Making w facts path depth count x made-facts made)
+      (limit c : ℕ) (after-facts after : List ℕ) (size : length after ≡ 9225) (shut : AllShut w made-facts made (depth + 1) (markAt path depth) (count + 1) limit c after-facts after) where
+    pub after-passed : Passed path depth after
     after-passed = passed-still path made after depth (went .passed) (shut .before)
 
     after-next : nextAt after depth ≡ nextAt path depth + 1
@@ -174,7 +183,7 @@ module _ {I : Type 0} (w : Walker I) (facts path : List ℕ) (depth count : ℕ)
     after-path : pathIn w after depth ≡ pathIn w path depth
     after-path = path-same w path after depth (after-passed .before)
 
-    after-logs : (i : ℕ) → i ≤ markAt path depth → logged after-facts (w .capacity) i ≡ logged facts (w .capacity) i
+    pub after-logs : (i : ℕ) → i ≤ markAt path depth → logged after-facts (w .capacity) i ≡ logged facts (w .capacity) i
     after-logs i l = shut .undone .kept i l ∙ went .logs i l
 
     after-log : logged facts (w .capacity) (markAt path depth) ≡ logged after-facts (w .capacity) (markAt after depth)
@@ -190,31 +199,13 @@ module _ {I : Type 0} (w : Walker I) (facts path : List ℕ) (depth count : ℕ)
               split-same w path after depth (logged facts (w .capacity) (markAt path depth)) (logged after-facts (w .capacity) (markAt after depth)) after-site after-path after-log (node .at-split);
         }
 
-    -- the walk is to go on behind the path with the entry, which is the next alternative
-    pub after-tries : Trying w after depth c
-    after-tries =
+    -- a run is to go on behind the path with the entry, which is the next alternative
+    pub after-tries : (r : Run I) → Ended w r made (depth + 1) (Shut c) after-facts after → Trying w r after depth c
+    after-tries r behind =
         let one : suc (nextAt path depth) ≡ nextAt after depth = omega (arith, after-next) in
         let here : back (pathIn w made (depth + 1)) ≡ nextIn w after depth =
         ap back (went .path-is) ∙ rw (altsAt, after-site, after-path, one) in
-        next-as (w .find) (w .start) (w .base) c (back (pathIn w made (depth + 1))) (nextIn w after depth) here (shut .trail)
-
-    -- and what it ends in, all end in
-    pub after-ended : (y : Walked) (last-facts last : List ℕ) → Ended w after-facts after depth (markAt after depth) c y last-facts last
-        → Ended w facts path depth (markAt path depth) count y last-facts last
-    after-ended (Shut d) last-facts last e =
-        record {
-          trail = next-as (w .find) (w .start) (w .base) d (back (pathIn w after depth)) (back (pathIn w path depth)) (ap back after-path) (e .trail);
-          grows = omega (arith, e .grows, shut .grows);
-          within = e .within;
-          undone =
-              record {
-                store = subst (Store (w .capacity) last-facts) (after-passed .mark-is) (e .undone .store);
-                kept = λ i l. e .undone .kept i (omega (arith, after-passed .mark-is)) ∙ after-logs i l;
-              };
-          before = λ i l. e .before i l ∙ after-passed .before i l;
-        }
-    after-ended (Opened d f) last-facts last e = e
-    after-ended (LimitMet f) last-facts last e = e
+        next-as (w .find) (r .start) (r .base) c (back (pathIn w made (depth + 1))) (nextIn w after depth) here behind
 
     -- one alternative less is left
     pub after-falls : nextAt path depth < length (altsAt w path depth) → triesLeft w after-facts after depth < triesLeft w facts path depth
@@ -223,13 +214,6 @@ module _ {I : Type 0} (w : Walker I) (facts path : List ℕ) (depth count : ℕ)
         ap (λ (log : List ℕ). untrue log (w .atoms)) (sym after-log) in
         let alts : length (altsAt w after depth) ≡ length (altsAt w path depth) = ap (λ (s : Site). length (w .alts s)) after-site in
         omega (arith, after-next)
-
--- an end, by another name of the facts kept and of the answer
-pub ended-as : {I : Type 0} (w : Walker I) (facts path : List ℕ) (depth done begun-done count : ℕ) (x y : Walked) (left-facts left : List ℕ)
-    → done ≡ begun-done → x ≡ y → Ended w facts path depth done count x left-facts left → Ended w facts path depth begun-done count y left-facts left
-ended-as w facts path depth done begun-done count x y left-facts left d e h =
-    subst (λ (z : Walked). Ended w facts path depth begun-done count z left-facts left) e
-    (subst (λ (m : ℕ). Ended w facts path depth m count x left-facts left) d h)
 
 -- ---- what falls
 
@@ -287,29 +271,33 @@ blank-store size r n e z =
       flags = λ a l. ap (λ (x : List ℕ). getD x a 0) z ∙ getD-replicate n a 0 0 (omega arith);
     }
 
--- a place that has just been made at the start is the walk's first
-pub start-visiting : {I : Type 0} (w : Walker I) (facts path : List ℕ) (x : Told) → w .start ≡ root (w .find) → Beginning w x facts path → Visiting w facts path 0 x (w .base)
-start-visiting w facts path x s begun =
-    subst (AtEntry (w .find) (w .start) (w .base) (w .base)) (s ∙ begun .made) (at-start (w .find) (w .start) (w .base))
+-- the root that has just been made is where a first run begins
+pub start-visiting : {I : Type 0} (w : Walker I) (limit : ℕ) (facts path : List ℕ) (x : Told) → Beginning w x facts path → Visiting w (fromRoot w limit) facts path 0 x 0
+start-visiting w limit facts path x begun = subst (AtEntry (w .find) (root (w .find)) 0 0) (begun .made) (at-start (w .find) (root (w .find)) 0)
 
--- visiting the root is the whole walk
-pub root-walks : {I : Type 0} (w : Walker I) (facts path : List ℕ) (y : Walked) (left-facts left : List ℕ) → Ended w facts path 0 0 (w .base) y left-facts left → Walks w y left-facts left
-unfolding pathIn
-root-walks w facts path (Shut c) left-facts left e =
-    let t = e .trail in
-    (all-made (w .find) (w .start) (w .base) (w .limit) c (t .latest) (t .at-latest) (e .within) (ap (placed (w .find)) (t .next)), t, e .within)
-root-walks w facts path (Opened c d) left-facts left e = (
-  all-made (w .find) (w .start) (w .base) (w .limit) c (placeIn w left-facts left d (ToldOpen (e .facts-count))) (e .trail) (e .within)
-      (open-over (w .find) (w .start) (w .base) (w .limit) (placeIn w left-facts left d (ToldOpen (e .facts-count))) (bitsIn w left-facts) refl),
-  e,
-)
-root-walks w facts path (LimitMet d) left-facts left e = e
+module _ {I : Type 0} (w : Walker I) (r : Run I) where
+  -- visiting the root, or what a run has instead, is the whole run
+  pub root-walks : (facts path : List ℕ) (done count : ℕ) (y : Walked) (left-facts left : List ℕ) → Leaves w facts path 0 done count (r .limit) y left-facts left → Ended w r path 0 y left-facts left
+      → Walks w r y left-facts left
+  unfolding pathIn
+  root-walks facts path done count (Shut c) left-facts left h t = (
+    all-made (w .find) (r .start) (r .base) (r .limit) c (t .latest) (t .at-latest) (h .within) (ap (placed (w .find)) (t .next)),
+    t,
+    h .within,
+  )
+  root-walks facts path done count (Opened c d) left-facts left h t = (
+    all-made (w .find) (r .start) (r .base) (r .limit) c (placeIn w left-facts left d (ToldOpen 0)) t (h .within)
+        (open-over (w .find) (r .start) (r .base) (r .limit) (placeIn w left-facts left d (ToldOpen 0)) (bitsIn w left-facts) refl),
+    t,
+    h,
+  )
+  root-walks facts path done count (LimitMet d) left-facts left h t = (t, h)
 
--- and it tells the outcome
-pub walks-tell : {I : Type 0} (w : Walker I) (y : Walked) (facts path : List ℕ) → Walks w y facts path → Tells w y facts
-walks-tell w (Shut c) facts path h = answer-shut (w .find) (w .start) (w .base) (w .limit) c (h .1) (h .2)
-walks-tell w (Opened c d) facts path h =
-    answer-open (w .find) (w .start) (w .base) (w .limit) c (placeIn w facts path d (ToldOpen (h .1 .facts-count))) (bitsIn w facts) (h .1 .trail) (h .1 .within) refl
-walks-tell w (LimitMet d) facts path h =
-    answer-due (w .find) (w .start) (w .base) (w .limit) (entryAt w path d ∷ pathIn w path d)
-    (next-as (w .find) (w .start) (w .base) (w .limit) (nextIn w path d) (some (entryAt w path d ∷ pathIn w path d)) (next-some w path d (h .left-over)) (h .trail))
+  -- and it tells the outcome
+  pub walks-tell : (y : Walked) (facts path : List ℕ) → Walks w r y facts path → Tells w r y facts
+  walks-tell (Shut c) facts path h = answer-shut (w .find) (r .start) (r .base) (r .limit) c (h .1) (h .2)
+  walks-tell (Opened c d) facts path h =
+      answer-open (w .find) (r .start) (r .base) (r .limit) c (placeIn w facts path d (ToldOpen 0)) (bitsIn w facts) (h .1) (h .2 .within) refl
+  walks-tell (LimitMet d) facts path h =
+      answer-due (w .find) (r .start) (r .base) (r .limit) (entryAt w path d ∷ pathIn w path d)
+      (next-as (w .find) (r .start) (r .base) (r .limit) (nextIn w path d) (some (entryAt w path d ∷ pathIn w path d)) (next-some w path d (h .1 .left-over)) (h .0))

@@ -4,12 +4,11 @@ use mathlib.Core.Bool.{false}
 use mathlib.Core.List.{List}
 use mathlib.Core.Path.{_≡_}
 use lib.Dec.{T}
-use lib.ListN.{take}
 use Rattle.lists.specs.Key.{natKey}
 use Rattle.lists.specs.Member.{All, has}
 use Rattle.search.specs.Ground.{disjunctive}
 use Rattle.search.specs.Relevancy.{branches}
-use Rattle.search.specs.Machine.{entered, root, Genuine}
+use Rattle.search.specs.Machine.{entered, Genuine}
 use Rattle.ground.specs.Instance.{Instance}
 use Rattle.rewriting.specs.Facts.{falseIn, findIn}
 use Rattle.rewriting.specs.contracts.Ruled.{theRule}
@@ -17,7 +16,7 @@ use Rattle.magic_node.specs.contracts.Choosing.{siteOf, ruleHeads, RuleSite, Li
 use Rattle.magic_node.specs.contracts.Watch.{sitePlace, Rested}
 use Rattle.magic_node.specs.contracts.Node.{HeldStands, Following, HeldSeeded}
 use Rattle.walk.specs.contracts.Walker.{Site, Walker}
-use Rattle.walk.specs.contracts.Path.{numberAt, fourAt, markAt, pathIn}
+use Rattle.walk.specs.contracts.Path.{markAt, pathIn}
 use Rattle.walk.specs.declared.answer.Found.{Found as Told}
 use Rattle.walk.specs.declared.answer.Found.the-variants.{Closed, Open, Split}
 
@@ -39,16 +38,13 @@ pub record RestedAtSplit (bs : List ℕ) (s : Site) (l facts : List ℕ) : Type 
   pub following : Following bs l facts
   pub untrue : All (λ a. has natKey facts a ≡ false) (siteAlts bs s)
 
--- The walk under a limit. What is held true, held relevant and held of continuations is in the set at every place, closed ones too
-abbrev pub magicWalker : List ℕ → ℕ → Walker Instance
-magicWalker bs limit =
+-- What is held true, held relevant and held of continuations is in the set at every place, closed ones too
+abbrev pub magicWalker : List ℕ → Walker Instance
+magicWalker bs =
     record {
       capacity = 18434;
       atoms = falseIn bs;
       find = findIn bs;
-      start = root (findIn bs);
-      base = 0;
-      limit = limit;
       vars = λ q. (theRule bs q) .vars;
       instance = λ s. siteOf bs (s .number) (s .values);
       alts = siteAlts bs;
@@ -58,14 +54,10 @@ magicWalker bs limit =
       Holds = λ x l facts. HeldStands bs l facts;
     }
 
--- what the node at this depth is split at, whatever the limit
-abbrev pub splitAt : List ℕ → List ℕ → ℕ → Site
-splitAt bs path depth = record { number = numberAt path depth; values = take ((theRule bs (numberAt path depth)) .vars) (fourAt path depth) }
-
--- a node just entered under a limit: the n facts follow from the path's atoms
-pub record HeldFresh (bs : List ℕ) (limit : ℕ) (facts path : List ℕ) (depth n : ℕ) : Type 0 where
-  pub kept : Genuine (findIn bs) (pathIn (magicWalker bs limit) path depth)
-  pub seeded : HeldSeeded bs (entered (pathIn (magicWalker bs limit) path depth)) facts n
+-- a node just entered: the n facts follow from the path's atoms
+pub record HeldFresh (bs facts path : List ℕ) (depth n : ℕ) : Type 0 where
+  pub kept : (magicWalker bs) .Kept (pathIn (magicWalker bs) path depth)
+  pub seeded : HeldSeeded bs (entered (pathIn (magicWalker bs) path depth)) facts n
 
 -- all facts at a split place are its node's own
 abbrev pub OwnFacts : List ℕ → ℕ → Told → Type 0

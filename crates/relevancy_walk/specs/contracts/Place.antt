@@ -6,9 +6,8 @@ use mathlib.Core.Path.{_≡_}
 use Rattle.lists.specs.Key.{natKey}
 use Rattle.lists.specs.Member.{All, has}
 use Rattle.search.specs.Relevancy.{hornRules, trueSet, branches, findR}
-use Rattle.search.specs.Machine.{entered, root, Genuine}
+use Rattle.search.specs.Machine.{entered, Genuine}
 use Rattle.store.specs.contracts.Worked.{Worked}
-use Rattle.problem.specs.Problem.{limitOf}
 use Rattle.problem.specs.Layout.{problemIn}
 use Rattle.ground.specs.Instance.{Instance, InstanceOf, clauseOf, groundIn}
 use Rattle.relevancy_node.specs.contracts.Node.{TrueOpening, TrueSeeded, TrueHeld, RelevantHeld, TruthsAlone}
@@ -43,9 +42,6 @@ relevancyWalker tb =
       capacity = 2050;
       atoms = (groundIn tb) .atoms;
       find = findR (groundIn tb);
-      start = root (findR (groundIn tb));
-      base = 0;
-      limit = limitOf ((problemIn tb) .limit);
       vars = λ k. (clauseOf (problemIn tb) k) .vars;
       instance = instanceOf;
       alts = instanceAlts tb;

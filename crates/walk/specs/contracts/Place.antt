@@ -11,7 +11,7 @@ use Rattle.search.specs.Machine.{Place, entered, placed, root}
 use Rattle.store.specs.contracts.Store.{Store, logged}
 use Rattle.lists.specs.Bytes.{isSet}
 use Rattle.walk.specs.contracts.Trail.{AtEntry, NextEntry}
-use Rattle.walk.specs.contracts.Walker.{Walker, branchOf}
+use Rattle.walk.specs.contracts.Walker.{Walker, Run, branchOf}
 use Rattle.walk.specs.contracts.Path.{Room, nextAt, markAt, PathKept, Passed, siteAt, altsAt, entryAt, pathIn, nextIn}
 use Rattle.walk.specs.declared.answer.Found.{Found as Told}
 use Rattle.walk.specs.declared.answer.Found.the-variants.{Closed, Open, Split}
@@ -65,13 +65,13 @@ module _ {I : Type 0} (w : Walker I) where
     pub holds : w .Holds x (entered (pathIn w path depth)) (logged facts (w .capacity) (factsOf x))
     pub ready : Ready facts path depth done x
 
-  -- the node at this depth is entry `count` of the walk
-  abbrev pub Visiting : List ℕ → List ℕ → ℕ → Told → ℕ → Type 0
-  Visiting facts path depth x count = AtEntry (w .find) (w .start) (w .base) count (placeIn facts path depth x)
+  -- the node at this depth is entry `count` of a run
+  abbrev pub Visiting : Run I → List ℕ → List ℕ → ℕ → Told → ℕ → Type 0
+  Visiting r facts path depth x count = AtEntry (w .find) (r .start) (r .base) count (placeIn facts path depth x)
 
-  -- `count` entries of the walk are made, and the next alternative of the node at this depth, or what comes behind it, is due
-  abbrev pub Trying : List ℕ → ℕ → ℕ → Type 0
-  Trying path depth count = NextEntry (w .find) (w .start) (w .base) count (nextIn w path depth)
+  -- `count` entries of a run are made, and the next alternative of the node at this depth, or what comes behind it, is due
+  abbrev pub Trying : Run I → List ℕ → ℕ → ℕ → Type 0
+  Trying r path depth count = NextEntry (w .find) (r .start) (r .base) count (nextIn w path depth)
 
   -- a node just entered, with n facts, has been found
   pub record Finding (facts path : List ℕ) (depth n done : ℕ) (x : Told) (left-facts left : List ℕ) : Type 0 where
@@ -79,11 +79,11 @@ module _ {I : Type 0} (w : Walker I) where
     pub logs : (i : ℕ) → i ≤ n → logged left-facts (w .capacity) i ≡ logged facts (w .capacity) i
     pub before : PathKept path depth left
 
-  -- The next place has been made: path, next alternatives and how it is found are those of the walk, and it is the entry after entry `count`. The split node that
-  -- it comes from has one alternative less to enter, and its facts are kept
+  -- The next place has been made: path, next alternatives and how it is found are those of the walk, and it is the entry after entry `count` of every run that stood
+  -- there with its limit not met. The split node that it comes from has one alternative less to enter, and its facts are kept
   pub record Making (facts path : List ℕ) (depth count : ℕ) (x : Told) (left-facts left : List ℕ) : Type 0 where
     pub made : placed (w .find) (nextIn w path depth) ≡ some (placeIn left-facts left (depth + 1) x)
-    pub trail : Visiting left-facts left (depth + 1) x (count + 1)
+    pub trail : (r : Run I) → count < r .limit → Trying r path depth count → Visiting r left-facts left (depth + 1) x (count + 1)
     pub reached : Reached left-facts left (depth + 1) (markAt path depth) x
     pub path-is : pathIn w left (depth + 1) ≡ entryAt w path depth ∷ pathIn w path depth
     pub passed : Passed path depth left

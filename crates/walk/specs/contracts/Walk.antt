@@ -10,7 +10,7 @@ use Rattle.lists.specs.Member.{has}
 use Rattle.search.specs.Machine.{Satisfied, Refuted, Exhausted, back, entries, proceed}
 use Rattle.store.specs.contracts.Store.{Undone, logged}
 use Rattle.walk.specs.contracts.Trail.{NextEntry}
-use Rattle.walk.specs.contracts.Walker.{Walker}
+use Rattle.walk.specs.contracts.Walker.{Walker, Run}
 use Rattle.walk.specs.contracts.Path.{nextAt, markAt, PathKept, altsAt, pathIn}
 use Rattle.walk.specs.contracts.Place.{bitsIn, Visiting, Trying, Parted, Reached}
 use Rattle.walk.specs.declared.answer.Found.{Found as Told}
@@ -35,55 +35,60 @@ module _ {I : Type 0} (w : Walker I) where
   visitsLeft facts path depth (Open n) = 0
   visitsLeft facts path depth (Split n) = untrue (logged facts (w .capacity) (markAt path depth)) (w .atoms) * 6 + 5
 
-  -- ---- how a part of the walk ends that began after `count` entries
+  -- ---- how a part of the walk ends that began after `count` entries under a limit: what stands in the buffers
 
-  -- all is closed after c entries: the walk is to go on behind the path, and the set is back to its first `done` facts
-  pub record AllShut (facts path : List ℕ) (depth done count c : ℕ) (left-facts left : List ℕ) : Type 0 where
-    pub trail : NextEntry (w .find) (w .start) (w .base) c (back (pathIn w path depth))
+  -- all is closed after c entries, and the set is back to its first `done` facts
+  pub record AllShut (facts path : List ℕ) (depth done count limit c : ℕ) (left-facts left : List ℕ) : Type 0 where
     pub grows : count ≤ c
-    pub within : c ≤ w .limit
+    pub within : c ≤ limit
     pub undone : Undone (w .capacity) facts done left-facts
     pub before : PathKept path depth left
 
-  -- entry c is open: it is the place that stands in the buffers at a depth
-  pub record OneOpen (c depth : ℕ) (left-facts left : List ℕ) : Type 0 where
+  -- after c entries a place is open: the one that stands in the buffers at a depth
+  pub record OneOpen (limit c depth : ℕ) (left-facts left : List ℕ) : Type 0 where
     pub facts-count : ℕ
     pub done : ℕ
-    pub trail : Visiting w left-facts left depth (Open facts-count) c
-    pub within : c ≤ w .limit
+    pub within : c ≤ limit
     pub reached : Reached w left-facts left depth done (Open facts-count)
 
-  -- as many entries are made as the limit allows, and one more is due: the next alternative of the node that stands in the buffers at a depth
+  -- the limit is met and one more is due: the next alternative of the node that stands in the buffers at a depth
   pub record OneDue (depth : ℕ) (left-facts left : List ℕ) : Type 0 where
-    pub trail : Trying w left depth (w .limit)
     pub left-over : nextAt left depth < length (altsAt w left depth)
     pub node : Parted w left-facts left depth
 
-  abbrev pub Ended : List ℕ → List ℕ → ℕ → ℕ → ℕ → Walked → List ℕ → List ℕ → Type 0
-  Ended facts path depth done count (Shut c) left-facts left = AllShut facts path depth done count c left-facts left
-  Ended facts path depth done count (Opened c e) left-facts left = OneOpen c e left-facts left
-  Ended facts path depth done count (LimitMet e) left-facts left = OneDue e left-facts left
+  abbrev pub Leaves : List ℕ → List ℕ → ℕ → ℕ → ℕ → ℕ → Walked → List ℕ → List ℕ → Type 0
+  Leaves facts path depth done count limit (Shut c) left-facts left = AllShut facts path depth done count limit c left-facts left
+  Leaves facts path depth done count limit (Opened c e) left-facts left = OneOpen limit c e left-facts left
+  Leaves facts path depth done count limit (LimitMet e) left-facts left = OneDue e left-facts left
 
-  -- ---- the whole walk, from its start on
+  -- ---- and where a run stands then: it is to go on behind the path; its entry c is the open place; all entries that its limit allows are made, and that alternative is due
 
-  -- the entries made are all that the limit allows: c of them, those before the start counted
-  abbrev pub AllMade : ℕ → Type 0
-  AllMade c = entries (w .find) (w .limit - w .base) (w .start) ≡ entries (w .find) (c - w .base) (w .start)
+  abbrev pub Ended : Run I → List ℕ → ℕ → Walked → List ℕ → List ℕ → Type 0
+  Ended r path depth (Shut c) left-facts left = NextEntry (w .find) (r .start) (r .base) c (back (pathIn w path depth))
+  Ended r path depth (Opened c e) left-facts left = Visiting w r left-facts left e (Open 0) c
+  Ended r path depth (LimitMet e) left-facts left = Trying w r left e (r .limit)
 
-  -- how it ends, and the last place made, which stands in the buffers where it is open or another is due
-  abbrev pub Walks : Walked → List ℕ → List ℕ → Type 0
-  Walks (Shut c) facts path = AllMade c × NextEntry (w .find) (w .start) (w .base) c none × (c ≤ w .limit)
-  Walks (Opened c e) facts path = AllMade c × OneOpen c e facts path
-  Walks (LimitMet e) facts path = OneDue e facts path
+  -- ---- a whole run, from its start on
 
-  -- an answer tells the outcome of running on from the start; where it is open the facts left give the model
-  abbrev pub Tells : Walked → List ℕ → Type 0
-  Tells (Shut c) facts = proceed (w .find) (w .limit - w .base) (w .base) (w .start) ≡ Refuted c
-  Tells (Opened c e) facts = proceed (w .find) (w .limit - w .base) (w .base) (w .start) ≡ Satisfied c (bitsIn w facts)
-  Tells (LimitMet e) facts = proceed (w .find) (w .limit - w .base) (w .base) (w .start) ≡ Exhausted (w .limit)
+  module _ (r : Run I) where
+    -- the entries made are all that the limit allows: c of them, those before the start counted
+    abbrev pub AllMade : ℕ → Type 0
+    AllMade c = entries (w .find) (r .limit - r .base) (r .start) ≡ entries (w .find) (c - r .base) (r .start)
 
-  -- the whole walk has been made, in some buffer for its path, and its answer tells the outcome
-  pub record WalkMade (x : Walked) (facts : List ℕ) : Type 0 where
-    pub path : List ℕ
-    pub walks : Walks x facts path
-    pub tells : Tells x facts
+    -- how it ends, and the last place made, which stands in the buffers where it is open or another is due
+    abbrev pub Walks : Walked → List ℕ → List ℕ → Type 0
+    Walks (Shut c) facts path = AllMade c × NextEntry (w .find) (r .start) (r .base) c none × (c ≤ r .limit)
+    Walks (Opened c e) facts path = AllMade c × Visiting w r facts path e (Open 0) c × OneOpen (r .limit) c e facts path
+    Walks (LimitMet e) facts path = Trying w r path e (r .limit) × OneDue e facts path
+
+    -- an answer tells the outcome of running on from the start; where it is open the facts left give the model
+    abbrev pub Tells : Walked → List ℕ → Type 0
+    Tells (Shut c) facts = proceed (w .find) (r .limit - r .base) (r .base) (r .start) ≡ Refuted c
+    Tells (Opened c e) facts = proceed (w .find) (r .limit - r .base) (r .base) (r .start) ≡ Satisfied c (bitsIn w facts)
+    Tells (LimitMet e) facts = proceed (w .find) (r .limit - r .base) (r .base) (r .start) ≡ Exhausted (r .limit)
+
+    -- the run has been made, in some buffer for its path, and its answer tells the outcome
+    pub record WalkMade (x : Walked) (facts : List ℕ) : Type 0 where
+      pub path : List ℕ
+      pub walks : Walks x facts path
+      pub tells : Tells x facts

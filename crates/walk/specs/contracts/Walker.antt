@@ -7,7 +7,7 @@ use lib.ListN.{length, drop, getD}
 use Rattle.lists.specs.Key.{natKey}
 use Rattle.lists.specs.Member.{All, has, In}
 use Rattle.search.specs.Ground.{Found, split}
-use Rattle.search.specs.Machine.{Branch, Place, entered}
+use Rattle.search.specs.Machine.{Branch, Place, entered, root}
 use Rattle.walk.specs.declared.answer.Found.{Found as Told}
 
 -- what a node's record names: a clause or a rule by its number, and the values of its variables
@@ -21,10 +21,6 @@ pub record Walker (I : Type 0) : Type 1 where
   pub atoms : ℕ
   -- how a node is found under a list of entered atoms
   pub find : List ℕ → Found I
-  -- where the walk begins, which counts as its entry `base` (the root and 0 for a first run), and how many entries its limit allows
-  pub start : Place I
-  pub base : ℕ
-  pub limit : ℕ
   -- how many variables the clause or rule of a number has; the instance that a site stands for, and the alternatives entered there
   pub vars : ℕ → ℕ
   pub instance : Site → I
@@ -37,6 +33,16 @@ pub record Walker (I : Type 0) : Type 1 where
   pub RestsAt : Site → List ℕ → List ℕ → Type 0
   -- what is held at a place found so, under entered atoms: of a list of facts
   pub Holds : Told → List ℕ → List ℕ → Type 0
+
+-- One run of a walk: where it begins, which counts as its entry `base`, and how many entries its limit allows, those before the start counted
+pub record Run (I : Type 0) : Type 0 where
+  pub start : Place I
+  pub base : ℕ
+  pub limit : ℕ
+
+-- a first run begins at the root, and nothing is entered before it
+abbrev pub fromRoot : {I : Type 0} → Walker I → ℕ → Run I
+fromRoot w limit = record { start = root (w .find); base = 0; limit = limit }
 
 -- the entry of alternative j of a site
 abbrev pub branchOf : {I : Type 0} → Walker I → Site → ℕ → Branch I

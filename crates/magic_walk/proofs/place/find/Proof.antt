@@ -44,9 +44,8 @@ find-spec =
     let o = c .before .before in
     let k = o .before .before .before in
     let s = begun (shut k) in (
-      λ limit fresh.
-          node-split (s .args .rules .now) (s .pre .0) (s .args .facts .now) (s .args .path .now) (s .args .depth) (s .args .n) (s .args .done) (s .args .from) (s .pre .1 .1 .0) (s .pre .1 .1 .1)
-          (shut k .settle .last .1 .1 .0) limit fresh _ _ _ _ _ _ (parted k) (o .note .last .0) (o .note .kept .0 ∙ s .pre .1 .1 .0 .size) (o .note .ensures),
+      node-split (s .args .rules .now) (s .pre .0) (s .args .facts .now) (s .args .path .now) (s .args .depth) (s .args .n) (s .args .done) (s .args .from) (s .pre .1 .1 .0) (s .pre .1 .1 .1)
+          (shut k .settle .last .1 .1 .0) (s .pre .1 .1 .2) _ _ _ _ _ _ (parted k) (o .note .last .0) (o .note .kept .0 ∙ s .pre .1 .1 .0 .size) (o .note .ensures),
       o .note .ensures .mark-is,
     ))  -- returns
     (λ c. search needs)  -- enum-known-node-2
@@ -55,9 +54,8 @@ find-spec =
     let g = c .before .node2 .given in
     let z = c .before .before .before .before .before in
     let s = begun z in (
-      λ limit fresh.
-          node-closed (s .args .rules .now) (s .pre .0) (s .args .facts .now) (s .args .path .now) (s .args .depth) (s .args .n) (s .args .done) (s .args .from) (s .pre .1 .1 .0) (s .pre .1 .1 .1)
-          (z .settle .last .1 .1 .0) limit fresh (g .0 .0) (settled-as (s .args .rules .now) (s .args .facts .now) (s .args .n) (z .settle .result) _ (z .settle .last .1 .1 .0) (g .1) (settled z)),
+      node-closed (s .args .rules .now) (s .pre .0) (s .args .facts .now) (s .args .path .now) (s .args .depth) (s .args .n) (s .args .done) (s .args .from) (s .pre .1 .1 .0) (s .pre .1 .1 .1)
+          (z .settle .last .1 .1 .0) (s .pre .1 .1 .2) (g .0 .0) (settled-as (s .args .rules .now) (s .args .facts .now) (s .args .n) (z .settle .result) _ (z .settle .last .1 .1 .0) (g .1) (settled z)),
       tt,
     ))  -- returns-2
     (λ c. search needs)  -- enum-known-node-3
@@ -66,8 +64,7 @@ find-spec =
     let g = c .before .node3 .given in
     let z = c .before .before .before .before .before in
     let s = begun z in (
-      λ limit fresh.
-          node-open (s .args .rules .now) (s .pre .0) (s .args .facts .now) (s .args .path .now) (s .args .depth) (s .args .n) (s .args .done) (s .args .from) (s .pre .1 .1 .0) (s .pre .1 .1 .1)
-          (z .settle .last .1 .1 .0) limit fresh (g .0 .0) (settled-as (s .args .rules .now) (s .args .facts .now) (s .args .n) (z .settle .result) _ (z .settle .last .1 .1 .0) (g .1) (settled z)),
+      node-open (s .args .rules .now) (s .pre .0) (s .args .facts .now) (s .args .path .now) (s .args .depth) (s .args .n) (s .args .done) (s .args .from) (s .pre .1 .1 .0) (s .pre .1 .1 .1)
+          (z .settle .last .1 .1 .0) (s .pre .1 .1 .2) (g .0 .0) (settled-as (s .args .rules .now) (s .args .facts .now) (s .args .n) (z .settle .result) _ (z .settle .last .1 .1 .0) (g .1) (settled z)),
       tt,
     )))  -- returns-3

@@ -3,10 +3,10 @@ use mathlib.Core.Path.{sym, subst, _∙_}
 use native.Mathlib.Omega.{arith}
 use borrow.Author.Needs.{needs}
 use Rattle.store.specs.contracts.Store.{Store}
-use Rattle.walk.specs.contracts.Path.{siteAt, Passed}
+use Rattle.walk.specs.contracts.Path.{Passed}
 use Rattle.walk.proofs.PathLaws.{passed}
 use Rattle.magic_walk.proofs.SoundLaws.{sound}
-use Rattle.magic_walk.proofs.FreshLaws.{next-small, added-opening, added-room, added-made}
+use Rattle.magic_walk.proofs.FreshLaws.{next-small, added-opening, added-room, added-fresh, added-made}
 use Rattle.magic_walk.proofs.place.place.Statement.{statement}
 use Rattle.magic_walk.proofs.place.place.Tie as tie
 
@@ -24,7 +24,6 @@ gone : (z : tie.After-add) → Passed (begun z .args .path .now) (begun z .args 
 gone z = let s = begun z in subst (Passed (s .args .path .now) (s .args .depth)) (sym (went z .pass .ensures)) (passed (s .args .path .now) (s .args .depth) (s .pre .1 .1 .0 .room))
 
 pub place-spec : {M : Type 1} → statement M
-unfolding siteAt
 place-spec =
     tie.close
     (tie.spec
@@ -33,14 +32,14 @@ place-spec =
     (λ c κs.
     let s = c .before .before .before .before .before .before .before .before in
     let node = s .pre .1 .1 .0 in
-    let four = (sound (s .args .rules .now) (s .pre .0) (s .args .limit)) .four _ (node .at-split .listed) in
+    let four = (sound (s .args .rules .now) (s .pre .0)) .four _ (node .at-split .listed) in
     (node .room, omega (arith, s .pre .1 .1 .1 .0 .0)))  -- pass-requires
     (λ c κs.
     let s = c .before .before .before .before .before .before .before .before .before .before .before .before in
     let rules = s .args .rules .now in
     let node = s .pre .1 .1 .0 in
-    let small = next-small rules (s .pre .0) (s .args .limit) (s .args .facts .now) (s .args .path .now) (s .args .depth) node (s .pre .1 .1 .1 .0 .0) in
-    let few = (sound rules (s .pre .0) (s .args .limit)) .few in
+    let small = next-small rules (s .pre .0) (s .args .facts .now) (s .args .path .now) (s .args .depth) node (s .pre .1 .1 .1 .0 .0) in
+    let few = (sound rules (s .pre .0)) .few in
     (subst (Store 18434 (s .args .facts .now)) (sym ((c .before .before .before .before .before .before .before) .mark .ensures)) (node .store), (omega (arith, s .pre .1 .1 .1 .0 .1), omega arith)))  -- add-requires
     (λ c. search needs)  -- add-find
     (λ c κs.
@@ -52,10 +51,12 @@ place-spec =
       (
         s .pre .1 .0,
         (
-          added-room rules (s .pre .0) (s .args .limit) (s .args .facts .now) (s .args .path .now) (s .args .depth) node (s .pre .1 .1 .1 .0 .0) (own z .mark .result) (own z .mark .ensures)
+          added-room rules (s .pre .0) (s .args .facts .now) (s .args .path .now) (s .args .depth) node (s .pre .1 .1 .1 .0 .0) (own z .mark .result) (own z .mark .ensures)
               (s .args .a) (s .pre .1 .1 .1 .0 .1) (z .add .last .0) (z .add .result) (z .add .ensures) (went z .pass .last .0) (gone z) (went z .pass .kept .0 ∙ node .room .size),
-          added-opening rules (s .pre .0) (s .args .limit) (s .args .facts .now) (s .args .path .now) (s .args .depth) node (s .pre .1 .1 .1 .0 .0) (own z .mark .result) (own z .mark .ensures)
+          added-opening rules (s .pre .0) (s .args .facts .now) (s .args .path .now) (s .args .depth) node (s .pre .1 .1 .1 .0 .0) (own z .mark .result) (own z .mark .ensures)
               (s .args .a) (s .pre .1 .1 .1 .0 .1) (z .add .last .0) (z .add .result) (z .add .ensures) (z .before .before .before .before .before .before .split-place .result) (z .before .before .before .before .before .before .split-place .ensures),
+          added-fresh rules (s .pre .0) (s .args .facts .now) (s .args .path .now) (s .args .depth) node (s .pre .1 .1 .1 .0 .0) (own z .mark .result) (own z .mark .ensures)
+              (s .args .a) (s .pre .1 .1 .1 .0 .1) (z .add .last .0) (z .add .result) (z .add .ensures) (went z .pass .last .0) (gone z),
         ),
       ),
     ))  -- find-requires
@@ -67,8 +68,8 @@ place-spec =
     let s = begun z in
     let rules = s .args .rules .now in
     let node = s .pre .1 .1 .0 in (
-      added-made rules (s .pre .0) (s .args .limit) (s .args .facts .now) (s .args .path .now) (s .args .depth) node (s .pre .1 .1 .1 .0 .0) (own z .mark .result) (own z .mark .ensures)
+      added-made rules (s .pre .0) (s .args .facts .now) (s .args .path .now) (s .args .depth) node (s .pre .1 .1 .1 .0 .0) (own z .mark .result) (own z .mark .ensures)
           (s .args .a) (s .pre .1 .1 .1 .0 .1) (z .add .last .0) (z .add .result) (z .add .ensures) (went z .pass .last .0) (gone z)
-          (s .args .count) (s .pre .1 .1 .1 .1 .0) (f .find .result) (f .find .last .1 .1 .0) (f .find .last .1 .1 .1 .0) (f .find .ensures .0),
+          (s .args .count) (f .find .result) (f .find .last .1 .1 .0) (f .find .last .1 .1 .1 .0) (f .find .ensures .0),
       f .find .ensures .1,
     )))  -- returns

@@ -13,19 +13,23 @@ root-spec =
     (λ c κs. search needs)  -- start-requires
     (λ c κs.
     let g = c .before .before .before .before in
-    let s = g .before .before .before .before .before in
-    (s .pre .0, (s .pre .1 .0, (s .pre .1 .1 .1, root-opening (s .args .rules .now) (g .start .last .1 .0) (s .args .path .now) (g .start .result) (g .start .ensures) (s .pre .0)))))  -- find-requires
+    let s = g .before .before .before .before .before in (
+      s .pre .0,
+      (
+        s .pre .1 .0,
+        (
+          s .pre .1 .1 .1,
+          root-opening (s .args .rules .now) (g .start .last .1 .0) (s .args .path .now) (g .start .result) (g .start .ensures) (s .pre .0),
+          root-fresh (s .args .rules .now) (g .start .last .1 .0) (s .args .path .now) (g .start .result) (g .start .ensures),
+        ),
+      ),
+    ))  -- find-requires
     (λ c. search needs)  -- same-length
     (λ c. search needs)  -- same-length-2
     (λ c.
     let f = c .before .before .before .before in
     let g = f .before .before .before .before .before in
-    let s = g .before .before .before .before .before in
-    let rules = s .args .rules .now in
-    let facts = g .start .last .1 .0 in
-    let n = g .start .result in (
-      λ limit.
-          root-made (magicWalker rules limit) facts (s .args .path .now) n (f .find .result) (f .find .last .1 .1 .0) (f .find .last .1 .1 .1 .0)
-          (f .find .ensures .0 limit (root-fresh rules facts (s .args .path .now) n (g .start .ensures) limit)),
+    let s = g .before .before .before .before .before in (
+      root-made (magicWalker (s .args .rules .now)) (g .start .last .1 .0) (s .args .path .now) (g .start .result) (f .find .result) (f .find .last .1 .1 .0) (f .find .last .1 .1 .1 .0) (f .find .ensures .0),
       f .find .ensures .1,
     )))  -- returns

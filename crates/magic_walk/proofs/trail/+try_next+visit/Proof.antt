@@ -6,19 +6,20 @@ use borrow.Author.Needs.{needs}
 use borrow.Fn.Kinds.{In}
 use borrow.Fn.PlainCycle.{Measures, is, falls, and}
 use Rattle.store.specs.contracts.Store.{Store, Undone}
+use Rattle.ground.specs.Instance.{Instance}
 use Rattle.ground.specs.contracts.Branching.{NextOf}
 use Rattle.ground.specs.declared.branch.NextBranch.the-variants.{Atom}
 use Rattle.ground.proofs.BranchLaws.{next-atom, next-nothing}
 use Rattle.walk.specs.contracts.Path.{nextAt, markAt, altsAt}
-use Rattle.walk.specs.contracts.Place.{Reached}
+use Rattle.walk.specs.contracts.Walker.{Run}
+use Rattle.walk.specs.contracts.Place.{Reached, Visiting, Trying}
 use Rattle.walk.specs.contracts.Walk.{triesLeft, visitsLeft, AllShut}
 use Rattle.walk.specs.declared.answer.Found.the-variants.{Closed, Open, Split}
 use Rattle.walk.specs.declared.answer.Walked.the-variants.{Shut}
 use Rattle.walk.proofs.PlaceLaws.{split-parted, reached-as, visiting-as}
-use Rattle.walk.proofs.WalkLaws.{found-open, visit-open, visit-closed, split-tries, split-shut, passes, tried-none, tried-due, visit-falls, tries-fall, left-as, ended-as}
-use Rattle.walk.proofs.TriedLaws.{TriedOn, tried-on, own-undone}
+use Rattle.walk.proofs.WalkLaws.{found-open, visit-open, visit-closed, split-shut, closed-ended, split-tries, passes, passes-ended, leaves-as, ended-as, tried-none, none-ended, tried-due, due-ended, visit-falls, tries-fall, left-as}
+use Rattle.walk.proofs.TriedLaws.{Tried, tried-start, tried-falls, tried-on, tried-leaves, tried-ended, own-undone}
 use Rattle.magic_walk.specs.contracts.Place.{magicWalker, OwnFacts}
-use Rattle.magic_walk.proofs.AltLaws.{split-listed, split-next}
 use Rattle.magic_walk.proofs.SoundLaws.{sound}
 use Rattle.magic_walk.proofs.trail.try_next.Reads as try-next
 use Rattle.magic_walk.proofs.trail.try_next.Kinds as try-next-kinds
@@ -34,10 +35,10 @@ use Rattle.magic_walk.proofs.trail.+try_next+visit.{statement}
 use Rattle.magic_walk.proofs.trail.+try_next+visit.Tie.{close}
 
 abbrev μ-try-next : Measures 4 try-next-kinds.ps ℕ
-μ-try-next κs a = triesLeft (magicWalker (a .0 .now) (a .1 .1 .1 .1 .1 .1 .0)) (a .1 .1 .0 .now) (a .1 .1 .1 .0 .now) (a .1 .1 .1 .1 .0)
+μ-try-next κs a = triesLeft (magicWalker (a .0 .now)) (a .1 .1 .0 .now) (a .1 .1 .1 .0 .now) (a .1 .1 .1 .1 .0)
 
 abbrev μ-visit : Measures 4 visit-kinds.ps ℕ
-μ-visit κs a = visitsLeft (magicWalker (a .0 .now) (a .1 .1 .1 .1 .1 .1 .1 .1 .0)) (a .1 .1 .0 .now) (a .1 .1 .1 .0 .now) (a .1 .1 .1 .1 .0) (a .1 .1 .1 .1 .1 .1 .0)
+μ-visit κs a = visitsLeft (magicWalker (a .0 .now)) (a .1 .1 .0 .now) (a .1 .1 .1 .0 .now) (a .1 .1 .1 .1 .0) (a .1 .1 .1 .1 .1 .1 .0)
 
 -- what each is given at the measure t, and what a call of it asks below t
 module _ (t : ℕ) where
@@ -64,49 +65,68 @@ module _ (t : ℕ) where
   -- an alternative is left
   due : (d : try-next-lts.After-due trying try-next-at try-next.Post) →
       let s = d .before .before .before .before .before .before .before in
-      NextOf (altsAt (magicWalker (s .args .rules .now) (s .args .limit)) (s .args .path .now) (s .args .depth)) (nextAt (s .args .path .now) (s .args .depth)) (Atom (d .due .given .0 .0))
+      NextOf (altsAt (magicWalker (s .args .rules .now)) (s .args .path .now) (s .args .depth)) (nextAt (s .args .path .now) (s .args .depth)) (Atom (d .due .given .0 .0))
   due d =
       let s = d .before .before .before .before .before .before .before in
       let a = d .before .before .alternative in
-      next-atom (altsAt (magicWalker (s .args .rules .now) (s .args .limit)) (s .args .path .now) (s .args .depth)) (nextAt (s .args .path .now) (s .args .depth)) (a .result) (d .due .given .0 .0) (d .due .given .1)
-      (split-next (s .args .rules .now) (s .args .limit) (s .args .path .now) (s .args .depth) (a .result) (a .ensures))
+      next-atom (altsAt (magicWalker (s .args .rules .now)) (s .args .path .now) (s .args .depth)) (nextAt (s .args .path .now) (s .args .depth)) (a .result) (d .due .given .0 .0) (d .due .given .1) (a .ensures)
 
   -- it has been entered, and is shut
   on : (k : try-next-lts.After-walked trying try-next-at try-next.Post) →
       let s = k .before .before .before .before .before .before .before .before .before .before .before .before .before .before .before .before .before .before .before .before .before .before .before .before .before .before .before in
       let v = k .before .before .before .before .before .before .visit in
-      TriedOn (magicWalker (s .args .rules .now) (s .args .limit)) (s .args .facts .now) (s .args .path .now) (s .args .depth) (s .args .count) (k .walked .given .0 .0) (v .last .1 .1 .0) (v .last .1 .1 .1 .0)
+      Tried (magicWalker (s .args .rules .now)) (s .args .facts .now) (s .args .path .now) (s .args .depth) (s .args .count) (s .args .limit) (v .last .1 .1 .0) (v .last .1 .1 .1 .0) (k .walked .given .0 .0)
+      × (triesLeft (magicWalker (s .args .rules .now)) (v .last .1 .1 .0) (v .last .1 .1 .1 .0) (s .args .depth) < triesLeft (magicWalker (s .args .rules .now)) (s .args .facts .now) (s .args .path .now) (s .args .depth))
   on k =
       let s = k .before .before .before .before .before .before .before .before .before .before .before .before .before .before .before .before .before .before .before .before .before .before .before .before .before .before .before in
       let p = k .before .before .before .before .before .before .before .before .before .before .before .before .before .place in
       let m = k .before .before .before .before .before .before .before .before .before .before .before .before .before .before .before .before .mark in
       let v = k .before .before .before .before .before .before .visit in
       let x = s .pre .1 .1 .1 in
-      tried-on (magicWalker (s .args .rules .now) (s .args .limit)) (s .args .facts .now) (s .args .path .now) (s .args .depth) (s .args .count) (x .0) (x .1 .1) (due (k .before .before .before .before .before .before .before .before .before .before .before .before .before .before .before .before .before .before .before .before) .0) (p .result) (p .last .1 .1 .0) (p .last .1 .1 .1 .0) (p .ensures .0) (m .result) (m .ensures)
-      (v .result) (k .walked .given .0 .0) (k .walked .given .1) (v .last .1 .1 .0) (v .last .1 .1 .1 .0) (v .kept .1 .1 .1 .0) (v .ensures)
+      let w = magicWalker (s .args .rules .now) in
+      let some-left = due (k .before .before .before .before .before .before .before .before .before .before .before .before .before .before .before .before .before .before .before .before) .0 in
+      let start = tried-start w (s .args .facts .now) (s .args .path .now) (s .args .depth) (s .args .count) (s .args .limit) (x .0) (x .1) in
+      let below : s .args .count < s .args .limit = omega (arith, x .1, (k .before .before .before .before .before .before .before .before .before .before .before .before .before .before .before .before .before .before) .if1 .left) in (
+        tried-on w (s .args .facts .now) (s .args .path .now) (s .args .depth) (s .args .count) (s .args .limit) (s .args .facts .now) (s .args .path .now) (s .args .count) start some-left below
+            (p .result) (p .last .1 .1 .0) (p .last .1 .1 .1 .0) (p .ensures .0) (m .result) (m .ensures)
+            (v .result) (k .walked .given .0 .0) (k .walked .given .1) (v .last .1 .1 .0) (v .last .1 .1 .1 .0) (v .kept .1 .1 .1 .0) (v .ensures .0) (v .ensures .1),
+        tried-falls w (s .args .facts .now) (s .args .path .now) (s .args .depth) (s .args .count) (s .args .limit) (s .args .facts .now) (s .args .path .now) (s .args .count) start some-left below
+            (p .result) (p .last .1 .1 .0) (p .last .1 .1 .1 .0) (p .ensures .0) (m .result) (m .ensures)
+            (v .result) (k .walked .given .0 .0) (k .walked .given .1) (v .last .1 .1 .0) (v .last .1 .1 .1 .0) (v .kept .1 .1 .1 .0) (v .ensures .0) (v .ensures .1),
+      )
 
   -- ---- visiting a split node
 
-  at : (f : visit-lts.After-found visiting visit-at visit.Post) → let s = f .before .before .before .before .before in Reached (magicWalker (s .args .rules .now) (s .args .limit)) (s .args .facts .now) (s .args .path .now) (s .args .depth) (s .args .done) (Split (f .found .given .0 .0))
-  at f = let s = f .before .before .before .before .before in reached-as (magicWalker (s .args .rules .now) (s .args .limit)) (s .args .facts .now) (s .args .path .now) (s .args .depth) (s .args .done) (s .args .found) (Split (f .found .given .0 .0)) (f .found .given .1) (s .pre .1 .1 .1 .0 .0)
+  at : (f : visit-lts.After-found visiting visit-at visit.Post) → let s = f .before .before .before .before .before in Reached (magicWalker (s .args .rules .now)) (s .args .facts .now) (s .args .path .now) (s .args .depth) (s .args .done) (Split (f .found .given .0 .0))
+  at f = let s = f .before .before .before .before .before in reached-as (magicWalker (s .args .rules .now)) (s .args .facts .now) (s .args .path .now) (s .args .depth) (s .args .done) (s .args .found) (Split (f .found .given .0 .0)) (f .found .given .1) (s .pre .1 .1 .1 .0 .0)
 
   -- its facts are all its own
   own-is : (f : visit-lts.After-found visiting visit-at visit.Post) → let s = f .before .before .before .before .before in markAt (s .args .path .now) (s .args .depth) ≡ f .found .given .0 .0
   own-is f = let s = f .before .before .before .before .before in subst (OwnFacts (s .args .path .now) (s .args .depth)) (f .found .given .1) (s .pre .1 .1 .1 .0 .1)
 
   own : (f : visit-lts.After-found visiting visit-at visit.Post) → let s = f .before .before .before .before .before in Undone 18434 (s .args .facts .now) (markAt (s .args .path .now) (s .args .depth)) (s .args .facts .now)
-  own f = let s = f .before .before .before .before .before in own-undone (magicWalker (s .args .rules .now) (s .args .limit)) (s .args .facts .now) (s .args .path .now) (s .args .depth) (s .args .done) (f .found .given .0 .0) (at f) (own-is f)
+  own f = let s = f .before .before .before .before .before in own-undone (magicWalker (s .args .rules .now)) (s .args .facts .now) (s .args .path .now) (s .args .depth) (s .args .done) (f .found .given .0 .0) (at f) (own-is f)
+
+  -- a run that stands there is to try its alternatives
+  tries : (f : visit-lts.After-found visiting visit-at visit.Post) (r : Run Instance) →
+      let s = f .before .before .before .before .before in
+      Visiting (magicWalker (s .args .rules .now)) r (s .args .facts .now) (s .args .path .now) (s .args .depth) (s .args .found) (s .args .count) → Trying (magicWalker (s .args .rules .now)) r (s .args .path .now) (s .args .depth) (s .args .count)
+  tries f r here =
+      let s = f .before .before .before .before .before in
+      let w = magicWalker (s .args .rules .now) in
+      split-tries w r (s .args .facts .now) (s .args .path .now) (s .args .depth) (s .args .count) (f .found .given .0 .0)
+      (visiting-as w r (s .args .facts .now) (s .args .path .now) (s .args .depth) (s .args .count) (s .args .found) (Split (f .found .given .0 .0)) (f .found .given .1) here)
 
   -- all alternatives are shut
   shut : (k : visit-lts.After-walked visiting visit-at visit.Post) →
       let s = k .before .before .before .before .before .before .before .before .before .before .before .before .before .before .before in
       let y = k .before .before .before .before .before .before .try-next in
-      AllShut (magicWalker (s .args .rules .now) (s .args .limit)) (s .args .facts .now) (s .args .path .now) (s .args .depth) (markAt (s .args .path .now) (s .args .depth)) (s .args .count) (k .walked .given .0 .0) (y .last .1 .1 .0) (y .last .1 .1 .1 .0)
+      AllShut (magicWalker (s .args .rules .now)) (s .args .facts .now) (s .args .path .now) (s .args .depth) (markAt (s .args .path .now) (s .args .depth)) (s .args .count) (s .args .limit) (k .walked .given .0 .0) (y .last .1 .1 .0) (y .last .1 .1 .1 .0)
   shut k =
       let s = k .before .before .before .before .before .before .before .before .before .before .before .before .before .before .before in
       let y = k .before .before .before .before .before .before .try-next in
       let own-mark = markAt (s .args .path .now) (s .args .depth) in
-      ended-as (magicWalker (s .args .rules .now) (s .args .limit)) (s .args .facts .now) (s .args .path .now) (s .args .depth) own-mark own-mark (s .args .count) (y .result) (Shut (k .walked .given .0 .0)) (y .last .1 .1 .0) (y .last .1 .1 .1 .0) refl (k .walked .given .1) (y .ensures)
+      leaves-as (magicWalker (s .args .rules .now)) (s .args .facts .now) (s .args .path .now) (s .args .depth) own-mark own-mark (s .args .count) (s .args .limit) (y .result) (Shut (k .walked .given .0 .0)) (y .last .1 .1 .0) (y .last .1 .1 .1 .0) refl (k .walked .given .1) (y .ensures .0)
 
 pub +try-next+visit-spec : {M : Type 1} → statement M
 +try-next+visit-spec =
@@ -116,44 +136,50 @@ pub +try-next+visit-spec : {M : Type 1} → statement M
     (λ c κs.
     let s = c .before .before .before .before in
     let x = s .pre .1 .1 .1 .0 in
-    (s .pre .1 .0, (x .room, split-listed (s .args .rules .now) (s .args .limit) (s .args .path .now) (s .args .depth) (x .at-split .listed))))  -- alternative-requires
+    (s .pre .1 .0, (x .room, x .at-split .listed)))  -- alternative-requires
     (λ c. search needs)  -- enum-known-due
     (λ c. search needs)  -- enum-told
     (λ c. search needs)  -- same-length
     (λ c.
     let s = c .before .before .before .before .before .before .before in
     let m = c .before in
-    let x = s .pre .1 .1 .1 in
-    tried-none (magicWalker (s .args .rules .now) (s .args .limit)) (s .args .facts .now) (s .args .path .now) (s .args .depth) (s .args .count) (x .0) (x .1 .1)
-    (next-nothing (altsAt (magicWalker (s .args .rules .now) (s .args .limit)) (s .args .path .now) (s .args .depth)) (nextAt (s .args .path .now) (s .args .depth)) (m .before .alternative .result) (m .match .keys2)
-    (split-next (s .args .rules .now) (s .args .limit) (s .args .path .now) (s .args .depth) (m .before .alternative .result) (m .before .alternative .ensures))) (x .1 .0))  -- returns
+    let w = magicWalker (s .args .rules .now) in
+    let x = s .pre .1 .1 .1 in (
+      tried-none w (s .args .facts .now) (s .args .path .now) (s .args .depth) (x .0) (s .args .count) (s .args .limit) (x .1),
+      λ r e due.
+          none-ended w (s .args .facts .now) (s .args .path .now) (s .args .depth) (x .0) r (s .args .count)
+          (next-nothing (altsAt w (s .args .path .now) (s .args .depth)) (nextAt (s .args .path .now) (s .args .depth)) (m .before .alternative .result) (m .match .keys2) (m .before .alternative .ensures)) due,
+    ))  -- returns
     (λ c. search needs)  -- same-length-2
     (λ c.
     let s = c .before .before .before .before .before .before .before .before .before in
-    let x = s .pre .1 .1 .1 in
-    tried-due (magicWalker (s .args .rules .now) (s .args .limit)) (s .args .facts .now) (s .args .path .now) (s .args .depth) (s .args .count) (x .0) (x .1 .1) (due t (c .before .before) .0) (omega (arith, x .1 .1, c .if1 .taken)) (x .1 .0))  -- returns-2
+    let w = magicWalker (s .args .rules .now) in
+    let x = s .pre .1 .1 .1 in (
+      tried-due w (s .args .facts .now) (s .args .path .now) (s .args .depth) (x .0) (s .args .count) (s .args .limit) (due t (c .before .before) .0),
+      λ r e due. due-ended w (s .args .facts .now) (s .args .path .now) (s .args .depth) (x .0) r (s .args .count) (c .if1 .taken ∙ sym e) due,
+    ))  -- returns-2
     (λ c κs. (c .before .before .before .before .before .before .before .before .before .before) .pre .1 .1 .1 .0 .room)  -- mark-requires
     (λ c κs.
     let s = c .before .before .before .before .before .before .before .before .before .before .before .before .before in
     let x = s .pre .1 .1 .1 in
-    (s .pre .1 .0, (s .pre .1 .1 .0, (x .0, (due t (c .before .before .before .before .before .before), (x .1 .0, omega (arith, x .1 .1, (c .before .before .before .before) .if1 .left)))))))  -- place-requires
+    (s .pre .1 .0, (s .pre .1 .1 .0, (x .0, (due t (c .before .before .before .before .before .before), omega (arith, x .1, (c .before .before .before .before) .if1 .left))))))  -- place-requires
     (λ c. omega (arith, (c .before .before .before .before .before .before .before .before .before .before .before .before .before .before .before .before .before .before .before .before) .pre .1 .1 .1 .0 .room .deep))  -- add-visit
-    (λ c. let s = c .before .before .before .before .before .before .before .before .before .before .before .before .before .before .before .before .before .before .before .before in omega (arith, s .pre .1 .1 .1 .1 .1, (c .before .before .before .before .before .before .before .before .before .before .before) .if1 .left, s .fits .limit))  -- add-visit-2
+    (λ c. let s = c .before .before .before .before .before .before .before .before .before .before .before .before .before .before .before .before .before .before .before .before in omega (arith, s .pre .1 .1 .1 .1, (c .before .before .before .before .before .before .before .before .before .before .before) .if1 .left, s .fits .limit))  -- add-visit-2
     (λ c κs.
     let s = c .before .before .before .before .before .before .before .before .before .before .before .before .before .before .before .before .before .before .before .before in
-    let w = (magicWalker (s .args .rules .now) (s .args .limit)) in
+    let w = (magicWalker (s .args .rules .now)) in
     let x = s .pre .1 .1 .1 in
     let p = c .before .before .before .before .before .before .place in
     let from : triesLeft w (s .args .facts .now) (s .args .path .now) (s .args .depth) ≡ t = s .pre .0 in (
       subst (λ (m : ℕ). visitsLeft w (p .last .1 .1 .0) (p .last .1 .1 .1 .0) (s .args .depth + 1) (p .result) < m) from
-          (visit-falls w (sound (s .args .rules .now) (s .pre .1 .0) (s .args .limit)) (s .args .facts .now) (s .args .path .now) (s .args .depth) (s .args .count) (x .0) (due t (c .before .before .before .before .before .before .before .before .before .before .before .before .before) .0) (p .result) (p .last .1 .1 .0) (p .last .1 .1 .1 .0) (p .ensures .0)),
+          (visit-falls w (sound (s .args .rules .now) (s .pre .1 .0)) (s .args .facts .now) (s .args .path .now) (s .args .depth) (s .args .count) (x .0) (due t (c .before .before .before .before .before .before .before .before .before .before .before .before .before) .0) (p .result) (p .last .1 .1 .0) (p .last .1 .1 .1 .0) (p .ensures .0)),
       (
         s .pre .1 .0,
         (
           s .pre .1 .1 .0,
           (
             (subst (λ (m : ℕ). Reached w (p .last .1 .1 .0) (p .last .1 .1 .1 .0) (s .args .depth + 1) m (p .result)) (sym ((c .before .before .before .before .before .before .before .before .before) .mark .ensures)) (p .ensures .0 .reached), p .ensures .1),
-            (p .ensures .0 .trail, omega (arith, x .1 .1, (c .before .before .before .before .before .before .before .before .before .before .before) .if1 .left)),
+            omega (arith, x .1, (c .before .before .before .before .before .before .before .before .before .before .before) .if1 .left),
           ),
         ),
       ),
@@ -163,41 +189,51 @@ pub +try-next+visit-spec : {M : Type 1} → statement M
     let k = c .before .before .before in
     let s = k .before .before .before .before .before .before .before .before .before .before .before .before .before .before .before .before .before .before .before .before .before .before .before .before .before .before .before in
     let v = k .before .before .before .before .before .before .visit in
-    let from : triesLeft (magicWalker (s .args .rules .now) (s .args .limit)) (s .args .facts .now) (s .args .path .now) (s .args .depth) ≡ t = s .pre .0 in
-    (subst (λ (m : ℕ). triesLeft (magicWalker (s .args .rules .now) (s .args .limit)) (v .last .1 .1 .0) (v .last .1 .1 .1 .0) (s .args .depth) < m) from (on t k .falls), (s .pre .1 .0, (s .pre .1 .1 .0, (on t k .parted, (on t k .tries, on t k .within))))))  -- try-next-requires
+    let from : triesLeft (magicWalker (s .args .rules .now)) (s .args .facts .now) (s .args .path .now) (s .args .depth) ≡ t = s .pre .0 in
+    (subst (λ (m : ℕ). triesLeft (magicWalker (s .args .rules .now)) (v .last .1 .1 .0) (v .last .1 .1 .1 .0) (s .args .depth) < m) from (on t k .1), (s .pre .1 .0, (s .pre .1 .1 .0, (on t k .0 .parted, on t k .0 .within)))))  -- try-next-requires
     (λ c. search needs)  -- same-length-3
     (λ c. search needs)  -- same-length-4
-    (λ c. let y = c .before .before .before .before .try-next in on t (c .before .before .before .before .before .before .before .before) .ended (y .result) (y .last .1 .1 .0) (y .last .1 .1 .1 .0) (y .ensures))  -- returns-3
+    (λ c.
+    let k = c .before .before .before .before .before .before .before .before in
+    let s = k .before .before .before .before .before .before .before .before .before .before .before .before .before .before .before .before .before .before .before .before .before .before .before .before .before .before .before in
+    let w = magicWalker (s .args .rules .now) in
+    let v = k .before .before .before .before .before .before .visit in
+    let y = c .before .before .before .before .try-next in (
+      tried-leaves w (s .args .facts .now) (s .args .path .now) (s .args .depth) (s .args .count) (s .args .limit) (v .last .1 .1 .0) (v .last .1 .1 .1 .0) (k .walked .given .0 .0) (on t k .0) (y .last .1 .1 .0) (y .last .1 .1 .1 .0) (y .result) (y .ensures .0),
+      λ r e due.
+          tried-ended w (s .args .facts .now) (s .args .path .now) (s .args .depth) (s .args .count) (s .args .limit) (v .last .1 .1 .0) (v .last .1 .1 .1 .0) (k .walked .given .0 .0) (on t k .0) (y .last .1 .1 .0) (y .last .1 .1 .1 .0) r (y .result)
+          (y .ensures .1 r e (on t k .0 .tries r e due)),
+    ))  -- returns-3
     (λ c. search needs)  -- same-length-5
     (λ c. search needs)  -- same-length-6
     (λ c.
     let s = c .before .before .before .before .before .before .before .before .before .before .before .before .before .before .before .before .before .before .before .before .before .before .before .before .before .before in
     let p = c .before .before .before .before .before .before .before .before .before .before .before .before .place in
     let v = c .before .before .before .before .before .visit in
-    passes (magicWalker (s .args .rules .now) (s .args .limit)) (p .last .1 .1 .0) (p .last .1 .1 .1 .0) (s .args .depth + 1) ((c .before .before .before .before .before .before .before .before .before .before .before .before .before .before .before) .mark .result) (s .args .count + 1)
-    (s .args .facts .now) (s .args .path .now) (s .args .depth) (markAt (s .args .path .now) (s .args .depth)) (s .args .count) (v .result) (c .match2 .keys2) (v .last .1 .1 .0) (v .last .1 .1 .1 .0) (v .ensures)))  -- returns-4
+    let m = c .before .before .before .before .before .before .before .before .before .before .before .before .before .before .before .mark in
+    let if1 = c .before .before .before .before .before .before .before .before .before .before .before .before .before .before .before .before .before .if1 in
+    let w = magicWalker (s .args .rules .now) in (
+      passes w (v .last .1 .1 .0) (v .last .1 .1 .1 .0) (s .args .limit) (p .last .1 .1 .0) (p .last .1 .1 .1 .0) (s .args .depth + 1) (m .result) (s .args .count + 1)
+          (s .args .facts .now) (s .args .path .now) (s .args .depth) (markAt (s .args .path .now) (s .args .depth)) (s .args .count) (v .result) (c .match2 .keys2) (v .ensures .0),
+      λ r e due.
+          passes-ended w (v .last .1 .1 .0) (v .last .1 .1 .1 .0) r (p .last .1 .1 .1 .0) (s .args .depth + 1) (s .args .path .now) (s .args .depth) (v .result) (c .match2 .keys2)
+          (v .ensures .1 r e (p .ensures .0 .trail r (omega (arith, s .pre .1 .1 .1 .1, if1 .left)) due)),
+    )))  -- returns-4
     (λ t.
     visit-lts.spec (visiting t) (visit-at t) visit.Post
     (λ c. search needs)  -- enum-known-found
     (λ c κs.
     let f = c .before .before .before in
     let s = f .before .before .before .before .before in
-    let w = (magicWalker (s .args .rules .now) (s .args .limit)) in
+    let w = (magicWalker (s .args .rules .now)) in
     let x = s .pre .1 .1 .1 in
     let n = f .found .given .0 .0 in
-    let here = visiting-as w (s .args .facts .now) (s .args .path .now) (s .args .depth) (s .args .count) (s .args .found) (Split n) (f .found .given .1) (x .1 .0) in
     let from : visitsLeft w (s .args .facts .now) (s .args .path .now) (s .args .depth) (s .args .found) ≡ t = s .pre .0 in (
       subst (λ (m : ℕ). triesLeft w (s .args .facts .now) (s .args .path .now) (s .args .depth) < m) (left-as w (s .args .facts .now) (s .args .path .now) (s .args .depth) (s .args .found) (Split n) (f .found .given .1) ∙ from)
-          (tries-fall w (sound (s .args .rules .now) (s .pre .1 .0) (s .args .limit)) (s .args .facts .now) (s .args .path .now) (s .args .depth) (s .args .done) n (at t f) (s .args .facts .now) (own t f)),
+          (tries-fall w (sound (s .args .rules .now) (s .pre .1 .0)) (s .args .facts .now) (s .args .path .now) (s .args .depth) (s .args .done) n (at t f) (s .args .facts .now) (own t f)),
       (
         s .pre .1 .0,
-        (
-          s .pre .1 .1 .0,
-          (
-            split-parted w (s .args .facts .now) (s .args .path .now) (s .args .depth) (s .args .done) n (at t f) (s .args .facts .now) (own t f),
-            (split-tries w (s .args .facts .now) (s .args .path .now) (s .args .depth) (s .args .done) (s .args .count) (x .1 .1) n here, x .1 .1),
-          ),
-        ),
+        (s .pre .1 .1 .0, (split-parted w (s .args .facts .now) (s .args .path .now) (s .args .depth) (s .args .done) n (at t f) (s .args .facts .now) (own t f), x .1)),
       ),
     ))  -- try-next-requires
     (λ c. search needs)  -- enum-known-walked
@@ -214,34 +250,46 @@ pub +try-next+visit-spec : {M : Type 1} → statement M
     let s = f .before .before .before .before .before in
     let y = k .before .before .before .before .before .before .try-next in
     let e = c .before .before .undo in
-    split-shut (magicWalker (s .args .rules .now) (s .args .limit)) (s .args .facts .now) (s .args .path .now) (s .args .depth) (s .args .done) (s .args .count) (s .pre .1 .1 .1 .1 .1) (f .found .given .0 .0) (at t f) (s .args .facts .now) (own t f)
-    (k .walked .given .0 .0) (y .last .1 .1 .0) (y .last .1 .1 .1 .0) (shut t k) (e .last .0) (e .ensures))  -- returns
+    let w = magicWalker (s .args .rules .now) in (
+      split-shut w (s .args .facts .now) (s .args .path .now) (s .args .depth) (s .args .done) (s .args .count) (s .args .limit) (s .pre .1 .1 .1 .1) (f .found .given .0 .0) (at t f) (s .args .facts .now) (own t f)
+          (k .walked .given .0 .0) (y .last .1 .1 .0) (y .last .1 .1 .1 .0) (shut t k) (e .last .0) (e .ensures),
+      λ r met here.
+          ended-as w r (s .args .path .now) (s .args .depth) (y .result) (Shut (k .walked .given .0 .0)) (y .last .1 .1 .0) (y .last .1 .1 .1 .0) (k .walked .given .1) (y .ensures .1 r met (tries t f r here)),
+    ))  -- returns
     (λ c. search needs)  -- same-length-3
     (λ c. search needs)  -- same-length-4
     (λ c.
-    let s = c .before .before .before .before .before .before .before .before .before .before .before .before .before .before in
+    let f = c .before .before .before .before .before .before .before .before .before in
+    let s = f .before .before .before .before .before in
     let y = c .before .before .before .before .before .try-next in
-    passes (magicWalker (s .args .rules .now) (s .args .limit)) (s .args .facts .now) (s .args .path .now) (s .args .depth) (markAt (s .args .path .now) (s .args .depth)) (s .args .count)
-    (s .args .facts .now) (s .args .path .now) (s .args .depth) (s .args .done) (s .args .count) (y .result) (c .match2 .keys2) (y .last .1 .1 .0) (y .last .1 .1 .1 .0) (y .ensures))  -- returns-2
+    let w = magicWalker (s .args .rules .now) in (
+      passes w (y .last .1 .1 .0) (y .last .1 .1 .1 .0) (s .args .limit) (s .args .facts .now) (s .args .path .now) (s .args .depth) (markAt (s .args .path .now) (s .args .depth)) (s .args .count)
+          (s .args .facts .now) (s .args .path .now) (s .args .depth) (s .args .done) (s .args .count) (y .result) (c .match2 .keys2) (y .ensures .0),
+      λ r met here. y .ensures .1 r met (tries t f r here),
+    ))  -- returns-2
     (λ c. search needs)  -- enum-known-found-2
     (λ c κs.
     let s = c .before .before .before .before .before .before .before in
     let g = c .before .before .found2 .given in
-    let here = reached-as (magicWalker (s .args .rules .now) (s .args .limit)) (s .args .facts .now) (s .args .path .now) (s .args .depth) (s .args .done) (s .args .found) (Closed (g .0 .0)) (g .1) (s .pre .1 .1 .1 .0 .0) in
+    let here = reached-as (magicWalker (s .args .rules .now)) (s .args .facts .now) (s .args .path .now) (s .args .depth) (s .args .done) (s .args .found) (Closed (g .0 .0)) (g .1) (s .pre .1 .1 .1 .0 .0) in
     (here .store, (here .ready, omega arith)))  -- undo-requires-2
     (λ c. search needs)  -- same-length-5
     (λ c.
     let s = c .before .before .before .before .before .before .before .before .before .before in
-    let x = s .pre .1 .1 .1 in
+    let w = magicWalker (s .args .rules .now) in
     let g = c .before .before .before .before .before .found2 .given in
-    let e = c .before .before .undo2 in
-    visit-closed (magicWalker (s .args .rules .now) (s .args .limit)) (s .args .facts .now) (s .args .path .now) (s .args .depth) (s .args .done) (s .args .count) (x .1 .1) (g .0 .0)
-    (visiting-as (magicWalker (s .args .rules .now) (s .args .limit)) (s .args .facts .now) (s .args .path .now) (s .args .depth) (s .args .count) (s .args .found) (Closed (g .0 .0)) (g .1) (x .1 .0)) (e .last .0) (e .ensures))  -- returns-3
+    let e = c .before .before .undo2 in (
+      visit-closed w (s .args .facts .now) (s .args .path .now) (s .args .depth) (s .args .done) (s .args .count) (s .args .limit) (s .pre .1 .1 .1 .1) (e .last .0) (e .ensures),
+      λ r met here.
+          closed-ended w r (s .args .facts .now) (s .args .path .now) (s .args .depth) (s .args .count) (g .0 .0)
+          (visiting-as w r (s .args .facts .now) (s .args .path .now) (s .args .depth) (s .args .count) (s .args .found) (Closed (g .0 .0)) (g .1) here) (e .last .0),
+    ))  -- returns-3
     (λ c. search needs)  -- enum-told
     (λ c.
     let s = c .before .before .before .before .before in
-    let x = s .pre .1 .1 .1 in
-    let o = found-open (s .args .found) (c .before .match .keys3) in
-    visit-open (magicWalker (s .args .rules .now) (s .args .limit)) (s .args .facts .now) (s .args .path .now) (s .args .depth) (s .args .done) (s .args .count) (x .1 .1) (o .0)
-    (reached-as (magicWalker (s .args .rules .now) (s .args .limit)) (s .args .facts .now) (s .args .path .now) (s .args .depth) (s .args .done) (s .args .found) (Open (o .0)) (o .1) (x .0 .0))
-    (visiting-as (magicWalker (s .args .rules .now) (s .args .limit)) (s .args .facts .now) (s .args .path .now) (s .args .depth) (s .args .count) (s .args .found) (Open (o .0)) (o .1) (x .1 .0))))  -- returns-4
+    let w = magicWalker (s .args .rules .now) in
+    let o = found-open (s .args .found) (c .before .match .keys3) in (
+      visit-open w (s .args .facts .now) (s .args .path .now) (s .args .depth) (s .args .done) (s .args .count) (s .args .limit) (s .pre .1 .1 .1 .1) (o .0)
+          (reached-as w (s .args .facts .now) (s .args .path .now) (s .args .depth) (s .args .done) (s .args .found) (Open (o .0)) (o .1) (s .pre .1 .1 .1 .0 .0)),
+      λ r met here. visiting-as w r (s .args .facts .now) (s .args .path .now) (s .args .depth) (s .args .count) (s .args .found) (Open (o .0)) (o .1) here,
+    )))  -- returns-4

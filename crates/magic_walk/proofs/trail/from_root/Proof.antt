@@ -2,6 +2,7 @@
 use mathlib.Core.Path.{refl}
 use native.Mathlib.Omega.{arith}
 use borrow.Author.Needs.{needs}
+use Rattle.walk.specs.contracts.Walker.{fromRoot}
 use Rattle.walk.proofs.WalkLaws.{start-visiting, root-walks}
 use Rattle.magic_walk.specs.contracts.Place.{magicWalker}
 use Rattle.magic_walk.proofs.trail.from_root.Statement.{statement}
@@ -14,13 +15,15 @@ from-root-spec =
     (λ c κs. search needs)  -- root-requires
     (λ c κs.
     let s = c .before .before .before .before .before .before .before .before .before .before .before .before in
-    let limit = s .args .limit in
-    let r = c .before .before .before .before .before .before .root in
-    (s .pre .0, (s .pre .1 .0, ((r .ensures .0 limit .reached, r .ensures .1), (start-visiting (magicWalker (s .args .rules .now) limit) (r .last .1 .1 .0) (r .last .1 .1 .1 .0) (r .result) refl (r .ensures .0 limit), omega arith)))))  -- visit-requires
+    let b = c .before .before .before .before .before .before .root in
+    (s .pre .0, (s .pre .1 .0, ((b .ensures .0 .reached, b .ensures .1), omega arith))))  -- visit-requires
     (λ c. search needs)  -- same-length
     (λ c. search needs)  -- same-length-2
     (λ c.
     let s = c .before .before .before .before .before .before .before .before .before .before .before .before .before .before .before .before .before in
-    let r = c .before .before .before .before .before .before .before .before .before .before .before .root in
+    let b = c .before .before .before .before .before .before .before .before .before .before .before .root in
     let v = c .before .before .before .before .visit in
-    root-walks (magicWalker (s .args .rules .now) (s .args .limit)) (r .last .1 .1 .0) (r .last .1 .1 .1 .0) (v .result) (v .last .1 .1 .0) (v .last .1 .1 .1 .0) (v .ensures)))  -- returns
+    let w = magicWalker (s .args .rules .now) in
+    let r = fromRoot w (s .args .limit) in
+    root-walks w r (b .last .1 .1 .0) (b .last .1 .1 .1 .0) 0 0 (v .result) (v .last .1 .1 .0) (v .last .1 .1 .1 .0) (v .ensures .0)
+    (v .ensures .1 r refl (start-visiting w (s .args .limit) (b .last .1 .1 .0) (b .last .1 .1 .1 .0) (b .result) (b .ensures .0)))))  -- returns

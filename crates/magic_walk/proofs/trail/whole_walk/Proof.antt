@@ -3,6 +3,7 @@ use Prim.Native.Nat.{ℕ}
 use native.Mathlib.Omega.{arith}
 use lib.ListN.{length, length-replicate}
 use borrow.Author.Needs.{needs}
+use Rattle.walk.specs.contracts.Walker.{fromRoot}
 use Rattle.walk.proofs.WalkLaws.{blank-store, walks-tell}
 use Rattle.magic_walk.specs.contracts.Place.{magicWalker}
 use Rattle.magic_walk.proofs.trail.whole_walk.Statement.{statement}
@@ -22,5 +23,6 @@ whole-walk-spec =
     (λ c. search needs)  -- same-length
     (λ c.
     let s = c .before .before .before .before .before .before .before .before .before .before .before .before .before .before in
+    let w = magicWalker (s .args .rules .now) in
     let f = c .before .before .before .from-root in
-    record { path = f .last .1 .1 .1 .0; walks = f .ensures; tells = walks-tell (magicWalker (s .args .rules .now) (s .args .limit)) (f .result) (f .last .1 .1 .0) (f .last .1 .1 .1 .0) (f .ensures) }))  -- returns
+    record { path = f .last .1 .1 .1 .0; walks = f .ensures; tells = walks-tell w (fromRoot w (s .args .limit)) (f .result) (f .last .1 .1 .0) (f .last .1 .1 .1 .0) (f .ensures) }))  -- returns

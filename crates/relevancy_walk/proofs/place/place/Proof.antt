@@ -71,5 +71,4 @@ place-spec =
     let added = put s (o .result) (s .args .a) (o .ensures) (s .pre .1 .1 .1 .0 .1) (d .last .0) (d .result) (d .ensures) in
     place-made w (s .args .facts .now) (s .args .path .now) (s .args .depth) (s .args .count) (s .pre .1 .1 .1 .0 .0) (d .result) (d .last .0) (p .last .0) (went s (p .last .0) (p .ensures))
     (added .grows) (added .kept) (f .result) (f .last .1 .1 .1 .0) (f .last .1 .1 .1 .1 .0)
-    (subst (λ (m : ℕ). Finding w (d .last .0) (p .last .0) (s .args .depth + 1) (d .result) m (f .result) (f .last .1 .1 .1 .0) (f .last .1 .1 .1 .1 .0)) (o .ensures) (f .ensures))
-    (s .pre .1 .1 .1 .1 .0)))  -- returns
+    (subst (λ (m : ℕ). Finding w (d .last .0) (p .last .0) (s .args .depth + 1) (d .result) m (f .result) (f .last .1 .1 .1 .0) (f .last .1 .1 .1 .1 .0)) (o .ensures) (f .ensures))))  -- returns

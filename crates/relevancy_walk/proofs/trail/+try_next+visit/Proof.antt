@@ -1,8 +1,7 @@
 -- The proof of the cycle of calls {try_next, visit}. Each place made has an atom more that is true, and the alternatives left at a node grow fewer.
-use Prim.Native.Nat.{ℕ, _+_, _≤_, _<_}
+use Prim.Native.Nat.{ℕ, _+_, _<_}
 use mathlib.Core.Path.{_≡_, refl, sym, subst, _∙_}
 use native.Mathlib.Omega.{arith}
-use lib.ListN.{length}
 use borrow.Author.Needs.{needs}
 use borrow.Fn.Kinds.{In}
 use borrow.Fn.PlainCycle.{Measures, is, falls, and}
@@ -14,7 +13,8 @@ use Rattle.walk.specs.contracts.Walk.{triesLeft, visitsLeft, AllShut}
 use Rattle.walk.specs.declared.answer.Found.the-variants.{Closed, Open, Split}
 use Rattle.walk.specs.declared.answer.Walked.the-variants.{Shut}
 use Rattle.walk.proofs.PlaceLaws.{split-parted, reached-as, visiting-as}
-use Rattle.walk.proofs.WalkLaws.{found-open, visit-open, visit-closed, split-tries, split-shut, passes, tried-none, tried-due, after-parted, after-tries, after-ended, after-falls, visit-falls, tries-fall, left-as, ended-as}
+use Rattle.walk.proofs.WalkLaws.{found-open, visit-open, visit-closed, split-shut, closed-ended, split-tries, passes, passes-ended, leaves-as, ended-as, tried-none, none-ended, tried-due, due-ended, visit-falls, tries-fall, left-as}
+use Rattle.walk.proofs.TriedLaws.{tried-start, tried-falls, tried-on, tried-leaves, tried-ended}
 use Rattle.relevancy_walk.specs.contracts.Place.{relevancyWalker}
 use Rattle.relevancy_walk.proofs.SoundLaws.{sound}
 use Rattle.relevancy_walk.proofs.trail.try_next.Reads as try-next
@@ -61,26 +61,31 @@ pub +try-next+visit-spec : {M : Type 1} → statement M
     (λ c.
     let s = c .before .before .before .before .before .before .before in
     let m = c .before in
-    let tb = s .args .table .now in
-    let x = s .pre .1 .1 .1 in
-    tried-none (relevancyWalker tb) (s .args .facts .now) (s .args .path .now) (s .args .depth) (s .args .count) (x .0) (omega (arith, x .1 .1, x .1 .2))
-    (next-nothing (altsAt (relevancyWalker (s .args .table .now)) (s .args .path .now) (s .args .depth)) (nextAt (s .args .path .now) (s .args .depth)) (m .before .alternative .result) (m .match .keys2) (m .before .alternative .ensures)) (x .1 .0))  -- returns
+    let w = relevancyWalker (s .args .table .now) in
+    let x = s .pre .1 .1 .1 in (
+      tried-none w (s .args .facts .now) (s .args .path .now) (s .args .depth) (x .0) (s .args .count) (s .args .limit) (x .1),
+      λ r e due.
+          none-ended w (s .args .facts .now) (s .args .path .now) (s .args .depth) (x .0) r (s .args .count)
+          (next-nothing (altsAt w (s .args .path .now) (s .args .depth)) (nextAt (s .args .path .now) (s .args .depth)) (m .before .alternative .result) (m .match .keys2) (m .before .alternative .ensures)) due,
+    ))  -- returns
     (λ c. search needs)  -- same-length-2
     (λ c.
     let s = c .before .before .before .before .before .before .before .before .before in
     let d = c .before .before in
-    let tb = s .args .table .now in
-    let x = s .pre .1 .1 .1 in
-    tried-due (relevancyWalker tb) (s .args .facts .now) (s .args .path .now) (s .args .depth) (s .args .count) (x .0) (omega (arith, x .1 .1, x .1 .2))
-    (next-atom (altsAt (relevancyWalker (s .args .table .now)) (s .args .path .now) (s .args .depth)) (nextAt (s .args .path .now) (s .args .depth)) (d .before .before .alternative .result) (d .due .given .0 .0) (d .due .given .1) (d .before .before .alternative .ensures) .0) (c .if1 .taken ∙ x .1 .2) (x .1 .0))  -- returns-2
+    let w = relevancyWalker (s .args .table .now) in
+    let x = s .pre .1 .1 .1 in (
+      tried-due w (s .args .facts .now) (s .args .path .now) (s .args .depth) (x .0) (s .args .count) (s .args .limit) ((next-atom (altsAt w (s .args .path .now) (s .args .depth)) (nextAt (s .args .path .now) (s .args .depth)) (d .before .before .alternative .result) (d .due .given .0 .0) (d .due .given .1) (d .before .before .alternative .ensures)) .0),
+      λ r e due. due-ended w (s .args .facts .now) (s .args .path .now) (s .args .depth) (x .0) r (s .args .count) (c .if1 .taken ∙ sym e) due,
+    ))  -- returns-2
     (λ c κs. let s = c .before .before .before .before .before .before .before .before .before .before in s .pre .1 .1 .1 .0 .room)  -- mark-requires
     (λ c κs.
     let s = c .before .before .before .before .before .before .before .before .before .before .before .before .before in
     let d = c .before .before .before .before .before .before in
+    let w = relevancyWalker (s .args .table .now) in
     let x = s .pre .1 .1 .1 in
-    (s .pre .1 .0, (s .pre .1 .1 .0, (x .0, (next-atom (altsAt (relevancyWalker (s .args .table .now)) (s .args .path .now) (s .args .depth)) (nextAt (s .args .path .now) (s .args .depth)) (d .before .before .alternative .result) (d .due .given .0 .0) (d .due .given .1) (d .before .before .alternative .ensures), (x .1 .0, omega (arith, x .1 .1, x .1 .2, (c .before .before .before .before) .if1 .left)))))))  -- place-requires
+    (s .pre .1 .0, (s .pre .1 .1 .0, (x .0, ((next-atom (altsAt w (s .args .path .now) (s .args .depth)) (nextAt (s .args .path .now) (s .args .depth)) (d .before .before .alternative .result) (d .due .given .0 .0) (d .due .given .1) (d .before .before .alternative .ensures)), omega (arith, x .1, (c .before .before .before .before) .if1 .left))))))  -- place-requires
     (λ c. let s = c .before .before .before .before .before .before .before .before .before .before .before .before .before .before .before .before .before .before .before .before in omega (arith, s .pre .1 .1 .1 .0 .room .deep))  -- add-visit
-    (λ c. let s = c .before .before .before .before .before .before .before .before .before .before .before .before .before .before .before .before .before .before .before .before in omega (arith, s .pre .1 .1 .1 .1 .1, (c .before .before .before .before .before .before .before .before .before .before .before) .if1 .left, s .fits .limit))  -- add-visit-2
+    (λ c. let s = c .before .before .before .before .before .before .before .before .before .before .before .before .before .before .before .before .before .before .before .before in omega (arith, s .pre .1 .1 .1 .1, (c .before .before .before .before .before .before .before .before .before .before .before) .if1 .left, s .fits .limit))  -- add-visit-2
     (λ c κs.
     let s = c .before .before .before .before .before .before .before .before .before .before .before .before .before .before .before .before .before .before .before .before in
     let tb = s .args .table .now in
@@ -98,7 +103,7 @@ pub +try-next+visit-spec : {M : Type 1} → statement M
           s .pre .1 .1 .0,
           (
             subst (λ (m : ℕ). Reached w (p .last .1 .1 .1 .0) (p .last .1 .1 .1 .1 .0) (s .args .depth + 1) m (p .result)) (sym ((c .before .before .before .before .before .before .before .before .before) .mark .ensures)) (p .ensures .reached),
-            (p .ensures .trail, omega (arith, x .1 .1, (c .before .before .before .before .before .before .before .before .before .before .before) .if1 .left), x .1 .2),
+            omega (arith, x .1, (c .before .before .before .before .before .before .before .before .before .before .before) .if1 .left),
           ),
         ),
       ),
@@ -106,61 +111,60 @@ pub +try-next+visit-spec : {M : Type 1} → statement M
     (λ c. search needs)  -- enum-known-walked
     (λ c κs.
     let s = c .before .before .before .before .before .before .before .before .before .before .before .before .before .before .before .before .before .before .before .before .before .before .before .before .before .before .before .before .before .before in
-    let tb = s .args .table .now in
-    let w = relevancyWalker tb in
-    let x = s .pre .1 .1 .1 in
     let p = c .before .before .before .before .before .before .before .before .before .before .before .before .before .before .before .before .place in
     let v = c .before .before .before .before .before .before .before .before .before .visit in
     let g = c .before .before .before .walked .given in
     let d = c .before .before .before .before .before .before .before .before .before .before .before .before .before .before .before .before .before .before .before .before .before .before .before in
-    let some-left = next-atom (altsAt w (s .args .path .now) (s .args .depth)) (nextAt (s .args .path .now) (s .args .depth)) (d .before .before .alternative .result) (d .due .given .0 .0) (d .due .given .1) (d .before .before .alternative .ensures) .0 in
-    let within : s .args .count ≤ w .limit = omega (arith, x .1 .1, x .1 .2) in
-    let size : length (v .last .1 .1 .1 .1 .0) ≡ 9225 = v .kept .1 .1 .1 .1 .0 ∙ p .ensures .reached .room .size in
-    let shut : AllShut w (p .last .1 .1 .1 .0) (p .last .1 .1 .1 .1 .0) (s .args .depth + 1) (markAt (s .args .path .now) (s .args .depth)) (s .args .count + 1) (g .0 .0) (v .last .1 .1 .1 .0) (v .last .1 .1 .1 .1 .0) =
-    ended-as w (p .last .1 .1 .1 .0) (p .last .1 .1 .1 .1 .0) (s .args .depth + 1) ((c .before .before .before .before .before .before .before .before .before .before .before .before .before .before .before .before .before .before .before) .mark .result) (markAt (s .args .path .now) (s .args .depth)) (s .args .count + 1) (v .result) (Shut (g .0 .0)) (v .last .1 .1 .1 .0) (v .last .1 .1 .1 .1 .0) ((c .before .before .before .before .before .before .before .before .before .before .before .before .before .before .before .before .before .before .before) .mark .ensures) (g .1) (v .ensures) in
+    let m = c .before .before .before .before .before .before .before .before .before .before .before .before .before .before .before .before .before .before .before .mark in
+    let if1 = c .before .before .before .before .before .before .before .before .before .before .before .before .before .before .before .before .before .before .before .before .before .if1 in
+    let w = relevancyWalker (s .args .table .now) in
+    let x = s .pre .1 .1 .1 in
+    let some-left = (next-atom (altsAt w (s .args .path .now) (s .args .depth)) (nextAt (s .args .path .now) (s .args .depth)) (d .before .before .alternative .result) (d .due .given .0 .0) (d .due .given .1) (d .before .before .alternative .ensures)) .0 in
+    let start = tried-start w (s .args .facts .now) (s .args .path .now) (s .args .depth) (s .args .count) (s .args .limit) (x .0) (x .1) in
+    let below : s .args .count < s .args .limit = omega (arith, x .1, if1 .left) in
+    let on = tried-on w (s .args .facts .now) (s .args .path .now) (s .args .depth) (s .args .count) (s .args .limit) (s .args .facts .now) (s .args .path .now) (s .args .count) start some-left below (p .result) (p .last .1 .1 .1 .0) (p .last .1 .1 .1 .1 .0) (p .ensures) (m .result) (m .ensures) (v .result) (g .0 .0) (g .1) (v .last .1 .1 .1 .0) (v .last .1 .1 .1 .1 .0) (v .kept .1 .1 .1 .1 .0) (v .ensures .0) (v .ensures .1) in
     let from : triesLeft w (s .args .facts .now) (s .args .path .now) (s .args .depth) ≡ t = s .pre .0 in (
       subst (λ (m : ℕ). triesLeft w (v .last .1 .1 .1 .0) (v .last .1 .1 .1 .1 .0) (s .args .depth) < m) from
-          (after-falls w (s .args .facts .now) (s .args .path .now) (s .args .depth) (s .args .count) (x .0) within (p .result) (p .last .1 .1 .1 .0) (p .last .1 .1 .1 .1 .0) (p .ensures) (g .0 .0) (v .last .1 .1 .1 .0) (v .last .1 .1 .1 .1 .0) size shut some-left),
-      (
-        s .pre .1 .0,
-        (
-          s .pre .1 .1 .0,
-          (
-            after-parted w (s .args .facts .now) (s .args .path .now) (s .args .depth) (s .args .count) (x .0) within (p .result) (p .last .1 .1 .1 .0) (p .last .1 .1 .1 .1 .0) (p .ensures) (g .0 .0) (v .last .1 .1 .1 .0) (v .last .1 .1 .1 .1 .0) size shut,
-            (
-              after-tries w (s .args .facts .now) (s .args .path .now) (s .args .depth) (s .args .count) (x .0) within (p .result) (p .last .1 .1 .1 .0) (p .last .1 .1 .1 .1 .0) (p .ensures) (g .0 .0) (v .last .1 .1 .1 .0) (v .last .1 .1 .1 .1 .0) size shut,
-              omega (arith, shut .within, x .1 .2),
-              x .1 .2,
-            ),
-          ),
-        ),
-      ),
+          (tried-falls w (s .args .facts .now) (s .args .path .now) (s .args .depth) (s .args .count) (s .args .limit) (s .args .facts .now) (s .args .path .now) (s .args .count) start some-left below (p .result) (p .last .1 .1 .1 .0) (p .last .1 .1 .1 .1 .0) (p .ensures) (m .result) (m .ensures) (v .result) (g .0 .0) (g .1) (v .last .1 .1 .1 .0) (v .last .1 .1 .1 .1 .0) (v .kept .1 .1 .1 .1 .0) (v .ensures .0) (v .ensures .1)),
+      (s .pre .1 .0, (s .pre .1 .1 .0, (on .parted, on .within))),
     ))  -- try-next-requires
     (λ c. search needs)  -- same-length-3
     (λ c. search needs)  -- same-length-4
     (λ c.
     let s = c .before .before .before .before .before .before .before .before .before .before .before .before .before .before .before .before .before .before .before .before .before .before .before .before .before .before .before .before .before .before .before .before .before .before .before in
-    let tb = s .args .table .now in
-    let w = relevancyWalker tb in
-    let x = s .pre .1 .1 .1 in
     let p = c .before .before .before .before .before .before .before .before .before .before .before .before .before .before .before .before .before .before .before .before .before .place in
     let v = c .before .before .before .before .before .before .before .before .before .before .before .before .before .before .visit in
     let g = c .before .before .before .before .before .before .before .before .walked .given in
+    let d = c .before .before .before .before .before .before .before .before .before .before .before .before .before .before .before .before .before .before .before .before .before .before .before .before .before .before .before .before in
+    let m = c .before .before .before .before .before .before .before .before .before .before .before .before .before .before .before .before .before .before .before .before .before .before .before .before .mark in
+    let if1 = c .before .before .before .before .before .before .before .before .before .before .before .before .before .before .before .before .before .before .before .before .before .before .before .before .before .before .if1 in
     let y = c .before .before .before .before .try-next in
-    let within : s .args .count ≤ w .limit = omega (arith, x .1 .1, x .1 .2) in
-    let size : length (v .last .1 .1 .1 .1 .0) ≡ 9225 = v .kept .1 .1 .1 .1 .0 ∙ p .ensures .reached .room .size in
-    let shut : AllShut w (p .last .1 .1 .1 .0) (p .last .1 .1 .1 .1 .0) (s .args .depth + 1) (markAt (s .args .path .now) (s .args .depth)) (s .args .count + 1) (g .0 .0) (v .last .1 .1 .1 .0) (v .last .1 .1 .1 .1 .0) =
-    ended-as w (p .last .1 .1 .1 .0) (p .last .1 .1 .1 .1 .0) (s .args .depth + 1) ((c .before .before .before .before .before .before .before .before .before .before .before .before .before .before .before .before .before .before .before .before .before .before .before .before) .mark .result) (markAt (s .args .path .now) (s .args .depth)) (s .args .count + 1) (v .result) (Shut (g .0 .0)) (v .last .1 .1 .1 .0) (v .last .1 .1 .1 .1 .0) ((c .before .before .before .before .before .before .before .before .before .before .before .before .before .before .before .before .before .before .before .before .before .before .before .before) .mark .ensures) (g .1) (v .ensures) in
-    after-ended w (s .args .facts .now) (s .args .path .now) (s .args .depth) (s .args .count) (x .0) within (p .result) (p .last .1 .1 .1 .0) (p .last .1 .1 .1 .1 .0) (p .ensures) (g .0 .0) (v .last .1 .1 .1 .0) (v .last .1 .1 .1 .1 .0) size shut
-    (y .result) (y .last .1 .1 .1 .0) (y .last .1 .1 .1 .1 .0) (y .ensures))  -- returns-3
+    let w = relevancyWalker (s .args .table .now) in
+    let x = s .pre .1 .1 .1 in
+    let some-left = (next-atom (altsAt w (s .args .path .now) (s .args .depth)) (nextAt (s .args .path .now) (s .args .depth)) (d .before .before .alternative .result) (d .due .given .0 .0) (d .due .given .1) (d .before .before .alternative .ensures)) .0 in
+    let start = tried-start w (s .args .facts .now) (s .args .path .now) (s .args .depth) (s .args .count) (s .args .limit) (x .0) (x .1) in
+    let below : s .args .count < s .args .limit = omega (arith, x .1, if1 .left) in
+    let on = tried-on w (s .args .facts .now) (s .args .path .now) (s .args .depth) (s .args .count) (s .args .limit) (s .args .facts .now) (s .args .path .now) (s .args .count) start some-left below (p .result) (p .last .1 .1 .1 .0) (p .last .1 .1 .1 .1 .0) (p .ensures) (m .result) (m .ensures) (v .result) (g .0 .0) (g .1) (v .last .1 .1 .1 .0) (v .last .1 .1 .1 .1 .0) (v .kept .1 .1 .1 .1 .0) (v .ensures .0) (v .ensures .1) in (
+      tried-leaves w (s .args .facts .now) (s .args .path .now) (s .args .depth) (s .args .count) (s .args .limit) (v .last .1 .1 .1 .0) (v .last .1 .1 .1 .1 .0) (g .0 .0) on (y .last .1 .1 .1 .0) (y .last .1 .1 .1 .1 .0) (y .result) (y .ensures .0),
+      λ r e due.
+          tried-ended w (s .args .facts .now) (s .args .path .now) (s .args .depth) (s .args .count) (s .args .limit) (v .last .1 .1 .1 .0) (v .last .1 .1 .1 .1 .0) (g .0 .0) on (y .last .1 .1 .1 .0) (y .last .1 .1 .1 .1 .0) r (y .result)
+          (y .ensures .1 r e (on .tries r e due)),
+    ))  -- returns-3
     (λ c. search needs)  -- same-length-5
     (λ c. search needs)  -- same-length-6
     (λ c.
     let s = c .before .before .before .before .before .before .before .before .before .before .before .before .before .before .before .before .before .before .before .before .before .before .before .before .before .before in
     let p = c .before .before .before .before .before .before .before .before .before .before .before .before .place in
     let v = c .before .before .before .before .before .visit in
-    passes (relevancyWalker (s .args .table .now)) (p .last .1 .1 .1 .0) (p .last .1 .1 .1 .1 .0) (s .args .depth + 1) ((c .before .before .before .before .before .before .before .before .before .before .before .before .before .before .before) .mark .result) (s .args .count + 1)
-    (s .args .facts .now) (s .args .path .now) (s .args .depth) (markAt (s .args .path .now) (s .args .depth)) (s .args .count) (v .result) (c .match2 .keys2) (v .last .1 .1 .1 .0) (v .last .1 .1 .1 .1 .0) (v .ensures)))  -- returns-4
+    let m = c .before .before .before .before .before .before .before .before .before .before .before .before .before .before .before .mark in
+    let if1 = c .before .before .before .before .before .before .before .before .before .before .before .before .before .before .before .before .before .if1 in
+    let w = relevancyWalker (s .args .table .now) in (
+      passes w (v .last .1 .1 .1 .0) (v .last .1 .1 .1 .1 .0) (s .args .limit) (p .last .1 .1 .1 .0) (p .last .1 .1 .1 .1 .0) (s .args .depth + 1) (m .result) (s .args .count + 1)
+          (s .args .facts .now) (s .args .path .now) (s .args .depth) (markAt (s .args .path .now) (s .args .depth)) (s .args .count) (v .result) (c .match2 .keys2) (v .ensures .0),
+      λ r e due.
+          passes-ended w (v .last .1 .1 .1 .0) (v .last .1 .1 .1 .1 .0) r (p .last .1 .1 .1 .1 .0) (s .args .depth + 1) (s .args .path .now) (s .args .depth) (v .result) (c .match2 .keys2)
+          (v .ensures .1 r e (p .ensures .trail r (omega (arith, s .pre .1 .1 .1 .1, if1 .left)) due)),
+    )))  -- returns-4
     (λ t.
     visit-lts.spec (mark-reads.Asked, mark-reads.Learnt, undo-reads.Asked, undo-reads.Learnt, try-next-below t, try-next.Post) (visit-at t) visit.Post
     (λ c. search needs)  -- enum-known-found
@@ -178,7 +182,6 @@ pub +try-next+visit-spec : {M : Type 1} → statement M
     let x = s .pre .1 .1 .1 in
     let g = c .before .before .before .before .before .before .before .before .before .found .given in
     let at = reached-as w (s .args .facts .now) (s .args .path .now) (s .args .depth) (s .args .done) (s .args .found) (Split (g .0 .0)) (g .1) (x .0) in
-    let here = visiting-as w (s .args .facts .now) (s .args .path .now) (s .args .depth) (s .args .count) (s .args .found) (Split (g .0 .0)) (g .1) (x .1 .0) in
     let u = c .before .before .before .before .undo in
     let own : Undone 2050 (s .args .facts .now) (markAt (s .args .path .now) (s .args .depth)) (u .last .0) = subst (λ (m : ℕ). Undone 2050 (s .args .facts .now) m (u .last .0)) ((c .before .before .before .before .before .before) .mark .ensures) (u .ensures) in
     let from : visitsLeft w (s .args .facts .now) (s .args .path .now) (s .args .depth) (s .args .found) ≡ t = s .pre .0 in (
@@ -186,13 +189,7 @@ pub +try-next+visit-spec : {M : Type 1} → statement M
           (tries-fall w (sound tb (s .pre .1 .0)) (s .args .facts .now) (s .args .path .now) (s .args .depth) (s .args .done) (g .0 .0) at (u .last .0) own),
       (
         s .pre .1 .0,
-        (
-          s .pre .1 .1 .0,
-          (
-            split-parted w (s .args .facts .now) (s .args .path .now) (s .args .depth) (s .args .done) (g .0 .0) at (u .last .0) own,
-            (split-tries w (s .args .facts .now) (s .args .path .now) (s .args .depth) (s .args .done) (s .args .count) (omega (arith, x .1 .1, x .1 .2)) (g .0 .0) here, x .1 .1, x .1 .2),
-          ),
-        ),
+        (s .pre .1 .1 .0, (split-parted w (s .args .facts .now) (s .args .path .now) (s .args .depth) (s .args .done) (g .0 .0) at (u .last .0) own, x .1)),
       ),
     ))  -- try-next-requires
     (λ c. search needs)  -- enum-known-walked
@@ -203,8 +200,8 @@ pub +try-next+visit-spec : {M : Type 1} → statement M
     let at = reached-as w (s .args .facts .now) (s .args .path .now) (s .args .depth) (s .args .done) (s .args .found) (Split (g .0 .0)) (g .1) (s .pre .1 .1 .1 .0) in
     let y = c .before .before .before .before .before .before .before .before .try-next in
     let k = c .before .before .walked .given in
-    let shut : AllShut w ((c .before .before .before .before .before .before .before .before .before .before .before .before .before) .undo .last .0) (s .args .path .now) (s .args .depth) (markAt (s .args .path .now) (s .args .depth)) (s .args .count) (k .0 .0) (y .last .1 .1 .1 .0) (y .last .1 .1 .1 .1 .0) =
-    ended-as w ((c .before .before .before .before .before .before .before .before .before .before .before .before .before) .undo .last .0) (s .args .path .now) (s .args .depth) (markAt (s .args .path .now) (s .args .depth)) (markAt (s .args .path .now) (s .args .depth)) (s .args .count) (y .result) (Shut (k .0 .0)) (y .last .1 .1 .1 .0) (y .last .1 .1 .1 .1 .0) refl (k .1) (y .ensures) in
+    let shut : AllShut w ((c .before .before .before .before .before .before .before .before .before .before .before .before .before) .undo .last .0) (s .args .path .now) (s .args .depth) (markAt (s .args .path .now) (s .args .depth)) (s .args .count) (s .args .limit) (k .0 .0) (y .last .1 .1 .1 .0) (y .last .1 .1 .1 .1 .0) =
+    leaves-as w ((c .before .before .before .before .before .before .before .before .before .before .before .before .before) .undo .last .0) (s .args .path .now) (s .args .depth) (markAt (s .args .path .now) (s .args .depth)) (markAt (s .args .path .now) (s .args .depth)) (s .args .count) (s .args .limit) (y .result) (Shut (k .0 .0)) (y .last .1 .1 .1 .0) (y .last .1 .1 .1 .1 .0) refl (k .1) (y .ensures .0) in
     (subst (λ (m : ℕ). Store 2050 (y .last .1 .1 .1 .0) m) (sym ((c .before .before .before .before .before .before .before .before .before .before .before .before .before .before .before) .mark .ensures)) (shut .undone .store), (omega (arith, at .ready .0, (c .before .before .before .before .before .before .before .before .before .before .before .before .before .before .before) .mark .ensures), omega arith)))  -- undo-requires-2
     (λ c. search needs)  -- same-length
     (λ c. search needs)  -- same-length-2
@@ -218,17 +215,26 @@ pub +try-next+visit-spec : {M : Type 1} → statement M
     let own : Undone 2050 (s .args .facts .now) (markAt (s .args .path .now) (s .args .depth)) (u .last .0) = subst (λ (m : ℕ). Undone 2050 (s .args .facts .now) m (u .last .0)) ((c .before .before .before .before .before .before .before .before .before .before .before .before .before .before .before .before .before .before) .mark .ensures) (u .ensures) in
     let y = c .before .before .before .before .before .before .before .before .before .before .before .try-next in
     let k = c .before .before .before .before .before .walked .given in
-    let shut : AllShut w (u .last .0) (s .args .path .now) (s .args .depth) (markAt (s .args .path .now) (s .args .depth)) (s .args .count) (k .0 .0) (y .last .1 .1 .1 .0) (y .last .1 .1 .1 .1 .0) =
-    ended-as w (u .last .0) (s .args .path .now) (s .args .depth) (markAt (s .args .path .now) (s .args .depth)) (markAt (s .args .path .now) (s .args .depth)) (s .args .count) (y .result) (Shut (k .0 .0)) (y .last .1 .1 .1 .0) (y .last .1 .1 .1 .1 .0) refl (k .1) (y .ensures) in
-    let e = c .before .before .undo2 in
-    split-shut w (s .args .facts .now) (s .args .path .now) (s .args .depth) (s .args .done) (s .args .count) (omega (arith, x .1 .1, x .1 .2)) (g .0 .0) at (u .last .0) own (k .0 .0) (y .last .1 .1 .1 .0) (y .last .1 .1 .1 .1 .0) shut (e .last .0) (e .ensures))  -- returns
+    let shut : AllShut w (u .last .0) (s .args .path .now) (s .args .depth) (markAt (s .args .path .now) (s .args .depth)) (s .args .count) (s .args .limit) (k .0 .0) (y .last .1 .1 .1 .0) (y .last .1 .1 .1 .1 .0) =
+    leaves-as w (u .last .0) (s .args .path .now) (s .args .depth) (markAt (s .args .path .now) (s .args .depth)) (markAt (s .args .path .now) (s .args .depth)) (s .args .count) (s .args .limit) (y .result) (Shut (k .0 .0)) (y .last .1 .1 .1 .0) (y .last .1 .1 .1 .1 .0) refl (k .1) (y .ensures .0) in
+    let e = c .before .before .undo2 in (
+      split-shut w (s .args .facts .now) (s .args .path .now) (s .args .depth) (s .args .done) (s .args .count) (s .args .limit) (x .1) (g .0 .0) at (u .last .0) own (k .0 .0) (y .last .1 .1 .1 .0) (y .last .1 .1 .1 .1 .0) shut (e .last .0) (e .ensures),
+      λ r met here.
+          ended-as w r (s .args .path .now) (s .args .depth) (y .result) (Shut (k .0 .0)) (y .last .1 .1 .1 .0) (y .last .1 .1 .1 .1 .0) (k .1)
+          (y .ensures .1 r met (split-tries w r (s .args .facts .now) (s .args .path .now) (s .args .depth) (s .args .count) (g .0 .0) (visiting-as w r (s .args .facts .now) (s .args .path .now) (s .args .depth) (s .args .count) (s .args .found) (Split (g .0 .0)) (g .1) here))),
+    ))  -- returns
     (λ c. search needs)  -- same-length-3
     (λ c. search needs)  -- same-length-4
     (λ c.
     let s = c .before .before .before .before .before .before .before .before .before .before .before .before .before .before .before .before .before .before .before .before in
-    let y = c .before .before .before .before .before .try-next in
-    passes (relevancyWalker (s .args .table .now)) ((c .before .before .before .before .before .before .before .before .before .before) .undo .last .0) (s .args .path .now) (s .args .depth) (markAt (s .args .path .now) (s .args .depth)) (s .args .count)
-    (s .args .facts .now) (s .args .path .now) (s .args .depth) (s .args .done) (s .args .count) (y .result) (c .match2 .keys2) (y .last .1 .1 .1 .0) (y .last .1 .1 .1 .1 .0) (y .ensures))  -- returns-2
+    let w = relevancyWalker (s .args .table .now) in
+    let g = c .before .before .before .before .before .before .before .before .before .before .before .before .before .before .before .found .given in
+    let y = c .before .before .before .before .before .try-next in (
+      passes w (y .last .1 .1 .1 .0) (y .last .1 .1 .1 .1 .0) (s .args .limit) (c .before .before .before .before .before .before .before .before .before .before .undo .last .0) (s .args .path .now) (s .args .depth) (markAt (s .args .path .now) (s .args .depth)) (s .args .count)
+          (s .args .facts .now) (s .args .path .now) (s .args .depth) (s .args .done) (s .args .count) (y .result) (c .match2 .keys2) (y .ensures .0),
+      λ r met here.
+          y .ensures .1 r met (split-tries w r (s .args .facts .now) (s .args .path .now) (s .args .depth) (s .args .count) (g .0 .0) (visiting-as w r (s .args .facts .now) (s .args .path .now) (s .args .depth) (s .args .count) (s .args .found) (Split (g .0 .0)) (g .1) here)),
+    ))  -- returns-2
     (λ c. search needs)  -- enum-known-found-2
     (λ c κs.
     let s = c .before .before .before .before .before .before .before in
@@ -240,17 +246,19 @@ pub +try-next+visit-spec : {M : Type 1} → statement M
     (λ c.
     let s = c .before .before .before .before .before .before .before .before .before .before in
     let w = relevancyWalker (s .args .table .now) in
-    let x = s .pre .1 .1 .1 in
     let g = c .before .before .before .before .before .found2 .given in
-    let e = c .before .before .undo3 in
-    visit-closed w (s .args .facts .now) (s .args .path .now) (s .args .depth) (s .args .done) (s .args .count) (omega (arith, x .1 .1, x .1 .2)) (g .0 .0)
-    (visiting-as w (s .args .facts .now) (s .args .path .now) (s .args .depth) (s .args .count) (s .args .found) (Closed (g .0 .0)) (g .1) (x .1 .0)) (e .last .0) (e .ensures))  -- returns-3
+    let e = c .before .before .undo3 in (
+      visit-closed w (s .args .facts .now) (s .args .path .now) (s .args .depth) (s .args .done) (s .args .count) (s .args .limit) (s .pre .1 .1 .1 .1) (e .last .0) (e .ensures),
+      λ r met here.
+          closed-ended w r (s .args .facts .now) (s .args .path .now) (s .args .depth) (s .args .count) (g .0 .0)
+          (visiting-as w r (s .args .facts .now) (s .args .path .now) (s .args .depth) (s .args .count) (s .args .found) (Closed (g .0 .0)) (g .1) here) (e .last .0),
+    ))  -- returns-3
     (λ c. search needs)  -- enum-told
     (λ c.
     let s = c .before .before .before .before .before in
     let w = relevancyWalker (s .args .table .now) in
-    let x = s .pre .1 .1 .1 in
-    let o = found-open (s .args .found) ((c .before) .match .keys3) in
-    visit-open w (s .args .facts .now) (s .args .path .now) (s .args .depth) (s .args .done) (s .args .count) (omega (arith, x .1 .1, x .1 .2)) (o .0)
-    (reached-as w (s .args .facts .now) (s .args .path .now) (s .args .depth) (s .args .done) (s .args .found) (Open (o .0)) (o .1) (x .0))
-    (visiting-as w (s .args .facts .now) (s .args .path .now) (s .args .depth) (s .args .count) (s .args .found) (Open (o .0)) (o .1) (x .1 .0))))  -- returns-4
+    let o = found-open (s .args .found) ((c .before) .match .keys3) in (
+      visit-open w (s .args .facts .now) (s .args .path .now) (s .args .depth) (s .args .done) (s .args .count) (s .args .limit) (s .pre .1 .1 .1 .1) (o .0)
+          (reached-as w (s .args .facts .now) (s .args .path .now) (s .args .depth) (s .args .done) (s .args .found) (Open (o .0)) (o .1) (s .pre .1 .1 .1 .0)),
+      λ r met here. visiting-as w r (s .args .facts .now) (s .args .path .now) (s .args .depth) (s .args .count) (s .args .found) (Open (o .0)) (o .1) here,
+    )))  -- returns-4

@@ -1,11 +1,9 @@
 -- `relevancy_walk::trail::whole_walk` meets its contract.
 use Prim.Native.Nat.{ℕ}
-use mathlib.Core.Path.{_∙_}
 use native.Mathlib.Omega.{arith}
 use lib.ListN.{length, length-replicate}
 use borrow.Author.Needs.{needs}
-use Rattle.ground.proofs.AtomLaws.{table-size}
-use Rattle.ground.proofs.VerdictLaws.{limit-of}
+use Rattle.walk.specs.contracts.Walker.{fromRoot}
 use Rattle.walk.proofs.WalkLaws.{blank-store, walks-tell}
 use Rattle.relevancy_walk.specs.contracts.Place.{relevancyWalker}
 use Rattle.relevancy_walk.proofs.trail.whole_walk.Statement.{statement}
@@ -18,19 +16,19 @@ whole-walk-spec =
     (λ c κs. search needs)  -- build-requires
     (λ c κs. search needs)  -- build-requires-2
     (λ c κs. search needs)  -- zero-requires
-    (λ c κs. let s = c .before .before .before .before .before .before .before .before in table-size (s .args .table .now) (s .pre .0))  -- limit-in-requires
     (λ c. search needs)  -- slice-aggregate-from-root
     (λ c κs.
-    let s = c .before .before .before .before .before .before .before .before .before .before .before .before .before in
-    let z = c .before .before .before .before .before .before .before .zero in
-    let l = c .before .before .before .before .limit-in in (
+    let s = c .before .before .before .before .before .before .before .before .before .before .before .before in
+    let z = c .before .before .before .before .before .before .zero in (
       s .pre .0,
       (
-        ((c .before .before .before .before .before .before .before .before .before .before) .build .ensures, (c .before .before .before .before .before .before .before .before .before) .build2 .ensures),
-        (blank-store 2050 (z .last .0) (length (s .args .facts .now)) (s .pre .1) (z .ensures), record { size = length-replicate {A = ℕ} 9225 0; deep = omega arith }, l .ensures ∙ limit-of (s .args .table .now)),
+        (c .before .before .before .before .before .before .before .before .before .build .ensures, c .before .before .before .before .before .before .before .before .build2 .ensures),
+        (blank-store 2050 (z .last .0) (length (s .args .facts .now)) (s .pre .1) (z .ensures), record { size = length-replicate {A = ℕ} 9225 0; deep = omega arith }),
       ),
     ))  -- from-root-requires
     (λ c. search needs)  -- same-length
     (λ c.
+    let s = c .before .before .before .before .before .before .before .before .before .before .before .before .before .before .before .before in
+    let w = relevancyWalker (s .args .table .now) in
     let f = c .before .before .before .from-root in
-    record { path = f .last .1 .1 .1 .1 .0; walks = f .ensures; tells = walks-tell (relevancyWalker ((c .before .before .before .before .before .before .before .before .before .before .before .before .before .before .before .before .before) .args .table .now)) (f .result) (f .last .1 .1 .1 .0) (f .last .1 .1 .1 .1 .0) (f .ensures) }))  -- returns
+    record { path = f .last .1 .1 .1 .1 .0; walks = f .ensures; tells = walks-tell w (fromRoot w (s .args .limit)) (f .result) (f .last .1 .1 .1 .0) (f .last .1 .1 .1 .1 .0) (f .ensures) }))  -- returns
