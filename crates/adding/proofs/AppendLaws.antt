@@ -15,7 +15,7 @@ use Rattle.problem.specs.Extended.{withClause}
 use Rattle.problem.proofs.TableLayout.{noClause, layout-length, clauseRecord-length, clauseRecords-length, clause-byte}
 use Rattle.problem.proofs.Access.{weights-take, clauses-in, conditions-in, instances-in}
 use Rattle.adding.specs.contracts.Appended.{Appended}
-use Rattle.adding.proofs.Regions.{front, parts, parts-clause}
+use Rattle.problem.proofs.Regions.{front, parts, parts-clause}
 
 -- ---- what the clauses weigh
 

@@ -9,5 +9,6 @@ pub mod Accepted
 pub mod Refusals
 pub mod Next
 pub mod Access
+pub mod Regions
 pub mod Cases
 pub mod Theorems
