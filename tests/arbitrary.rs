@@ -3,7 +3,8 @@
 
 use crate::mangle::mangle;
 use crate::random::Random;
-use crate::reference::{self, Ticket, ANSWER, TABLE};
+use crate::reference::{self, clause_frame, Ticket, ANSWER, SLIP, TABLE};
+use crate::slip::{filled, ROOM};
 use crate::tickets;
 use crate::walk::{walk, Relevancy, Verdict};
 
@@ -97,6 +98,61 @@ pub fn answer(random: &mut Random, answer: &[u8]) -> Vec<u8> {
         _ => random.fill(&mut answer),
     }
     answer
+}
+
+/// A clause frame for this ticket, at times for another: whole, with something changed, lengthened, cut off; or any bytes.
+pub fn frame(random: &mut Random, ticket: Option<&Ticket>) -> Vec<u8> {
+    let own = ticket.filter(|_| !random.once_in(16)).cloned();
+    let drawn = own.unwrap_or_else(|| self::ticket(random));
+    let mut frame = clause_frame(&tickets::next_clause(random, &drawn));
+    match random.below(16) {
+        0..=7 => {}
+        8..=10 => change_byte(random, &mut frame),
+        11 => frame.truncate(random.below(frame.len() + 1)),
+        12..=13 => lengthen(random, &mut frame),
+        14 => {
+            change_byte(random, &mut frame);
+            lengthen(random, &mut frame);
+        }
+        _ => {
+            let len = random.below(300);
+            frame = bytes(random, len);
+        }
+    }
+    frame
+}
+
+/// A byte set to one at which some rule turns.
+fn change_byte(random: &mut Random, frame: &mut [u8]) {
+    let at = random.below(frame.len());
+    frame[at] = random.pick(&[0x00, 0x01, 0x03, 0x04, 0x05, 0x1F, 0x20, 0x7F, 0x80, 0x81, 0x82, 0x83, 0x81, 0x82, 0x83, 0x84, 0xFF]);
+}
+
+/// Bytes after a frame: a few, or up to a length at which a line or a byte ends; more of them at times.
+pub fn lengthen(random: &mut Random, frame: &mut Vec<u8>) {
+    let few = frame.len() + random.within(1, 3);
+    let len = random.pick(&[few, few, 35, 36, 37, 70, 255, 256, 257, 1000]).max(few);
+    while frame.len() < len {
+        frame.push(random.pick(&[0x00, 0x00, 0x03, 0x80, 0xFF]));
+    }
+}
+
+/// A slip like this one but for something changed, or one for this ticket that nobody has offered; or any bytes.
+pub fn slip(random: &mut Random, slip: &[u8], ticket: Option<&Ticket>) -> Vec<u8> {
+    let mut slip = slip.to_vec();
+    let at = random.below(SLIP);
+    match random.below(8) {
+        0 => slip[0] = slip[0].wrapping_add(random.pick(&[1, 255])),
+        1 => slip[1] = random.pick(&[0, 1, 3, 34, 35, 36, 37, 64, 128, 255]),
+        2 => slip[at] = random.byte(),
+        3..=6 => {
+            let mut frame = frame(random, ticket);
+            frame.truncate(ROOM);
+            slip = filled(ticket.map_or(0, |ticket| ticket.clauses.len() as u8), &frame);
+        }
+        _ => slip = bytes(random, SLIP),
+    }
+    slip
 }
 
 /// An instance by its clause and four values, mostly one of the ticket's; or numbers near the first that it lacks, or far.

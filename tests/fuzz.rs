@@ -1,6 +1,6 @@
 //! Bad days of a host. On each, calls of every operation go over the same buffers, with arbitrary bytes in them and with lengths at and
 //! around the required ones: the answer and every byte, in the buffers and on either side of them, must be as the implementation that is
-//! written from document 01 has it. Usage: fuzz [SECONDS [SEED]]. A day is drawn by its seed, the next day by the next one; where no seed
+//! written from documents 01 and 02 has it. Usage: fuzz [SECONDS [SEED]]. A day is drawn by its seed, the next day by the next one; where no seed
 //! is given, the clock gives the first. A failure names its day's seed, with which `fuzz 5 SEED` begins.
 mod arbitrary;
 mod library;
@@ -15,6 +15,7 @@ mod reference;
 mod report;
 #[allow(dead_code)] // rules are compared by their bytes, and not read back
 mod rules;
+mod slip;
 mod tickets;
 mod walk;
 
@@ -83,10 +84,10 @@ fn days(first: u64, end: Instant) -> Result<Met, Report> {
     Ok(met)
 }
 
-/// What a host's buffers hold, from call to call: each as much as is required, the text as much as it has, and MORE bytes.
+/// What a host's buffers hold, from call to call: each as much as is required, text and frame as much as they have, and MORE bytes.
 struct Day {
     random: Random,
-    held: [Vec<u8>; 6],
+    held: [Vec<u8>; 8],
 }
 
 impl Day {
@@ -96,23 +97,29 @@ impl Day {
         Day { random, held }
     }
 
-    /// Each call goes by what the calls before have left, but a reading by another text, and now and then something else is in a buffer.
+    /// Each call goes by what the calls before have left, but a reading by another text, an offer mostly by another frame, and a setting by another
+    /// slip at times; now and then something else is in a buffer.
     fn spend(&mut self, met: &mut Met) -> Result<(), Report> {
         for i in 0..CALLS_A_DAY {
             let operation = if i == 0 { Read } else { self.random.pick(&OPERATIONS) };
-            if operation == Read {
-                self.put(Text);
-            } else if self.random.once_in(3) {
-                let buffer = self.random.pick(operation.buffers());
-                self.put(buffer);
+            match operation {
+                Read => self.put(Text),
+                Offer if self.random.below(4) > 0 => self.put(Frame),
+                Set if self.random.once_in(2) => self.put(Slip),
+                _ if self.random.once_in(3) => {
+                    let buffer = self.random.pick(operation.buffers());
+                    self.put(buffer);
+                }
+                _ => {}
             }
             self.call(operation, met)?;
         }
         Ok(())
     }
 
-    /// Something else in a buffer, and any bytes past what is required, or past the text.
+    /// Something else in a buffer, and any bytes past what is required, or past the text or the frame.
     fn put(&mut self, buffer: Buffer) {
+        let ticket = if matches!(buffer, Frame | Slip) { reference::ticket_in(&self.held[Table as usize][..TABLE]) } else { None };
         let (random, held) = (&mut self.random, &mut self.held[buffer as usize]);
         held.truncate(held.len() - MORE);
         *held = match buffer {
@@ -120,6 +127,8 @@ impl Day {
             Text => arbitrary::text(random),
             Table => arbitrary::table(random, held),
             Answer => arbitrary::answer(random, held),
+            Frame => arbitrary::frame(random, ticket.as_ref()),
+            Slip => arbitrary::slip(random, held, ticket.as_ref()),
             _ => arbitrary::bytes(random, held.len()),
         };
         held.extend(arbitrary::bytes(random, MORE));
@@ -149,7 +158,7 @@ impl Day {
         }
     }
 
-    /// The operation's buffers; mostly they are long enough, and the text is whole.
+    /// The operation's buffers; mostly they are long enough, and text and frame are whole.
     fn lend(&mut self, operation: Operation, met: &mut Met) -> Lent {
         let near = self.random.once_in(3);
         let ticket = if operation == Holding { reference::ticket_in(&self.held[Table as usize][..TABLE]) } else { None };
@@ -163,7 +172,7 @@ impl Day {
                 met.length(operation, buffer, which);
             }
             match buffer {
-                Text => Memory::holding(&mut self.random, &held[..len]),
+                Text | Frame => Memory::holding(&mut self.random, &held[..len]),
                 _ => Memory::random(&mut self.random, len).beginning_with(&held[..len]),
             }
         });
@@ -183,7 +192,7 @@ fn length(required: usize, which: usize) -> usize {
 fn any_length(random: &mut Random, buffer: Buffer, near: bool) -> usize {
     match buffer {
         _ if near => random.below(LENGTHS.len()),
-        Text => AS_REQUIRED,
+        Text | Frame => AS_REQUIRED,
         _ => random.within(AS_REQUIRED, LENGTHS.len() - 1),
     }
 }
@@ -254,6 +263,8 @@ fn named(refusal: u8) -> String {
 fn refusals_of(operation: Operation) -> &'static [u8] {
     match operation {
         Read => &[1, 2, 3, 4, 5, 6, 7, 8, 9, 10, 11],
+        Offer => &[2, 3, 5, 6, 7, 8, 10, 11, 31],
+        Set => &[2, 3, 5, 6, 7, 8, 10, 11, 31, 43],
         Judge => &[11, 31, 32],
         Holding => &[11, 31, 32, 44],
         _ => &[11, 31],

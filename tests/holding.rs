@@ -9,6 +9,7 @@ mod memory;
 mod random;
 mod reference;
 mod report;
+mod slip;
 mod threads;
 mod tickets;
 mod walk;

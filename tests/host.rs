@@ -2,7 +2,7 @@
 #![allow(dead_code)] // each program uses its own part
 
 use crate::library;
-use crate::reference::{ANSWER, RULES, TABLE, TEXT_OUT, WORK};
+use crate::reference::{ANSWER, RULES, SLIP, TABLE, TEXT_OUT, WORK};
 
 #[derive(Clone)]
 pub struct Host {
@@ -11,6 +11,7 @@ pub struct Host {
     pub rules: Vec<u8>,
     pub answer: Vec<u8>,
     pub work: Vec<u8>,
+    pub slip: Vec<u8>,
 }
 
 /// The engines by name.
@@ -19,7 +20,8 @@ pub const ENGINES: [(&str, fn(&mut Host) -> u64); 2] = [("relevancy", Host::fit_
 impl Host {
     pub fn new() -> Host {
         let buffer = |len: usize| vec![0xEE; len];
-        Host { table: buffer(TABLE), out: buffer(TEXT_OUT), rules: buffer(RULES), answer: buffer(ANSWER), work: buffer(WORK) }
+        let (table, out, rules) = (buffer(TABLE), buffer(TEXT_OUT), buffer(RULES));
+        Host { table, out, rules, answer: buffer(ANSWER), work: buffer(WORK), slip: buffer(SLIP) }
     }
 
     pub fn read(&mut self, text: &[u8]) -> u64 {
@@ -28,6 +30,14 @@ impl Host {
 
     pub fn write(&mut self) -> u64 {
         library::write(&self.table, &mut self.out)
+    }
+
+    pub fn offer(&mut self, frame: &[u8]) -> u64 {
+        library::offer(&self.table, frame, &mut self.slip)
+    }
+
+    pub fn set(&mut self) -> u64 {
+        library::set(&mut self.table, &self.slip)
     }
 
     pub fn rewrite(&mut self) -> u64 {

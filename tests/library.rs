@@ -4,6 +4,8 @@
 extern "C" {
     fn lutsamik_read(text: *const u8, text_len: usize, table: *mut u8, table_len: usize) -> u64;
     fn lutsamik_write(table: *const u8, table_len: usize, out: *mut u8, out_len: usize) -> u64;
+    fn lutsamik_offer(table: *const u8, table_len: usize, frame: *const u8, frame_len: usize, slip: *mut u8, slip_len: usize) -> u64;
+    fn lutsamik_set(table: *mut u8, table_len: usize, slip: *const u8, slip_len: usize) -> u64;
     fn lutsamik_judge(table: *const u8, table_len: usize, answer: *const u8, answer_len: usize) -> u64;
     fn lutsamik_holding(table: *const u8, table_len: usize, answer: *const u8, answer_len: usize, clause: u32, a: u32, b: u32, c: u32, d: u32)
         -> u64;
@@ -30,6 +32,14 @@ pub fn write(table: &[u8], out: &mut [u8]) -> u64 {
     unsafe { lutsamik_write(table.as_ptr(), table.len(), out.as_mut_ptr(), out.len()) }
 }
 
+pub fn offer(table: &[u8], frame: &[u8], slip: &mut [u8]) -> u64 {
+    unsafe { lutsamik_offer(table.as_ptr(), table.len(), frame.as_ptr(), frame.len(), slip.as_mut_ptr(), slip.len()) }
+}
+
+pub fn set(table: &mut [u8], slip: &[u8]) -> u64 {
+    unsafe { lutsamik_set(table.as_mut_ptr(), table.len(), slip.as_ptr(), slip.len()) }
+}
+
 pub fn judge(table: &[u8], answer: &[u8]) -> u64 {
     unsafe { lutsamik_judge(table.as_ptr(), table.len(), answer.as_ptr(), answer.len()) }
 }
@@ -54,7 +64,7 @@ pub fn fit_magic(table: &[u8], rules: &mut [u8], answer: &mut [u8], work: &mut [
     unsafe { lutsamik_fit_magic(table.as_ptr(), table.len(), rules, rules_len, answer, answer_len, work.as_mut_ptr(), work.len()) }
 }
 
-/// An answer of reading, writing, rewriting or holding: the refusal number (0: none) in bits 0 to 7, the line, the length, the number
+/// An answer of reading, writing, offering, setting, rewriting or holding: the refusal number (0: none) in bits 0 to 7, the line, the length, the number
 /// of rules or of conditions in bits 32 to 63.
 pub fn packed(number: u8, high: u32) -> u64 {
     number as u64 | (high as u64) << 32

@@ -1,8 +1,8 @@
-//! The library's seven operations: which buffers each is lent, and a call of which every lent byte is compared.
+//! The library's nine operations: which buffers each is lent, and a call of which every lent byte is compared.
 
 use crate::library;
 use crate::memory::{same_bytes, Memory};
-use crate::reference::{ANSWER, RULES, TABLE, TEXT_OUT, WORK};
+use crate::reference::{ANSWER, RULES, SLIP, TABLE, TEXT_OUT, WORK};
 use crate::report::{dump, same_answer, Report};
 use std::ops::{Index, IndexMut};
 use Buffer::*;
@@ -11,6 +11,8 @@ use Buffer::*;
 pub enum Operation {
     Read,
     Write,
+    Offer,
+    Set,
     Rewrite,
     FitRelevancy,
     FitMagic,
@@ -18,9 +20,11 @@ pub enum Operation {
     Holding,
 }
 
-pub const OPERATIONS: [Operation; 7] = [
+pub const OPERATIONS: [Operation; 9] = [
     Operation::Read,
     Operation::Write,
+    Operation::Offer,
+    Operation::Set,
     Operation::Rewrite,
     Operation::FitRelevancy,
     Operation::FitMagic,
@@ -36,14 +40,16 @@ pub enum Buffer {
     Rules,
     Answer,
     Work,
+    Frame,
+    Slip,
 }
 
-pub const BUFFERS: [Buffer; 6] = [Text, Table, TextOut, Rules, Answer, Work];
+pub const BUFFERS: [Buffer; 8] = [Text, Table, TextOut, Rules, Answer, Work, Frame, Slip];
 
 impl Buffer {
-    /// The bytes that it must have at least. A text may have any length.
+    /// The bytes that it must have at least. A text and a frame may have any length.
     pub fn required(self) -> usize {
-        [0, TABLE, TEXT_OUT, RULES, ANSWER, WORK][self as usize]
+        [0, TABLE, TEXT_OUT, RULES, ANSWER, WORK, 0, SLIP][self as usize]
     }
 }
 
@@ -52,6 +58,8 @@ impl Operation {
         match self {
             Operation::Read => &[Text, Table],
             Operation::Write => &[Table, TextOut],
+            Operation::Offer => &[Table, Frame, Slip],
+            Operation::Set => &[Table, Slip],
             Operation::Rewrite => &[Table, Rules],
             Operation::FitRelevancy => &[Table, Answer, Work],
             Operation::FitMagic => &[Table, Rules, Answer, Work],
@@ -64,7 +72,7 @@ impl Operation {
 /// 80, 81, 82, 83, which is for holding alone.
 #[derive(Clone)]
 pub struct Lent {
-    pub buffers: [Memory; 6],
+    pub buffers: [Memory; 8],
     pub clause: u32,
     pub values: [u32; 4],
 }
@@ -90,10 +98,12 @@ impl Lent {
 
     /// The library's answer, and what it leaves in the buffers.
     fn call(&mut self, operation: Operation) -> u64 {
-        let [text, table, out, rules, answer, work] = &mut self.buffers;
+        let [text, table, out, rules, answer, work, frame, slip] = &mut self.buffers;
         match operation {
             Operation::Read => library::read(text.lent(), table.lent_mut()),
             Operation::Write => library::write(table.lent(), out.lent_mut()),
+            Operation::Offer => library::offer(table.lent(), frame.lent(), slip.lent_mut()),
+            Operation::Set => library::set(table.lent_mut(), slip.lent()),
             Operation::Rewrite => library::rewrite(table.lent(), rules.lent_mut()),
             Operation::FitRelevancy => library::fit_relevancy(table.lent(), answer.lent_mut(), work.lent_mut()),
             Operation::FitMagic => library::fit_magic(table.lent(), rules.lent_mut(), answer.lent_mut(), work.lent_mut()),
@@ -117,6 +127,8 @@ impl Lent {
         let lens: Vec<String> = operation.buffers().iter().map(|buffer| format!("{buffer:?} of {}", self[*buffer].lent().len())).collect();
         let source = match operation {
             Operation::Read => format!("{}\n", self[Text].lent().escape_ascii()),
+            Operation::Offer => format!("frame {:02X?}\n{}", self[Frame].lent(), dump(self[Table].lent())),
+            Operation::Set => format!("slip {:02X?}\n{}", self[Slip].lent(), dump(self[Table].lent())),
             Operation::Holding => format!("clause {} with {:?}\n{}", self.clause, self.values, dump(self[Table].lent())),
             _ => dump(self[Table].lent()),
         };

@@ -1,11 +1,12 @@
-//! What each operation must answer and leave in every lent byte, by the implementation that is written from document 01.
+//! What each operation must answer and leave in every lent byte, by the implementation that is written from documents 01 and 02.
 
 use crate::library::{fit, packed, violated, FITTING};
 use crate::logic::{self, Judging};
 use crate::magic::{rewritten, Magic};
 use crate::operations::{Buffer, Lent, Operation};
-use crate::reference::{self, Ticket, NO_TABLE, SHORT_BUFFER, TABLE, WORK};
+use crate::reference::{self, Ticket, NO_TABLE, SHORT_BUFFER, SLIP, TABLE, WORK};
 use crate::rules;
+use crate::slip;
 use crate::walk::{walk, Engine, Relevancy};
 
 /// The answer, and what is left in the buffers.
@@ -42,6 +43,8 @@ fn of_ticket(operation: Operation, ticket: &Ticket, lent: &mut Lent) -> u64 {
             begin(lent, Buffer::TextOut, &text);
             packed(0, text.len() as u32)
         }
+        Operation::Offer => offer(ticket, lent),
+        Operation::Set => set(ticket, lent),
         Operation::Rewrite => packed(0, rewrite(ticket, lent)),
         Operation::FitMagic => {
             rewrite(ticket, lent);
@@ -50,6 +53,26 @@ fn of_ticket(operation: Operation, ticket: &Ticket, lent: &mut Lent) -> u64 {
         Operation::FitRelevancy => fit_by(&Relevancy::new(ticket), ticket, lent),
         Operation::Holding => holding(ticket, lent),
         _ => judge(ticket, lent),
+    }
+}
+
+fn offer(ticket: &Ticket, lent: &mut Lent) -> u64 {
+    match slip::offer(TABLE, SLIP, Some(ticket), lent[Buffer::Frame].lent()) {
+        Ok(slip) => {
+            begin(lent, Buffer::Slip, &slip);
+            packed(0, 0)
+        }
+        Err(why) => packed(why.number(), 0),
+    }
+}
+
+fn set(ticket: &Ticket, lent: &mut Lent) -> u64 {
+    match slip::set(TABLE, Some(ticket), lent[Buffer::Slip].lent()) {
+        Ok(longer) => {
+            begin(lent, Buffer::Table, &reference::encode(&longer));
+            packed(0, 0)
+        }
+        Err(why) => packed(why.number(), 0),
     }
 }
 

@@ -7,6 +7,7 @@ pub const RULES: usize = 16384;
 pub const ANSWER: usize = 1024;
 pub const WORK: usize = 65536;
 pub const TEXT_OUT: usize = 7168;
+pub const SLIP: usize = 37;
 
 pub const BAD_LINE: u8 = 1;
 pub const BAD_KIND: u8 = 2;
@@ -21,11 +22,12 @@ pub const TOO_MANY_MARKS: u8 = 10;
 pub const SHORT_BUFFER: u8 = 11;
 pub const NO_TABLE: u8 = 31;
 pub const BAD_ANSWER: u8 = 32;
+pub const STALE_SLIP: u8 = 43;
 pub const NO_INSTANCE: u8 = 44;
 
 const MOST_ATOMS: u64 = 1024;
-const MOST_MARKS: u64 = 16384;
-const MOST_CLAUSES: usize = 64;
+pub const MOST_MARKS: u64 = 16384;
+pub const MOST_CLAUSES: usize = 64;
 const MOST_PREDICATES: usize = 32;
 
 #[derive(Clone, Debug, PartialEq, Eq)]
@@ -296,16 +298,19 @@ fn end(ticket: &Ticket, mut rest: Rest) -> Result<(), u8> {
 pub fn print(ticket: &Ticket) -> Vec<u8> {
     let mut frames = vec![[&[0x01, 0x01, ticket.constants, ticket.arities.len() as u8], &ticket.limit[..]].concat()];
     frames.extend(ticket.arities.iter().map(|arity| vec![0x02, *arity]));
-    for clause in &ticket.clauses {
-        let mut frame = vec![0x03, clause.conditions.len() as u8, clause.alternatives.len() as u8];
-        for atom in clause.conditions.iter().chain(&clause.alternatives) {
-            frame.push(atom.predicate);
-            frame.extend(&atom.arguments);
-        }
-        frames.push(frame);
-    }
+    frames.extend(ticket.clauses.iter().map(clause_frame));
     frames.push(vec![0xFF, ticket.clauses.len() as u8]);
     frames.iter().flat_map(|frame| line(frame)).collect()
+}
+
+/// The bytes of a clause line.
+pub fn clause_frame(clause: &Clause) -> Vec<u8> {
+    let mut frame = vec![0x03, clause.conditions.len() as u8, clause.alternatives.len() as u8];
+    for atom in clause.conditions.iter().chain(&clause.alternatives) {
+        frame.push(atom.predicate);
+        frame.extend(&atom.arguments);
+    }
+    frame
 }
 
 /// A frame as a line of text.

@@ -11,6 +11,7 @@ mod mangle;
 mod random;
 mod reference;
 mod report;
+mod slip;
 mod tickets;
 mod walk;
 
@@ -18,7 +19,7 @@ use footprint::Footprint;
 use host::{Host, ENGINES};
 use library::{fit, packed, FITTING};
 use random::Random;
-use reference::Ticket;
+use reference::{Ticket, STALE_SLIP};
 use report::{same, same_answer, Report};
 use walk::{walk, Relevancy, Verdict};
 
@@ -61,10 +62,14 @@ struct Job {
     accepted: Option<Answers>,
 }
 
+/// The text with the rule that is offered and set is `longer`, where offering does not refuse it.
 struct Answers {
     rewrite: u64,
     fit: u64,
     verdict: Verdict,
+    rule: Vec<u8>,
+    offer: u64,
+    longer: Vec<u8>,
 }
 
 /// The first has the longest path there is, and so needs the most stack.
@@ -90,8 +95,12 @@ impl Job {
     fn of_ticket(ticket: &Ticket) -> Job {
         let outcome = walk(&Relevancy::new(ticket), u32::from_be_bytes(ticket.limit), &mut |_, _| {});
         let rules: usize = magic::rewritten(ticket).iter().map(Vec::len).sum();
-        let answers = Answers { rewrite: packed(0, rules as u32), fit: fit(outcome.verdict as u8, outcome.count), verdict: outcome.verdict };
-        Job { text: reference::print(ticket), read: packed(0, 0), accepted: Some(answers) }
+        let (rewrite, fit, verdict) = (packed(0, rules as u32), fit(outcome.verdict as u8, outcome.count), outcome.verdict);
+        let text = reference::print(ticket);
+        let rule = ticket.clauses.first().map_or(vec![slip::CLAUSE, 0, 0], reference::clause_frame);
+        let offer = packed(slip::next_clause(ticket, &rule).map_or_else(slip::Why::number, |_| 0), 0);
+        let answers = Answers { rewrite, fit, verdict, longer: slip::text_with(&text, &rule), rule, offer };
+        Job { text, read: packed(0, 0), accepted: Some(answers) }
     }
 }
 
@@ -121,7 +130,19 @@ impl Soak {
                 self.call(job, FITTING, Host::judge)?;
             }
         }
-        Ok(())
+        self.add(job, answers)
+    }
+
+    /// Offers the rule, and sets it where it can be added: twice it cannot.
+    fn add(&mut self, job: &Job, answers: &Answers) -> Result<(), Report> {
+        self.call(job, answers.offer, |host| host.offer(&answers.rule))?;
+        if answers.offer != 0 {
+            return Ok(());
+        }
+        self.call(job, packed(0, 0), Host::set)?;
+        self.call(job, packed(STALE_SLIP, 0), Host::set)?;
+        self.call(job, packed(0, answers.longer.len() as u32), Host::write)?;
+        same("the longer text", &answers.longer[..], &self.host.out[..answers.longer.len()])
     }
 
     fn call(&mut self, job: &Job, expected: u64, operation: impl Fn(&mut Host) -> u64) -> Result<(), Report> {

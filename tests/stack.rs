@@ -64,6 +64,12 @@ fn without_a_walk(ticket: &Ticket, stack: usize) -> Result<(), Report> {
     let last = ticket.clauses.len() as u32 - 1;
     let holding = used("holding", packed(0, 0), stack, MOST, || host.holding(last, [0; 4]))?;
     println!("stack: reading uses {reading} bytes, writing {writing}, rewriting {rewriting}, judging {judging}, holding {holding}");
+    let shorter = Ticket { clauses: Vec::new(), ..ticket.clone() };
+    host.table = reference::encode(&shorter);
+    let rule = reference::clause_frame(&ticket.clauses[0]);
+    let offering = used("offering", packed(0, 0), stack, MOST, || host.offer(&rule))?;
+    let setting = used("setting", packed(0, 0), stack, MOST, || host.set())?;
+    println!("stack: offering uses {offering} bytes, setting {setting}");
     Ok(())
 }
 

@@ -233,6 +233,16 @@ fn fitting_clause(random: &mut Random, ticket: &Ticket, left: u64) -> Clause {
     clause(random, ticket, 0, 0, 0)
 }
 
+/// A clause of any size for a ticket; one in twelve has a variable that stands in no condition, where it has an argument for that.
+pub fn next_clause(random: &mut Random, ticket: &Ticket) -> Clause {
+    let (n, m, variables) = (random.below(5), random.below(5), random.below(5) as u8);
+    let mut next = clause(random, ticket, n, m, variables);
+    if random.once_in(12) {
+        free_a_variable(&mut next);
+    }
+    next
+}
+
 /// Adds a clause of n conditions, m alternatives and at most this many variables, with constants below `constants`;
 /// none where it would pass the limit of 16,384.
 pub fn add_clause(random: &mut Random, ticket: &mut Ticket, (n, m, most_variables): (usize, usize, u8), constants: u8) {
