@@ -1,8 +1,9 @@
 -- Laws of how far an instance holds: which clauses and values name one, each way out of the call, and what the number says.
 use Prim.Native.Nat.{ℕ, zero, suc, _+_, _*_, _%_, _≤_, _<_}
-use mathlib.Core.Bool.{Bool, true, false, not}
+use mathlib.Core.Bool.{Bool, true, false, not, cond, _||_}
 use mathlib.Core.List.{List, [], _∷_, map}
 use mathlib.Core.Logic.{_↔_}
+use mathlib.Core.Option.{Option, none, some}
 use mathlib.Core.Path.{_≡_, refl, sym, ap, subst, _∙_}
 use native.Mathlib.Omega.{arith}
 use borrow.Author.Tests.{lt-ltb, le-ltb, ltb-true}
@@ -10,21 +11,24 @@ use lib.Dec.{T, ltb}
 use lib.ListN.{length, take, getD, length-map}
 use lib.Seq.{length-take-le}
 use Rattle.lists.specs.Bytes.{isSet}
-use Rattle.lists.specs.Member.{All, Any, every, lead}
+use Rattle.lists.specs.Member.{All, Any, every, first, lead}
 use Rattle.lists.specs.Test.{and-T, T-left, T-right}
 use Rattle.lists.proofs.Bytes.{all-at}
 use Rattle.lists.proofs.Member.{all-map, every-all, all-every, lead-le, lead-all, all-lead, lead-holds, lead-stops}
-use Rattle.lists.proofs.Test.{T-true}
-use Rattle.problem.specs.Problem.{Problem, Fits, ClauseFits}
+use Rattle.lists.proofs.Test.{T-true, T-false, fails}
+use Rattle.problem.specs.Problem.{Problem, Fits, ClauseFits, atomCount}
 use Rattle.problem.specs.Layout.{problemIn}
-use Rattle.problem.specs.Table.{Lawful}
+use Rattle.problem.specs.Table.{Lawful, isValid}
 use Rattle.problem.proofs.Access.{clauses-in}
 use Rattle.ground.specs.Instance.{Instance, InstanceOf, number, noClause, clauseOf, groundAtoms, groundOf}
 use Rattle.ground.specs.contracts.Placed.{Placed}
 use Rattle.ground.proofs.Order.{instances-all}
 use Rattle.ground.proofs.Turns.{ClauseKnown, clause-known, numbers-take}
+use Rattle.judging.specs.declared.judge.Judging.{Judging}
+use Rattle.judging.specs.declared.judge.Judging.the-variants.{Unjudged}
+use Rattle.judging.specs.declared.how_far.Holding.{Holding}
 use Rattle.judging.specs.declared.how_far.Holding.the-variants.{Unheld, Held}
-use Rattle.judging.specs.ModelCheck.{violates}
+use Rattle.judging.specs.ModelCheck.{violates, named, checkOf, judgeResult}
 use Rattle.judging.specs.Holding.{holdingOf, instanceNamed, isNamed, holdingNamed, holdingResult}
 use Rattle.judging.proofs.CheckLaws.{violated-from, violated-to}
 
@@ -170,3 +174,57 @@ module _ (q : Problem) (answer : List ℕ) (i : Instance) where
 
   pub gives-out : holdingOf q answer i < length ((groundOf q) .conds i) → T (not (isSet answer (getD ((groundOf q) .conds i) (holdingOf q answer i) 0)))
   gives-out = lead-stops (isSet answer) ((groundOf q) .conds i)
+
+-- ---- the call is refused as judging is
+
+unjudged-number : (m n : ℕ) → _≡_ {A = Judging} (Unjudged m) (Unjudged n) → m ≡ n
+unjudged-number m n e = cc
+
+-- what judging names is no refusal
+named-judges : (o : Option Instance) (e : ℕ) → named o ≡ Unjudged e → ⊥
+named-judges none e p = let z : _≡_ {A = ℕ} 0 1 = cc in omega arith
+named-judges (some i) e p = let z : _≡_ {A = ℕ} 0 1 = cc in omega arith
+
+module _ (tb answer : List ℕ) (k a b c d : ℕ) where
+  abbrev lent : Problem
+  lent = problemIn (take 4096 tb)
+
+  abbrev asks : Holding
+  asks = holdingNamed lent answer k (a ∷ b ∷ c ∷ d ∷ [])
+
+  -- by the three tests: too short, valid, and bits
+  tests-refuse : (short valid bits : Bool) (judged : Judging) (e : ℕ) → (judged ≡ Unjudged e → ⊥)
+      → cond short (Unjudged 11) (cond valid (cond bits judged (Unjudged 32)) (Unjudged 31)) ≡ Unjudged e
+      → cond short (Unheld 11) (cond valid (cond bits asks (Unheld 32)) (Unheld 31)) ≡ Unheld e
+  tests-refuse true valid bits judged e other p = ap Unheld (unjudged-number 11 e p)
+  tests-refuse false false bits judged e other p = ap Unheld (unjudged-number 31 e p)
+  tests-refuse false true false judged e other p = ap Unheld (unjudged-number 32 e p)
+  tests-refuse false true true judged e other p = absurd (other p)
+
+  tests-ask : (short valid bits : Bool) (judged : Judging)
+      → ((e : ℕ) → cond short (Unjudged 11) (cond valid (cond bits judged (Unjudged 32)) (Unjudged 31)) ≡ Unjudged e → ⊥)
+      → cond short (Unheld 11) (cond valid (cond bits asks (Unheld 32)) (Unheld 31)) ≡ asks
+  tests-ask true valid bits judged taken = absurd (taken 11 refl)
+  tests-ask false false bits judged taken = absurd (taken 31 refl)
+  tests-ask false true false judged taken = absurd (taken 32 refl)
+  tests-ask false true true judged taken = refl
+
+  abbrev areBits : Bool
+  areBits = every (λ n. ltb n 2) (take (atomCount (lent .constants) (lent .arities)) answer)
+
+  pub refused-as-judged : (e : ℕ) → judgeResult tb answer ≡ Unjudged e → holdingResult tb answer k a b c d ≡ Unheld e
+  unfolding judgeResult holdingResult checkOf
+  refused-as-judged e =
+      tests-refuse (ltb (length tb) 4096 || ltb (length answer) 1024) (isValid (take 4096 tb)) areBits (checkOf lent answer) e
+      (named-judges (first (violates lent answer) ((groundOf lent) .instances)) e)
+
+  asked-as-judged : ((e : ℕ) → judgeResult tb answer ≡ Unjudged e → ⊥) → holdingResult tb answer k a b c d ≡ asks
+  unfolding judgeResult holdingResult
+  asked-as-judged = tests-ask (ltb (length tb) 4096 || ltb (length answer) 1024) (isValid (take 4096 tb)) areBits (checkOf lent answer)
+
+  pub told : ((e : ℕ) → judgeResult tb answer ≡ Unjudged e → ⊥) → T (isNamed lent k (a ∷ b ∷ c ∷ d ∷ []))
+      → holdingResult tb answer k a b c d ≡ Held (holdingOf lent answer (instanceNamed lent k (a ∷ b ∷ c ∷ d ∷ [])))
+  told judged name = asked-as-judged judged ∙ rw (T-true (isNamed lent k (a ∷ b ∷ c ∷ d ∷ [])) name)
+
+  pub lacked : ((e : ℕ) → judgeResult tb answer ≡ Unjudged e → ⊥) → (T (isNamed lent k (a ∷ b ∷ c ∷ d ∷ [])) → ⊥) → holdingResult tb answer k a b c d ≡ Unheld 44
+  lacked judged name = asked-as-judged judged ∙ rw (T-false (isNamed lent k (a ∷ b ∷ c ∷ d ∷ [])) (fails (isNamed lent k (a ∷ b ∷ c ∷ d ∷ [])) name))

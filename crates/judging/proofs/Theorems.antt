@@ -1,7 +1,7 @@
 -- The claims of `specs/Claims.antt`, proved.
 use Rattle.judging.specs.Claims.{Theorems}
 use Rattle.judging.proofs.CheckLaws.{violated-from, violated-to, checked-model, model-checked, violated-first}
-use Rattle.judging.proofs.HoldingLaws.{held-so-far, gives-out, violated-held, instance-named, past-unseen}
+use Rattle.judging.proofs.HoldingLaws.{held-so-far, gives-out, violated-held, instance-named, refused-as-judged, told, lacked, past-unseen}
 use Rattle.judging.proofs.Demand2.{demand-2}
 
 pub theorems : Theorems
@@ -14,6 +14,9 @@ theorems =
       gives-out = gives-out;
       violated-held = violated-held;
       instance-named = instance-named;
+      refused-as-judged = refused-as-judged;
+      told = told;
+      lacked = lacked;
       past-unseen = past-unseen;
       demand-2 = demand-2;
     }

@@ -13,11 +13,12 @@ use Rattle.search.specs.Sound.{SoundFind}
 use Rattle.problem.specs.Problem.{Problem, Fits}
 use Rattle.problem.specs.Layout.{problemIn}
 use Rattle.problem.specs.Table.{Valid}
-use Rattle.judging.specs.declared.judge.Judging.the-variants.{Model as IsModel, Violated}
+use Rattle.judging.specs.declared.judge.Judging.the-variants.{Unjudged, Model as IsModel, Violated}
+use Rattle.judging.specs.declared.how_far.Holding.the-variants.{Unheld, Held}
 use Rattle.ground.specs.Instance.{Instance, clauseOf, groundOf}
 use Rattle.lists.specs.Bytes.{isSet}
 use Rattle.ground.specs.Verdict.{verdictOf, answerOf}
-use Rattle.judging.specs.ModelCheck.{violates, checkOf}
+use Rattle.judging.specs.ModelCheck.{violates, checkOf, judgeResult}
 use Rattle.judging.specs.Holding.{holdingOf, instanceNamed, isNamed, holdingResult}
 use Rattle.judging.specs.Demand2.{groundLent, Demand2}
 
@@ -53,6 +54,12 @@ pub record Theorems : Type 1 where
   -- a clause and four values that are not refused by 44 name an instance of the ticket, and those that are do not
   pub instance-named : (q : Problem) → Fits q → (k : ℕ) (four : List ℕ) → length four ≡ 4
       → T (isNamed q k four) ↔ Any (λ i. i ≡ instanceNamed q k four) ((groundOf q) .instances)
+  -- the companion call is refused as judging is; else it tells the number of the instance that is named, and 44 where none is
+  pub refused-as-judged : (tb answer : List ℕ) (k a b c d e : ℕ) → judgeResult tb answer ≡ Unjudged e → holdingResult tb answer k a b c d ≡ Unheld e
+  pub told : (tb answer : List ℕ) (k a b c d : ℕ) → ((e : ℕ) → judgeResult tb answer ≡ Unjudged e → ⊥) → T (isNamed (problemIn (take 4096 tb)) k (a ∷ b ∷ c ∷ d ∷ []))
+      → holdingResult tb answer k a b c d ≡ Held (holdingOf (problemIn (take 4096 tb)) answer (instanceNamed (problemIn (take 4096 tb)) k (a ∷ b ∷ c ∷ d ∷ [])))
+  pub lacked : (tb answer : List ℕ) (k a b c d : ℕ) → ((e : ℕ) → judgeResult tb answer ≡ Unjudged e → ⊥)
+      → (T (isNamed (problemIn (take 4096 tb)) k (a ∷ b ∷ c ∷ d ∷ [])) → ⊥) → holdingResult tb answer k a b c d ≡ Unheld 44
   -- values past the clause's own variables do not matter
   pub past-unseen : (tb answer : List ℕ) (k a b c d e f g h : ℕ)
       → take ((clauseOf (problemIn (take 4096 tb)) k) .vars) (a ∷ b ∷ c ∷ d ∷ []) ≡ take ((clauseOf (problemIn (take 4096 tb)) k) .vars) (e ∷ f ∷ g ∷ h ∷ [])

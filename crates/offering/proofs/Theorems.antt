@@ -12,7 +12,7 @@ use Rattle.lists.specs.Bytes.{pad}
 use Rattle.lists.specs.Key.{natKey}
 use Rattle.lists.specs.Member.{All, In}
 use Rattle.lists.proofs.Bytes.{pad-length}
-use Rattle.lists.proofs.Test.{T-true}
+use Rattle.lists.proofs.Test.{T-true, T-false, fails}
 use Rattle.problem.specs.declared.judge.Judged.{Judged}
 use Rattle.problem.specs.declared.judge.Judged.the-variants.{Fault, Found}
 use Rattle.problem.specs.Problem.{Problem, Fits}
@@ -24,7 +24,7 @@ use Rattle.problem.specs.Extended.{withClause, judgeNext, textWith, nextRead}
 use Rattle.problem.proofs.Accepted.{parse-accepts}
 use Rattle.problem.proofs.Next.{next-clause, next-line}
 use Rattle.problem.proofs.TableLayout.{layout-length, problem-back}
-use Rattle.problem.proofs.Theorems.{valid-to, valid-lawful}
+use Rattle.problem.proofs.Theorems.{valid-from, valid-to, valid-lawful}
 use Rattle.reading.specs.Read.{readingOf, readResult, readLeaves}
 use Rattle.writing.specs.contracts.Lent.{refusalOf}
 use Rattle.writing.proofs.LentLaws.{refusal-none, Taken}
@@ -92,6 +92,21 @@ module _ (tb slip : List ℕ) where
       go : (n : ℕ) → n ≡ refusalOf tb (ltb (length slip) 37) → Settled tb slip
       go zero e = let t = set-lent tb slip 0 e refl in tests t (eqb (countHeld slip) (length ((problemLent tb) .clauses))) refl (ltb (getD slip 1 0) 36) (slip-judged t)
       go (suc n) e = absurd (refused-done (suc n) (set-refused tb slip (suc n) e (omega arith) .0 ∙ done))
+
+-- ---- 31 first, and then the frame
+
+module _ (tb f slip : List ℕ) (long : 4096 ≤ length tb) (room : 37 ≤ length slip) where
+  unlawful : (Valid (take 4096 tb) → ⊥) → (offerResult tb f slip ≡ Refused 31) × (setResult tb slip ≡ Refused 31)
+  unfolding offerResult setResult
+  unlawful other =
+      let no : isValid (take 4096 tb) ≡ false =
+      T-false (isValid (take 4096 tb)) (fails (isValid (take 4096 tb)) (λ t. other (valid-from (take 4096 tb) t)))
+      in
+      (rw (le-ltb (length tb) 4096 long, le-ltb (length slip) 37 room, no), rw (le-ltb (length tb) 4096 long, le-ltb (length slip) 37 room, no))
+
+  judged : Valid (take 4096 tb) → offerResult tb f slip ≡ offeringOf (judgeNext (problemLent tb) f)
+  unfolding offerResult
+  judged valid = rw (le-ltb (length tb) 4096 long, le-ltb (length slip) 37 room, T-true (isValid (take 4096 tb)) (valid-to (take 4096 tb) valid))
 
 -- ---- the numbers of refusals
 
@@ -304,6 +319,8 @@ set-as-read tb f slip done =
 pub theorems : Theorems
 theorems =
     record {
+      unlawful = unlawful;
+      judged = judged;
       refusals = refusals;
       set-refusals = set-refusals;
       unoffered-kept = unoffered-kept;

@@ -10,13 +10,13 @@ use Rattle.problem.specs.Problem.{Clause, Problem, Fits}
 use Rattle.problem.specs.Layout.{layout, problemIn}
 use Rattle.problem.specs.Table.{Valid}
 use Rattle.problem.specs.Print.{clauseFrame}
-use Rattle.problem.specs.Extended.{withClause, textWith}
+use Rattle.problem.specs.Extended.{withClause, judgeNext, textWith}
 use Rattle.reading.specs.declared.read.Reading.{Reading}
 use Rattle.reading.specs.declared.read.Reading.the-variants as reading
 use Rattle.reading.specs.Read.{readResult, readLeaves}
 use Rattle.offering.specs.declared.offer.Offering.{Offering}
 use Rattle.offering.specs.declared.offer.Offering.the-variants.{Refused, Done}
-use Rattle.offering.specs.Offer.{countHeld, frameHeld, offerResult, offerLeaves, setResult, setLeaves}
+use Rattle.offering.specs.Offer.{countHeld, frameHeld, offeringOf, offerResult, offerLeaves, setResult, setLeaves}
 
 -- the problem in a lent table
 abbrev pub problemLent : List ℕ → Problem
@@ -51,6 +51,9 @@ abbrev pub clauseRefusals : List ℕ
 clauseRefusals = 2 ∷ 3 ∷ 5 ∷ 6 ∷ 7 ∷ 8 ∷ 10 ∷ []
 
 pub record Theorems : Type 0 where
+  -- "Both calls check 31 first", after 11; an offer then says what judging the frame as the next clause line says
+  pub unlawful : (tb f slip : List ℕ) → 4096 ≤ length tb → 37 ≤ length slip → (Valid (take 4096 tb) → ⊥) → (offerResult tb f slip ≡ Refused 31) × (setResult tb slip ≡ Refused 31)
+  pub judged : (tb f slip : List ℕ) → 4096 ≤ length tb → 37 ≤ length slip → Valid (take 4096 tb) → offerResult tb f slip ≡ offeringOf (judgeNext (problemLent tb) f)
   -- which numbers an offer is refused by, and a setting
   pub refusals : (tb f slip : List ℕ) (e : ℕ) → offerResult tb f slip ≡ Refused e → In natKey (11 ∷ 31 ∷ clauseRefusals) e
   pub set-refusals : (tb slip : List ℕ) (e : ℕ) → setResult tb slip ≡ Refused e → In natKey (11 ∷ 31 ∷ 43 ∷ clauseRefusals) e
