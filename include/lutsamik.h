@@ -21,7 +21,8 @@
  *                                                        2, 3, 5 to 8,
  *                                                        10
  *   lutsamik_set            table, slip; writes table    11, 31, 43,    table: that of the ticket with the clause of
- *                                                        and as above   the slip after the others
+ *                                                        and 2, 3, 5    the slip after the others
+ *                                                        to 8, 10
  *   lutsamik_judge          table, answer                11, 31, 32     nothing is written
  *   lutsamik_holding        table, answer                11, 31, 32, 44 nothing is written
  *   lutsamik_rewrite        table; writes rules          11, 31         rules: the rules
@@ -30,9 +31,11 @@
  *   lutsamik_fit_magic      table; writes rules,         11, 31         rules: as lutsamik_rewrite does;
  *                           answer, work                                answer, work: as lutsamik_fit_relevancy does
  *
- * Refusals are looked for in the order given. Bytes past those named are as they were, also those of a buffer that
- * is longer than it must be. What a written buffer held before does not matter, but for the table that a rule is set
- * in. A is the ticket's number of ground atoms, 1,024 at most.
+ * Refusals are looked for in the order given, but 1 to 10 as reading meets them in a line: 1, 2, byte by byte 3 to
+ * 7, then 3 for bytes left over, then 8, 9, 10; a 65th clause is 5 right after 2. A rule that is offered or set is
+ * looked at as such a line. Bytes past those named are as they were, also those of a buffer that is longer than it
+ * must be. What a written buffer held before does not matter, but for the table that a rule is set in. A is the
+ * ticket's number of ground atoms, 1,024 at most.
  *
  * An engine runs until its walk ends or has made as many entries as the ticket allows, however long that takes. It
  * calls itself along its path of up to 1,024 entries: leave it 2 MB of stack, in which the tests walk such paths.
@@ -55,8 +58,8 @@ extern "C" {
 #define LUTSAMIK_ANSWER_BYTES 1024
 #define LUTSAMIK_WORK_BYTES 65536
 
-/* Refusals. 1 to 10 come from reading, where they name a line of the text, and 2, 3, 5 to 8 and 10 from offering and
- * setting a rule too; but for reading's, none names a line. */
+/* Refusals. 1 to 10 come from reading, and 2, 3, 5 to 8 and 10 from offering and setting a rule too; only reading's
+ * 1 to 10 name a line of the text. */
 enum {
     LUTSAMIK_OK = 0,              /* not refused */
     LUTSAMIK_BAD_LINE = 1,        /* no digits, an odd number, more than 70, a foreign byte, no 0A */
@@ -113,10 +116,11 @@ uint64_t lutsamik_offer(const uint8_t *table, size_t table_len, const uint8_t *f
                         uint8_t *slip, size_t slip_len);
 
 /* Sets the rule that a slip holds: its clause is added to the ticket in a table, after the others. The result is 0,
- * or has a refusal: LUTSAMIK_STALE_SLIP where the ticket has more or fewer clauses than when the rule was offered,
- * and else what offering the frame would give, since a slip may hold anything; one that says it has more than 35
- * bytes is LUTSAMIK_BAD_LENGTH. If only offers were made in between, a rule that was offered is set. The table is
- * then the one that the ticket's text reads to with the rule's line before FF, and FF one higher. */
+ * or has a refusal: LUTSAMIK_STALE_SLIP where the ticket has more or fewer clauses than the slip says, then
+ * LUTSAMIK_BAD_LENGTH where the slip says that its frame has more than 35 bytes, and else what offering the frame
+ * would give, since a slip may hold anything. If only offers were made in between, into this slip none but to the
+ * same ticket, a rule that was offered is set. The table is then the one that the ticket's text reads to with the
+ * rule's line before FF, and FF one higher. */
 uint64_t lutsamik_set(uint8_t *table, size_t table_len, const uint8_t *slip, size_t slip_len);
 
 /* Judges whether the atoms that an answer marks are a fitting of the ticket in a table.
@@ -192,7 +196,8 @@ static inline unsigned lutsamik_value(uint64_t result, unsigned variable) {
     return (unsigned)(result >> (32 + 8 * variable) & 0xFF);
 }
 
-/* Bits 32 to 63 of what lutsamik_holding gives: the number of conditions that hold, 4 at most. */
+/* Bits 32 to 63 of what lutsamik_holding gives: how many conditions hold from the left, before the first that does
+ * not; 4 at most, and 0 also where the clause has none. */
 static inline uint32_t lutsamik_held(uint64_t result) { return (uint32_t)(result >> 32); }
 
 #ifdef __cplusplus

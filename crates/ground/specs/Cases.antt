@@ -26,7 +26,7 @@ cases =
 abbrev pub refusals : List Case
 refusals = record { text = "0101200200000064 / 0202 / 0200 / FF00"; output = "8F090003" } ∷ []
 
--- in every case each walk, the relevancy walk first, prints what document 01 says
+-- in every case each walk, the relevancy walk first, prints what the papers say
 abbrev pub Printed : List Case → Type 0
 Printed ks = map (λ k. printed relevancy (quoted (k .text)) ∷ printed magic (quoted (k .text)) ∷ []) ks ≡ map (λ k. quoted (k .output) ∷ quoted (k .output) ∷ []) ks
 

@@ -63,7 +63,7 @@ pub record Theorems : Type 0 where
   -- "The slip holds the frame and the clause count seen."
   pub slip-holds : (tb f slip : List ℕ) → offerResult tb f slip ≡ Done → Held tb f (offerLeaves tb f slip)
   pub slip-beyond : (tb f slip : List ℕ) → offerResult tb f slip ≡ Done → drop 37 (offerLeaves tb f slip) ≡ drop 37 slip
-  -- "If only offers were made in between, setting succeeds": any number of them, with any bytes, into this slip or another
+  -- "If only offers were made in between, setting succeeds": any number of them, to the same ticket, with any bytes, into this slip; one into another leaves this one
   pub offers-between : (tb f slip : List ℕ) (fs : List (List ℕ)) → offerResult tb f slip ≡ Done → setResult tb (afterOffers tb fs (offerLeaves tb f slip)) ≡ Done
   -- "Setting it adds exactly that clause after the others."
   pub set-as : (tb slip : List ℕ) → setResult tb slip ≡ Done → SetAs tb slip
