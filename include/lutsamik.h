@@ -38,7 +38,7 @@
  * ticket's number of ground atoms, 1,024 at most.
  *
  * An engine runs until its walk ends or has made as many entries as the ticket allows, however long that takes. It
- * calls itself along its path of up to 1,024 entries: leave it 2 MB of stack, in which the tests walk such paths.
+ * calls itself along its path of up to 1,024 entries: leave it 1 MB of stack, in which the tests walk such paths.
  */
 #ifndef LUTSAMIK_H
 #define LUTSAMIK_H

@@ -1,4 +1,4 @@
-//! How much stack each operation needs, and the engines on the longest paths there are: in a thread of 2 MB, and on a stack of this
+//! How much stack each operation needs, and the engines on the longest paths there are: in a thread of 1 MB, and on a stack of this
 //! program's own, painted beforehand, so that the bytes used can be counted; they must be within a bound. Usage: stack [BYTES OF STACK].
 //! Where the stack is too small, a signal ends the program.
 mod host;
@@ -18,11 +18,10 @@ use report::{same, same_answer, Report};
 use std::hint::black_box;
 use walk::{walk, Relevancy};
 
-const STACK: usize = 1 << 21;
+const STACK: usize = 1 << 20;
 
-/// The most that an engine may use on a path of first alternatives, on one of fourth alternatives, and the most for an operation that walks no path.
-const MOST_TO_WALK: usize = 9 << 16;
-const MOST_TO_WALK_LATE: usize = 3 << 19;
+/// The most that an engine may use, on a path of first alternatives or of fourth ones, and the most for an operation that walks no path.
+const MOST_TO_WALK: usize = 1 << 19;
 const MOST: usize = 1 << 14;
 
 fn main() {
@@ -37,9 +36,9 @@ fn measure(stack: usize) -> Result<(), Report> {
     counts_right(stack)?;
     let longest = tickets::deep(32, 1, 1024);
     without_a_walk(&longest, stack)?;
-    walked(&tickets::deep(31, 2, u32::MAX), 961, 961, stack, MOST_TO_WALK)?;
-    walked(&longest, 1024, 1024, stack, MOST_TO_WALK)?;
-    walked(&tickets::late(31, u32::MAX), 4 * 961, 961, stack, MOST_TO_WALK_LATE)
+    walked(&tickets::deep(31, 2, u32::MAX), 961, 961, stack)?;
+    walked(&longest, 1024, 1024, stack)?;
+    walked(&tickets::late(31, u32::MAX), 4 * 961, 961, stack)
 }
 
 /// That a function which fills 100,000 bytes of stack is counted so, and little more.
@@ -74,7 +73,7 @@ fn without_a_walk(ticket: &Ticket, stack: usize) -> Result<(), Report> {
 }
 
 /// A ticket that has so many entries, the longest path of this length, by each engine.
-fn walked(ticket: &Ticket, count: u32, path: usize, stack: usize, most: usize) -> Result<(), Report> {
+fn walked(ticket: &Ticket, count: u32, path: usize, stack: usize) -> Result<(), Report> {
     let mut longest = 0;
     let outcome = walk(&Relevancy::new(ticket), u32::from_be_bytes(ticket.limit), &mut |entered, _| longest = longest.max(entered.len()));
     same("entries and longest path", (count, path), (outcome.count, longest))?;
@@ -84,7 +83,7 @@ fn walked(ticket: &Ticket, count: u32, path: usize, stack: usize, most: usize) -
         let mut again = host.clone();
         let thread = std::thread::Builder::new().stack_size(stack).spawn(move || engine(&mut again)).expect("a thread");
         same_answer(expected, thread.join().expect("the thread ends"), || format!("by {name} in a thread of {stack} bytes"))?;
-        let used = used(name, expected, stack, most, || engine(&mut host))?;
+        let used = used(name, expected, stack, MOST_TO_WALK, || engine(&mut host))?;
         println!("stack: {count} entries, on a path of up to {path}, are walked by {name} in a thread of {stack} bytes, and uses {used} of them");
     }
     Ok(())

@@ -64,7 +64,7 @@ pub fn visit(
     Walked::Opened(count, depth)
 }
 
-// Tries the alternatives left at the split node at `depth`, after `count` entries.
+// Tries the alternatives left at the split node at `depth`, one after another, after `count` entries.
 pub fn try_next(
     table: &[u8],
     conds: &[u16; 384],
@@ -81,34 +81,34 @@ pub fn try_next(
     requires { ⌜ count ≤ limit ⌝ }
     ensures { λ x. ⌜ Leaves (relevancyWalker (now (table .entry))) (now (facts .entry)) (now (path .entry)) depth (markAt (now (path .entry)) depth) count limit x (now (facts .exit)) (now (path .exit)) × ((r : Run Instance) → r .limit ≡ limit → Trying (relevancyWalker (now (table .entry))) r (now (path .entry)) depth count → Ended (relevancyWalker (now (table .entry))) r (now (path .entry)) depth x (now (facts .exit)) (now (path .exit))) ⌝ }
 {
-    let due = alternative(table, path, depth);
-    let NextBranch::Atom(a) = due else {
-        return Walked::Shut(count);
-    };
-    if count == limit {
-        return Walked::Exhausted(depth);
-    }
     let own = mark(path, depth);
-    let found = place(table, conds, alts, facts, path, depth, a, count, limit);
-    let walked = visit(
-        table,
-        conds,
-        alts,
-        facts,
-        path,
-        depth + 1,
-        own,
-        found,
-        count + 1,
-        limit,
-    );
-    match walked {
-        Walked::Shut(shut) => {
-            return try_next(table, conds, alts, facts, path, depth, shut, limit);
+    let mut made = count;
+    loop {
+        let due = alternative(table, path, depth);
+        let NextBranch::Atom(a) = due else {
+            return Walked::Shut(made);
+        };
+        if made == limit {
+            return Walked::Exhausted(depth);
         }
-        _ => {}
+        let found = place(table, conds, alts, facts, path, depth, a, made, limit);
+        let walked = visit(
+            table,
+            conds,
+            alts,
+            facts,
+            path,
+            depth + 1,
+            own,
+            found,
+            made + 1,
+            limit,
+        );
+        let Walked::Shut(shut) = walked else {
+            return walked;
+        };
+        made = shut;
     }
-    walked
 }
 
 // The whole walk under a limit, from the root on, in a set without facts.

@@ -1,21 +1,20 @@
 -- The proof of the cycle of calls {try_next, visit}. Each place made has an atom more that is true, and the alternatives left at a node grow fewer.
 use Prim.Native.Nat.{ℕ, _+_, _<_}
 use mathlib.Core.Path.{_≡_, refl, sym, subst, _∙_}
+use native.Mathlib.Nat.{lt-of-lt-of-le}
 use native.Mathlib.Omega.{arith}
 use borrow.Author.Needs.{needs}
 use borrow.Fn.Kinds.{In}
 use borrow.Fn.PlainCycle.{Measures, is, falls, and}
 use Rattle.store.specs.contracts.Store.{Store, Undone}
 use Rattle.ground.specs.Instance.{Instance}
-use Rattle.ground.specs.contracts.Branching.{NextOf}
-use Rattle.ground.specs.declared.branch.NextBranch.the-variants.{Atom}
 use Rattle.ground.proofs.BranchLaws.{next-atom, next-nothing}
 use Rattle.walk.specs.contracts.Path.{nextAt, markAt, altsAt}
 use Rattle.walk.specs.contracts.Walker.{Run}
 use Rattle.walk.specs.contracts.Place.{Reached, Visiting, Trying}
 use Rattle.walk.specs.contracts.Walk.{triesLeft, visitsLeft, AllShut}
 use Rattle.walk.specs.declared.answer.Found.the-variants.{Closed, Open, Split}
-use Rattle.walk.specs.declared.answer.Walked.the-variants.{Shut}
+use Rattle.walk.specs.declared.answer.Walked.the-variants.{Shut, Exhausted as LimitMet}
 use Rattle.walk.proofs.PlaceLaws.{split-parted, reached-as, visiting-as}
 use Rattle.walk.proofs.WalkLaws.{found-open, visit-open, visit-closed, split-shut, closed-ended, split-tries, passes, passes-ended, leaves-as, ended-as, tried-none, none-ended, tried-due, due-ended, visit-falls, tries-fall, left-as}
 use Rattle.walk.proofs.TriedLaws.{Tried, tried-start, tried-falls, tried-on, tried-leaves, tried-ended, own-undone}
@@ -54,46 +53,8 @@ module _ (t : ℕ) where
   abbrev visit-below : In 4 visit-kinds.ps
   visit-below = and 4 visit-kinds.ps (falls 4 visit-kinds.ps _<_ μ-visit t) visit.Pre
 
-  abbrev trying : try-next-lts.Claims
-  trying = (alternative-reads.Asked, alternative-reads.Learnt, mark-reads.Asked, mark-reads.Learnt, place-reads.Asked, place-reads.Learnt, visit-below, visit.Post, try-next-below, try-next.Post)
-
   abbrev visiting : visit-lts.Claims
   visiting = (try-next-below, try-next.Post, undo-reads.Asked, undo-reads.Learnt)
-
-  -- ---- trying
-
-  -- an alternative is left
-  due : (d : try-next-lts.After-due trying try-next-at try-next.Post) →
-      let s = d .before .before .before .before .before .before .before in
-      NextOf (altsAt (magicWalker (s .args .rules .now)) (s .args .path .now) (s .args .depth)) (nextAt (s .args .path .now) (s .args .depth)) (Atom (d .due .given .0 .0))
-  due d =
-      let s = d .before .before .before .before .before .before .before in
-      let a = d .before .before .alternative in
-      next-atom (altsAt (magicWalker (s .args .rules .now)) (s .args .path .now) (s .args .depth)) (nextAt (s .args .path .now) (s .args .depth)) (a .result) (d .due .given .0 .0) (d .due .given .1) (a .ensures)
-
-  -- it has been entered, and is shut
-  on : (k : try-next-lts.After-walked trying try-next-at try-next.Post) →
-      let s = k .before .before .before .before .before .before .before .before .before .before .before .before .before .before .before .before .before .before .before .before .before .before .before .before .before .before .before in
-      let v = k .before .before .before .before .before .before .visit in
-      Tried (magicWalker (s .args .rules .now)) (s .args .facts .now) (s .args .path .now) (s .args .depth) (s .args .count) (s .args .limit) (v .last .1 .1 .0) (v .last .1 .1 .1 .0) (k .walked .given .0 .0)
-      × (triesLeft (magicWalker (s .args .rules .now)) (v .last .1 .1 .0) (v .last .1 .1 .1 .0) (s .args .depth) < triesLeft (magicWalker (s .args .rules .now)) (s .args .facts .now) (s .args .path .now) (s .args .depth))
-  on k =
-      let s = k .before .before .before .before .before .before .before .before .before .before .before .before .before .before .before .before .before .before .before .before .before .before .before .before .before .before .before in
-      let p = k .before .before .before .before .before .before .before .before .before .before .before .before .before .place in
-      let m = k .before .before .before .before .before .before .before .before .before .before .before .before .before .before .before .before .mark in
-      let v = k .before .before .before .before .before .before .visit in
-      let x = s .pre .1 .1 .1 in
-      let w = magicWalker (s .args .rules .now) in
-      let some-left = due (k .before .before .before .before .before .before .before .before .before .before .before .before .before .before .before .before .before .before .before .before) .0 in
-      let start = tried-start w (s .args .facts .now) (s .args .path .now) (s .args .depth) (s .args .count) (s .args .limit) (x .0) (x .1) in
-      let below : s .args .count < s .args .limit = omega (arith, x .1, (k .before .before .before .before .before .before .before .before .before .before .before .before .before .before .before .before .before .before) .if1 .left) in (
-        tried-on w (s .args .facts .now) (s .args .path .now) (s .args .depth) (s .args .count) (s .args .limit) (s .args .facts .now) (s .args .path .now) (s .args .count) start some-left below
-            (p .result) (p .last .1 .1 .0) (p .last .1 .1 .1 .0) (p .ensures .0) (m .result) (m .ensures)
-            (v .result) (k .walked .given .0 .0) (k .walked .given .1) (v .last .1 .1 .0) (v .last .1 .1 .1 .0) (v .kept .1 .1 .1 .0) (v .ensures .0) (v .ensures .1),
-        tried-falls w (s .args .facts .now) (s .args .path .now) (s .args .depth) (s .args .count) (s .args .limit) (s .args .facts .now) (s .args .path .now) (s .args .count) start some-left below
-            (p .result) (p .last .1 .1 .0) (p .last .1 .1 .1 .0) (p .ensures .0) (m .result) (m .ensures)
-            (v .result) (k .walked .given .0 .0) (k .walked .given .1) (v .last .1 .1 .0) (v .last .1 .1 .1 .0) (v .kept .1 .1 .1 .0) (v .ensures .0) (v .ensures .1),
-      )
 
   -- ---- visiting a split node
 
@@ -128,97 +89,120 @@ module _ (t : ℕ) where
       let own-mark = markAt (s .args .path .now) (s .args .depth) in
       leaves-as (magicWalker (s .args .rules .now)) (s .args .facts .now) (s .args .path .now) (s .args .depth) own-mark own-mark (s .args .count) (s .args .limit) (y .result) (Shut (k .walked .given .0 .0)) (y .last .1 .1 .0) (y .last .1 .1 .1 .0) refl (k .walked .given .1) (y .ensures .0)
 
+-- after `made` entries some alternatives are shut, and fewer are left
+abbrev Inv-loop : try-next-lts.InvT-loop
+Inv-loop rules index facts₀ path₀ depth count limit own made₀ facts path made = Tried (magicWalker rules) facts₀ path₀ depth count limit facts path made
+
+abbrev μ-loop : try-next-lts.MeasureT-loop
+μ-loop rules index facts₀ path₀ depth count limit own made₀ facts path made = triesLeft (magicWalker rules) facts path depth
+
 pub +try-next+visit-spec : {M : Type 1} → statement M
 +try-next+visit-spec =
     close μ-try-next μ-visit
     (λ t.
-    try-next-lts.spec (trying t) (try-next-at t) try-next.Post
-    (λ c κs.
-    let s = c .before .before .before .before in
-    let x = s .pre .1 .1 .1 .0 in
-    (s .pre .1 .0, (x .room, x .at-split .listed)))  -- alternative-requires
+    try-next-lts.spec (mark-reads.Asked, mark-reads.Learnt, alternative-reads.Asked, alternative-reads.Learnt, place-reads.Asked, place-reads.Learnt, visit-below t, visit.Post) (try-next-at t) try-next.Post
+    Inv-loop
+    μ-loop
+    (λ c κs. ((c .before .before .before .before)) .pre .1 .1 .1 .0 .room)  -- mark-requires
+    (λ c. let s = c .before .before .before .before .before in tried-start (magicWalker (s .args .rules .now)) (s .args .facts .now) (s .args .path .now) (s .args .depth) (s .args .count) (s .args .limit) (s .pre .1 .1 .1 .0) (s .pre .1 .1 .1 .1))  -- loop-holds
+    (λ c κs. let l = c .before .loop in (((c .before .before .before .before .before .before .before)) .pre .1 .0, (l .inv .parted .room, l .inv .parted .at-split .listed)))  -- alternative-requires
     (λ c. search needs)  -- enum-known-due
     (λ c. search needs)  -- enum-told
-    (λ c. search needs)  -- same-length
+    (λ c. ((c .before .before .before .before)) .loop .inv .parted .store .room ∙ sym (((c .before .before .before .before .before .before .before .before .before .before)) .pre .1 .1 .1 .0 .store .room))  -- same-length
+    (λ c. ((c .before .before .before .before)) .loop .inv .parted .room .size ∙ sym (((c .before .before .before .before .before .before .before .before .before .before)) .pre .1 .1 .1 .0 .room .size))  -- same-length-2
     (λ c.
-    let s = c .before .before .before .before .before .before .before in
-    let m = c .before in
+    let s = c .before .before .before .before .before .before .before .before .before .before in
+    let l = c .before .before .before .before .loop in
+    let b = c .before .before .alternative in
     let w = magicWalker (s .args .rules .now) in
-    let x = s .pre .1 .1 .1 in (
-      tried-none w (s .args .facts .now) (s .args .path .now) (s .args .depth) (x .0) (s .args .count) (s .args .limit) (x .1),
-      λ r e due.
-          none-ended w (s .args .facts .now) (s .args .path .now) (s .args .depth) (x .0) r (s .args .count)
-          (next-nothing (altsAt w (s .args .path .now) (s .args .depth)) (nextAt (s .args .path .now) (s .args .depth)) (m .before .alternative .result) (m .match .keys2) (m .before .alternative .ensures)) due,
+    let all = next-nothing (altsAt w (l .path) (s .args .depth)) (nextAt (l .path) (s .args .depth)) (b .result) (c .before .match .keys2) (b .ensures) in (
+      tried-leaves w (s .args .facts .now) (s .args .path .now) (s .args .depth) (s .args .count) (s .args .limit) (l .facts) (l .path) (l .made) (l .inv) (l .facts) (l .path) (Shut (l .made)) (tried-none w (l .facts) (l .path) (s .args .depth) (l .inv .parted) (l .made) (s .args .limit) (l .inv .within)),
+      λ r e due. tried-ended w (s .args .facts .now) (s .args .path .now) (s .args .depth) (s .args .count) (s .args .limit) (l .facts) (l .path) (l .made) (l .inv) (l .facts) (l .path) r (Shut (l .made)) (none-ended w (l .facts) (l .path) (s .args .depth) (l .inv .parted) r (l .made) all (l .inv .tries r e due)),
     ))  -- returns
-    (λ c. search needs)  -- same-length-2
+    (λ c. ((c .before .before .before .before .before .before)) .loop .inv .parted .store .room ∙ sym (((c .before .before .before .before .before .before .before .before .before .before .before .before)) .pre .1 .1 .1 .0 .store .room))  -- same-length-3
+    (λ c. ((c .before .before .before .before .before .before)) .loop .inv .parted .room .size ∙ sym (((c .before .before .before .before .before .before .before .before .before .before .before .before)) .pre .1 .1 .1 .0 .room .size))  -- same-length-4
     (λ c.
-    let s = c .before .before .before .before .before .before .before .before .before in
+    let s = c .before .before .before .before .before .before .before .before .before .before .before .before in
+    let l = c .before .before .before .before .before .before .loop in
+    let b = c .before .before .before .before .alternative in
+    let d = c .before .before .due in
     let w = magicWalker (s .args .rules .now) in
-    let x = s .pre .1 .1 .1 in (
-      tried-due w (s .args .facts .now) (s .args .path .now) (s .args .depth) (x .0) (s .args .count) (s .args .limit) (due t (c .before .before) .0),
-      λ r e due. due-ended w (s .args .facts .now) (s .args .path .now) (s .args .depth) (x .0) r (s .args .count) (c .if1 .taken ∙ sym e) due,
+    let some-left = next-atom (altsAt w (l .path) (s .args .depth)) (nextAt (l .path) (s .args .depth)) (b .result) (d .given .0 .0) (d .given .1) (b .ensures) .0 in
+    let met : l .made ≡ s .args .limit = omega (arith, c .if1 .taken, l .inv .within) in (
+      tried-leaves w (s .args .facts .now) (s .args .path .now) (s .args .depth) (s .args .count) (s .args .limit) (l .facts) (l .path) (l .made) (l .inv) (l .facts) (l .path) (LimitMet (s .args .depth)) (tried-due w (l .facts) (l .path) (s .args .depth) (l .inv .parted) (l .made) (s .args .limit) some-left),
+      λ r e due. due-ended w (l .facts) (l .path) (s .args .depth) (l .inv .parted) r (l .made) (met ∙ sym e) (l .inv .tries r e due),
     ))  -- returns-2
-    (λ c κs. (c .before .before .before .before .before .before .before .before .before .before) .pre .1 .1 .1 .0 .room)  -- mark-requires
     (λ c κs.
-    let s = c .before .before .before .before .before .before .before .before .before .before .before .before .before in
-    let x = s .pre .1 .1 .1 in
-    (s .pre .1 .0, (s .pre .1 .1 .0, (x .0, (due t (c .before .before .before .before .before .before), omega (arith, x .1, (c .before .before .before .before) .if1 .left))))))  -- place-requires
-    (λ c. omega (arith, (c .before .before .before .before .before .before .before .before .before .before .before .before .before .before .before .before .before .before .before .before) .pre .1 .1 .1 .0 .room .deep))  -- add-visit
-    (λ c. let s = c .before .before .before .before .before .before .before .before .before .before .before .before .before .before .before .before .before .before .before .before in omega (arith, s .pre .1 .1 .1 .1, (c .before .before .before .before .before .before .before .before .before .before .before) .if1 .left, s .fits .limit))  -- add-visit-2
+    let s = c .before .before .before .before .before .before .before .before .before .before .before .before .before .before in
+    let l = c .before .before .before .before .before .before .before .before .loop in
+    let b = c .before .before .before .before .before .before .alternative in
+    let d = c .before .before .before .before .due in
+    let w = magicWalker (s .args .rules .now) in
+    (s .pre .1 .0, (s .pre .1 .1 .0, (l .inv .parted, (next-atom (altsAt w (l .path) (s .args .depth)) (nextAt (l .path) (s .args .depth)) (b .result) (d .given .0 .0) (d .given .1) (b .ensures), omega (arith, l .inv .within, (c .before .before) .if1 .left))))))  -- place-requires
+    (λ c. omega (arith, ((c .before .before .before .before .before .before .before .before .before .before .before .before .before .before .before)) .loop .inv .parted .room .deep))  -- add-visit
+    (λ c. omega (arith, ((c .before .before .before .before .before .before .before .before .before .before .before .before .before .before .before)) .loop .inv .within, (c .before .before .before .before .before .before .before .before .before) .if1 .left, ((c .before .before .before .before .before .before .before .before .before .before .before .before .before .before .before .before .before .before .before .before .before)) .fits .limit))  -- add-visit-2
     (λ c κs.
-    let s = c .before .before .before .before .before .before .before .before .before .before .before .before .before .before .before .before .before .before .before .before in
-    let w = (magicWalker (s .args .rules .now)) in
-    let x = s .pre .1 .1 .1 in
+    let s = c .before .before .before .before .before .before .before .before .before .before .before .before .before .before .before .before .before .before .before .before .before in
+    let l = c .before .before .before .before .before .before .before .before .before .before .before .before .before .before .before .loop in
+    let b = c .before .before .before .before .before .before .before .before .before .before .before .before .before .alternative in
+    let d = c .before .before .before .before .before .before .before .before .before .before .before .due in
     let p = c .before .before .before .before .before .before .place in
+    let w = magicWalker (s .args .rules .now) in
+    let some-left = next-atom (altsAt w (l .path) (s .args .depth)) (nextAt (l .path) (s .args .depth)) (b .result) (d .given .0 .0) (d .given .1) (b .ensures) .0 in
+    let own-is = c .before .before .before .before .before .before .before .before .before .before .before .before .before .before .before .before .mark .ensures ∙ sym (l .inv .mark-is) in
     let from : triesLeft w (s .args .facts .now) (s .args .path .now) (s .args .depth) ≡ t = s .pre .0 in (
       subst (λ (m : ℕ). visitsLeft w (p .last .1 .1 .0) (p .last .1 .1 .1 .0) (s .args .depth + 1) (p .result) < m) from
-          (visit-falls w (sound (s .args .rules .now) (s .pre .1 .0)) (s .args .facts .now) (s .args .path .now) (s .args .depth) (s .args .count) (x .0) (due t (c .before .before .before .before .before .before .before .before .before .before .before .before .before) .0) (p .result) (p .last .1 .1 .0) (p .last .1 .1 .1 .0) (p .ensures .0)),
+          (lt-of-lt-of-le (visit-falls w (sound (s .args .rules .now) (s .pre .1 .0)) (l .facts) (l .path) (s .args .depth) (l .made) (l .inv .parted) some-left (p .result) (p .last .1 .1 .0) (p .last .1 .1 .1 .0) (p .ensures .0)) (l .inv .falls)),
       (
         s .pre .1 .0,
-        (
-          s .pre .1 .1 .0,
-          (
-            (subst (λ (m : ℕ). Reached w (p .last .1 .1 .0) (p .last .1 .1 .1 .0) (s .args .depth + 1) m (p .result)) (sym ((c .before .before .before .before .before .before .before .before .before) .mark .ensures)) (p .ensures .0 .reached), p .ensures .1),
-            omega (arith, x .1, (c .before .before .before .before .before .before .before .before .before .before .before) .if1 .left),
-          ),
-        ),
+        (s .pre .1 .1 .0, ((subst (λ (m : ℕ). Reached w (p .last .1 .1 .0) (p .last .1 .1 .1 .0) (s .args .depth + 1) m (p .result)) (sym own-is) (p .ensures .0 .reached), p .ensures .1), omega (arith, l .inv .within, (c .before .before .before .before .before .before .before .before .before) .if1 .left))),
       ),
     ))  -- visit-requires
     (λ c. search needs)  -- enum-known-walked
-    (λ c κs.
-    let k = c .before .before .before in
-    let s = k .before .before .before .before .before .before .before .before .before .before .before .before .before .before .before .before .before .before .before .before .before .before .before .before .before .before .before in
-    let v = k .before .before .before .before .before .before .visit in
-    let from : triesLeft (magicWalker (s .args .rules .now)) (s .args .facts .now) (s .args .path .now) (s .args .depth) ≡ t = s .pre .0 in
-    (subst (λ (m : ℕ). triesLeft (magicWalker (s .args .rules .now)) (v .last .1 .1 .0) (v .last .1 .1 .1 .0) (s .args .depth) < m) from (on t k .1), (s .pre .1 .0, (s .pre .1 .1 .0, (on t k .0 .parted, on t k .0 .within)))))  -- try-next-requires
-    (λ c. search needs)  -- same-length-3
-    (λ c. search needs)  -- same-length-4
+    (λ c. let p = c .before .before .before .before .before .before .before .before .before .before .before .before .place in let v = c .before .before .before .before .before .visit in v .kept .1 .1 .0 ∙ p .kept .1 .1 .0 ∙ ((c .before .before .before .before .before .before .before .before .before .before .before .before .before .before .before .before .before .before .before .before .before)) .loop .inv .parted .store .room ∙ sym (((c .before .before .before .before .before .before .before .before .before .before .before .before .before .before .before .before .before .before .before .before .before .before .before .before .before .before .before)) .pre .1 .1 .1 .0 .store .room))  -- same-length-5
+    (λ c. let p = c .before .before .before .before .before .before .before .before .before .before .before .before .place in let v = c .before .before .before .before .before .visit in v .kept .1 .1 .1 .0 ∙ p .kept .1 .1 .1 .0 ∙ ((c .before .before .before .before .before .before .before .before .before .before .before .before .before .before .before .before .before .before .before .before .before)) .loop .inv .parted .room .size ∙ sym (((c .before .before .before .before .before .before .before .before .before .before .before .before .before .before .before .before .before .before .before .before .before .before .before .before .before .before .before)) .pre .1 .1 .1 .0 .room .size))  -- same-length-6
     (λ c.
-    let k = c .before .before .before .before .before .before .before .before in
-    let s = k .before .before .before .before .before .before .before .before .before .before .before .before .before .before .before .before .before .before .before .before .before .before .before .before .before .before .before in
-    let w = magicWalker (s .args .rules .now) in
-    let v = k .before .before .before .before .before .before .visit in
-    let y = c .before .before .before .before .try-next in (
-      tried-leaves w (s .args .facts .now) (s .args .path .now) (s .args .depth) (s .args .count) (s .args .limit) (v .last .1 .1 .0) (v .last .1 .1 .1 .0) (k .walked .given .0 .0) (on t k .0) (y .last .1 .1 .0) (y .last .1 .1 .1 .0) (y .result) (y .ensures .0),
-      λ r e due.
-          tried-ended w (s .args .facts .now) (s .args .path .now) (s .args .depth) (s .args .count) (s .args .limit) (v .last .1 .1 .0) (v .last .1 .1 .1 .0) (k .walked .given .0 .0) (on t k .0) (y .last .1 .1 .0) (y .last .1 .1 .1 .0) r (y .result)
-          (y .ensures .1 r e (on t k .0 .tries r e due)),
-    ))  -- returns-3
-    (λ c. search needs)  -- same-length-5
-    (λ c. search needs)  -- same-length-6
-    (λ c.
-    let s = c .before .before .before .before .before .before .before .before .before .before .before .before .before .before .before .before .before .before .before .before .before .before .before .before .before .before in
+    let s = c .before .before .before .before .before .before .before .before .before .before .before .before .before .before .before .before .before .before .before .before .before .before .before .before .before .before .before in
+    let l = c .before .before .before .before .before .before .before .before .before .before .before .before .before .before .before .before .before .before .before .before .before .loop in
     let p = c .before .before .before .before .before .before .before .before .before .before .before .before .place in
     let v = c .before .before .before .before .before .visit in
-    let m = c .before .before .before .before .before .before .before .before .before .before .before .before .before .before .before .mark in
-    let if1 = c .before .before .before .before .before .before .before .before .before .before .before .before .before .before .before .before .before .if1 in
     let w = magicWalker (s .args .rules .now) in (
-      passes w (v .last .1 .1 .0) (v .last .1 .1 .1 .0) (s .args .limit) (p .last .1 .1 .0) (p .last .1 .1 .1 .0) (s .args .depth + 1) (m .result) (s .args .count + 1)
+      passes w (v .last .1 .1 .0) (v .last .1 .1 .1 .0) (s .args .limit) (p .last .1 .1 .0) (p .last .1 .1 .1 .0) (s .args .depth + 1) ((c .before .before .before .before .before .before .before .before .before .before .before .before .before .before .before .before .before .before .before .before .before .before) .mark .result) (l .made + 1)
           (s .args .facts .now) (s .args .path .now) (s .args .depth) (markAt (s .args .path .now) (s .args .depth)) (s .args .count) (v .result) (c .match2 .keys2) (v .ensures .0),
       λ r e due.
           passes-ended w (v .last .1 .1 .0) (v .last .1 .1 .1 .0) r (p .last .1 .1 .1 .0) (s .args .depth + 1) (s .args .path .now) (s .args .depth) (v .result) (c .match2 .keys2)
-          (v .ensures .1 r e (p .ensures .0 .trail r (omega (arith, s .pre .1 .1 .1 .1, if1 .left)) due)),
-    )))  -- returns-4
+          (v .ensures .1 r e (p .ensures .0 .trail r (omega (arith, l .inv .within, (c .before .before .before .before .before .before .before .before .before .before .before .before .before .before .before) .if1 .left)) (l .inv .tries r e due))),
+    ))  -- returns-3
+    (λ c.
+    let s = c .before .before .before .before .before .before .before .before .before .before .before .before .before .before .before .before .before .before .before .before .before .before .before .before .before .before .before .before .before in
+    let m = c .before .before .before .before .before .before .before .before .before .before .before .before .before .before .before .before .before .before .before .before .before .before .before .before .mark in
+    let l = c .before .before .before .before .before .before .before .before .before .before .before .before .before .before .before .before .before .before .before .before .before .before .before .loop in
+    let b = c .before .before .before .before .before .before .before .before .before .before .before .before .before .before .before .before .before .before .before .before .before .alternative in
+    let d = c .before .before .before .before .before .before .before .before .before .before .before .before .before .before .before .before .before .before .before .due in
+    let p = c .before .before .before .before .before .before .before .before .before .before .before .before .before .before .place in
+    let v = c .before .before .before .before .before .before .before .visit in
+    let g = c .before .walked .given in
+    let w = magicWalker (s .args .rules .now) in
+    let some-left = next-atom (altsAt w (l .path) (s .args .depth)) (nextAt (l .path) (s .args .depth)) (b .result) (d .given .0 .0) (d .given .1) (b .ensures) .0 in
+    let below : l .made < s .args .limit = omega (arith, l .inv .within, (c .before .before .before .before .before .before .before .before .before .before .before .before .before .before .before .before .before) .if1 .left) in
+    tried-falls w (s .args .facts .now) (s .args .path .now) (s .args .depth) (s .args .count) (s .args .limit) (l .facts) (l .path) (l .made) (l .inv) some-left below
+    (p .result) (p .last .1 .1 .0) (p .last .1 .1 .1 .0) (p .ensures .0) (m .result) (m .ensures ∙ sym (l .inv .mark-is))
+    (v .result) (g .0 .0) (g .1) (v .last .1 .1 .0) (v .last .1 .1 .1 .0) (v .kept .1 .1 .1 .0) (v .ensures .0) (v .ensures .1))  -- loop-less
+    (λ c.
+    let s = c .before .before .before .before .before .before .before .before .before .before .before .before .before .before .before .before .before .before .before .before .before .before .before .before .before .before .before .before .before in
+    let m = c .before .before .before .before .before .before .before .before .before .before .before .before .before .before .before .before .before .before .before .before .before .before .before .before .mark in
+    let l = c .before .before .before .before .before .before .before .before .before .before .before .before .before .before .before .before .before .before .before .before .before .before .before .loop in
+    let b = c .before .before .before .before .before .before .before .before .before .before .before .before .before .before .before .before .before .before .before .before .before .alternative in
+    let d = c .before .before .before .before .before .before .before .before .before .before .before .before .before .before .before .before .before .before .before .due in
+    let p = c .before .before .before .before .before .before .before .before .before .before .before .before .before .before .place in
+    let v = c .before .before .before .before .before .before .before .visit in
+    let g = c .before .walked .given in
+    let w = magicWalker (s .args .rules .now) in
+    let some-left = next-atom (altsAt w (l .path) (s .args .depth)) (nextAt (l .path) (s .args .depth)) (b .result) (d .given .0 .0) (d .given .1) (b .ensures) .0 in
+    let below : l .made < s .args .limit = omega (arith, l .inv .within, (c .before .before .before .before .before .before .before .before .before .before .before .before .before .before .before .before .before) .if1 .left) in
+    tried-on w (s .args .facts .now) (s .args .path .now) (s .args .depth) (s .args .count) (s .args .limit) (l .facts) (l .path) (l .made) (l .inv) some-left below
+    (p .result) (p .last .1 .1 .0) (p .last .1 .1 .1 .0) (p .ensures .0) (m .result) (m .ensures ∙ sym (l .inv .mark-is))
+    (v .result) (g .0 .0) (g .1) (v .last .1 .1 .0) (v .last .1 .1 .1 .0) (v .kept .1 .1 .1 .0) (v .ensures .0) (v .ensures .1)))  -- loop-again
     (λ t.
     visit-lts.spec (visiting t) (visit-at t) visit.Post
     (λ c. search needs)  -- enum-known-found
