@@ -7,7 +7,7 @@
 
 /* What document 01, or crates/cases/data/README.md, has of a ticket. The rules are one for each clause and one for
  * each condition. The marks are repeated until there is one for each atom. Of the fitting so many conditions hold in
- * the last clause's instance where 80 and 81 are 0. */
+ * the last clause's instance where 80 and 81 are 0. The rule, by its digits, can be added. */
 struct known {
     const char *ticket;
     unsigned verdict;
@@ -17,22 +17,23 @@ struct known {
     const char *marks;
     uint32_t clauses;
     uint32_t hold;
+    const char *rule;
 };
 
 static const struct known tickets[] = {
-    {"K1", LUTSAMIK_NONE, 2, 7, 6, "", 4, 0},
-    {"K2", LUTSAMIK_NONE, 2, 7, 6, "", 4, 0},
-    {"K3", LUTSAMIK_SPENT, 1, 7, 6, "", 4, 0},
-    {"K4", LUTSAMIK_SPENT, 0, 7, 6, "", 4, 0},
-    {"K5", LUTSAMIK_FITS, 0, 5, 6, "110111", 3, 0},
-    {"K6", LUTSAMIK_FITS, 2, 8, 6, "100110", 4, 1},
-    {"K7", LUTSAMIK_FITS, 0, 0, 1, "1", 0, 0},
-    {"K8", LUTSAMIK_NONE, 0, 1, 1, "", 1, 0},
-    {"K9", LUTSAMIK_NONE, 1, 3, 1, "", 2, 0},
-    {"K10", LUTSAMIK_FITS, 0, 0, 1024, "1", 0, 0},
-    {"K11", LUTSAMIK_FITS, 0, 20, 1024, "0", 4, 0},
-    {"example_1", LUTSAMIK_NONE, 4, 16, 12, "", 8, 0},
-    {"example_7", LUTSAMIK_NONE, 6, 15, 6, "", 8, 0},
+    {"K1", LUTSAMIK_NONE, 2, 7, 6, "", 4, 0, "0301000280"},
+    {"K2", LUTSAMIK_NONE, 2, 7, 6, "", 4, 0, "0300010001"},
+    {"K3", LUTSAMIK_SPENT, 1, 7, 6, "", 4, 0, "030000"},
+    {"K4", LUTSAMIK_SPENT, 0, 7, 6, "", 4, 0, "03040400800181028200830080018102820083"},
+    {"K5", LUTSAMIK_FITS, 0, 5, 6, "110111", 3, 0, "03020002800001"},
+    {"K6", LUTSAMIK_FITS, 2, 8, 6, "100110", 4, 1, "030102008001800280"},
+    {"K7", LUTSAMIK_FITS, 0, 0, 1, "1", 0, 0, "03000100"},
+    {"K8", LUTSAMIK_NONE, 0, 1, 1, "", 1, 0, "030000"},
+    {"K9", LUTSAMIK_NONE, 1, 3, 1, "", 2, 0, "0304040000000000000000"},
+    {"K10", LUTSAMIK_FITS, 0, 0, 1024, "1", 0, 0, "030404001F1F001F1F001F1F001F1F001F1F001F1F001F1F001F1F"},
+    {"K11", LUTSAMIK_FITS, 0, 20, 1024, "0", 4, 0, "030001001F1F"},
+    {"example_1", LUTSAMIK_NONE, 4, 16, 12, "", 8, 0, "030201048005810580"},
+    {"example_7", LUTSAMIK_NONE, 6, 15, 6, "", 8, 0, "03000400010203"},
 };
 
 /* The result with this in bits 8 to 15 and that in bits 32 to 63. */
@@ -42,6 +43,8 @@ static uint64_t packed(unsigned low, size_t high) { return (uint64_t)low << 8 | 
 static uint64_t expected(enum operation operation, const struct lent *lent, const struct known *known) {
     switch (operation) {
     case READ:
+    case OFFER:
+    case SET:
         return packed(0, 0);
     case WRITE:
         return packed(0, lent->of[TEXT].len);
@@ -141,6 +144,62 @@ static void holds(struct lent *lent, const struct known *known) {
     judges(HOLDING, lent, known);
 }
 
+/* Into a slip that nobody has written: each of its bytes is. */
+static void offers(struct lent *lent, const struct known *known) {
+    const struct buffer *frame = &lent->of[FRAME], *slip = &lent->of[SLIP];
+    put_digits(&lent->of[FRAME], known->rule);
+    keep_all(lent);
+    forget(&lent->of[SLIP]);
+    uint64_t result = answered(OFFER, lent, known);
+    check(slip->bytes[0] == known->clauses, "the slip has the number of clauses", OFFER, lent, result);
+    check(slip->bytes[1] == frame->len, "the slip has the frame's length", OFFER, lent, result);
+    check(memcmp(slip->bytes + 2, frame->bytes, frame->len) == 0, "the slip has the frame", OFFER, lent, result);
+    check(all(slip, 2 + frame->len, slip->len, 0), "the rest of the slip is zero", OFFER, lent, result);
+    check(as_kept(&lent->of[TABLE]) && as_kept(frame), "table and frame stay", OFFER, lent, result);
+}
+
+/* Puts the rule's line before FF, which is then one higher. */
+static void lengthen(struct buffer *text, const struct known *known) {
+    char end[80];
+    int len = snprintf(end, sizeof end, "%s\nFF%02X\n", known->rule, (unsigned)known->clauses + 1);
+    size_t before = text->len - strlen("FF00\n");
+    resize(text, before + (size_t)len);
+    memcpy(text->bytes + before, end, (size_t)len);
+}
+
+/* The table is the one that the longer text reads to, and a second time the slip is refused. */
+static void sets(struct lent *lent, const struct known *known) {
+    keep_all(lent);
+    uint64_t result = answered(SET, lent, known);
+    check(as_kept(&lent->of[SLIP]), "the slip stays", SET, lent, result);
+    keep(&lent->of[TABLE]);
+    result = call(SET, lent);
+    check_result(LUTSAMIK_STALE_SLIP, SET, lent, result);
+    check(as_kept(&lent->of[TABLE]), "the table stays where the slip is stale", SET, lent, result);
+    lengthen(&lent->of[TEXT], known);
+    memset(lent->of[OUT].bytes, FILL, required[OUT]);
+    writes(lent, known);
+    forget(&lent->of[TABLE]);
+    read_ticket(lent);
+    check(as_kept(&lent->of[TABLE]), "the table is the one that the longer text reads to", SET, lent, result);
+}
+
+/* The rule is offered and set; then set in the table of before by a slip of which nobody has written the bytes past the
+ * frame. */
+static void adds(struct lent *lent, const struct known *known) {
+    struct buffer *table = &lent->of[TABLE], *slip = &lent->of[SLIP];
+    uint8_t before[LUTSAMIK_TABLE_BYTES], held[LUTSAMIK_SLIP_BYTES];
+    memcpy(before, table->bytes, sizeof before);
+    offers(lent, known);
+    memcpy(held, slip->bytes, sizeof held);
+    sets(lent, known);
+    memcpy(table->bytes, before, sizeof before);
+    forget(slip);
+    memcpy(slip->bytes, held, 2 + lent->of[FRAME].len);
+    uint64_t result = answered(SET, lent, known);
+    check(as_kept(table), "what follows the frame in the slip does not matter", SET, lent, result);
+}
+
 static void goes_round(struct lent *lent, const struct known *known) {
     reads(lent, known);
     writes(lent, known);
@@ -175,6 +234,21 @@ static void tries(const struct known *known) {
         goes_unwritten(JUDGE, &lent, known);
         goes_unwritten(HOLDING, &lent, known);
     }
+    adds(&lent, known);
+    take_back(&lent);
+}
+
+/* A rule of 35 bytes, the most that there are, with a ticket that K7 is made into. */
+static void adds_longest(void) {
+    static const struct known known = {
+        .rule = "0304040000000000000000000000000000000000000000000000000000000000000000"};
+    static const char text[] = "0101010100000064\n0203\nFF00\n";
+    struct lent lent;
+    lend(&lent, "K7");
+    resize(&lent.of[TEXT], sizeof text - 1);
+    memcpy(lent.of[TEXT].bytes, text, sizeof text - 1);
+    read_ticket(&lent);
+    adds(&lent, &known);
     take_back(&lent);
 }
 
@@ -182,6 +256,7 @@ int main(void) {
     size_t count = sizeof tickets / sizeof tickets[0];
     for (size_t i = 0; i < count; i++)
         tries(&tickets[i]);
+    adds_longest();
     printf("host_exact: %zu tickets, in buffers of exactly the required sizes\n", count);
     return 0;
 }

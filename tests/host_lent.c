@@ -5,8 +5,10 @@
 #include <string.h>
 
 const size_t required[KINDS] = {0,
+                                0,
                                 LUTSAMIK_TABLE_BYTES,
                                 LUTSAMIK_TEXT_BYTES,
+                                LUTSAMIK_SLIP_BYTES,
                                 LUTSAMIK_RULES_BYTES,
                                 LUTSAMIK_ANSWER_BYTES,
                                 LUTSAMIK_WORK_BYTES};
@@ -16,6 +18,8 @@ static const struct {
     unsigned kinds; /* a bit for each */
 } operations[OPERATIONS] = {{"reading", 1 << TEXT | 1 << TABLE},
                             {"writing", 1 << TABLE | 1 << OUT},
+                            {"offering", 1 << TABLE | 1 << FRAME | 1 << SLIP},
+                            {"setting", 1 << TABLE | 1 << SLIP},
                             {"judging", 1 << TABLE | 1 << ANSWER},
                             {"holding", 1 << TABLE | 1 << ANSWER},
                             {"rewriting", 1 << TABLE | 1 << RULES},
@@ -55,6 +59,7 @@ void lend(struct lent *lent, const char *ticket) {
     memset(lent, 0, sizeof *lent);
     lent->ticket = ticket;
     load(&lent->of[TEXT], ticket);
+    put_digits(&lent->of[FRAME], "030000");
     for (int kind = TABLE; kind < KINDS; kind++)
         resize(&lent->of[kind], required[kind]);
 }
@@ -75,6 +80,14 @@ void resize(struct buffer *buffer, size_t len) {
     free(buffer->bytes);
     buffer->bytes = bytes;
     buffer->len = len;
+}
+
+static uint8_t digit(char c) { return (uint8_t)(c <= '9' ? c - '0' : c - 'A' + 10); }
+
+void put_digits(struct buffer *buffer, const char *digits) {
+    resize(buffer, strlen(digits) / 2);
+    for (size_t i = 0; i < buffer->len; i++)
+        buffer->bytes[i] = (uint8_t)(digit(digits[2 * i]) << 4 | digit(digits[2 * i + 1]));
 }
 
 void forget(struct buffer *buffer) {
@@ -102,12 +115,17 @@ int all(const struct buffer *buffer, size_t from, size_t to, uint8_t value) {
 
 uint64_t call(enum operation operation, const struct lent *lent) {
     const struct buffer *text = &lent->of[TEXT], *table = &lent->of[TABLE], *out = &lent->of[OUT];
+    const struct buffer *frame = &lent->of[FRAME], *slip = &lent->of[SLIP];
     const struct buffer *rules = &lent->of[RULES], *answer = &lent->of[ANSWER], *work = &lent->of[WORK];
     switch (operation) {
     case READ:
         return lutsamik_read(text->bytes, text->len, table->bytes, table->len);
     case WRITE:
         return lutsamik_write(table->bytes, table->len, out->bytes, out->len);
+    case OFFER:
+        return lutsamik_offer(table->bytes, table->len, frame->bytes, frame->len, slip->bytes, slip->len);
+    case SET:
+        return lutsamik_set(table->bytes, table->len, slip->bytes, slip->len);
     case JUDGE:
         return lutsamik_judge(table->bytes, table->len, answer->bytes, answer->len);
     case HOLDING:

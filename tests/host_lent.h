@@ -5,9 +5,9 @@
 
 #include <lutsamik.h>
 
-enum kind { TEXT, TABLE, OUT, RULES, ANSWER, WORK, KINDS };
+enum kind { TEXT, FRAME, TABLE, OUT, SLIP, RULES, ANSWER, WORK, KINDS };
 
-enum operation { READ, WRITE, JUDGE, HOLDING, REWRITE, RELEVANCY, MAGIC, OPERATIONS };
+enum operation { READ, WRITE, OFFER, SET, JUDGE, HOLDING, REWRITE, RELEVANCY, MAGIC, OPERATIONS };
 
 /* What each byte holds that no test has set. */
 enum { FILL = 0xEE };
@@ -25,18 +25,22 @@ struct lent {
     uint32_t clause, values[4];
 };
 
-/* How long each kind must be; a text may have any length. */
+/* How long each kind must be; a text and a frame may have any length. */
 extern const size_t required[KINDS];
 
 /* Whether an operation is lent a buffer of this kind. */
 int uses(enum operation operation, enum kind kind);
 
-/* The text of crates/cases/data/TICKET.text, buffers of exactly the required lengths, and an instance of numbers 0. */
+/* The text of crates/cases/data/TICKET.text, a frame that any ticket of fewer than 64 clauses takes, buffers of exactly
+ * the required lengths, and an instance of numbers 0. */
 void lend(struct lent *lent, const char *ticket);
 void take_back(struct lent *lent);
 
 /* Puts a block of this length in a buffer's place, which begins as the buffer does and is filled up. */
 void resize(struct buffer *buffer, size_t len);
+
+/* Puts a block in a buffer's place that holds the bytes of these digits and no more. */
+void put_digits(struct buffer *buffer, const char *digits);
 
 /* Puts a block in a buffer's place that nobody has written: valgrind tells where its bytes decide something. */
 void forget(struct buffer *buffer);

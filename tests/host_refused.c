@@ -1,5 +1,5 @@
 /* Refusals from C: buffers that are too short, tables that no text reads to, answers that are none, instances that are
- * lacking, texts cut short. Each is refused by its number, and each lent buffer stays as it was. */
+ * lacking, rules that cannot be added, slips that are mangled, texts cut short. Each is refused by its number, and each lent buffer stays as it was. */
 #include "host_lent.h"
 
 #include <stdio.h>
@@ -31,17 +31,20 @@ static void short_buffer(enum kind kind, size_t len, int table) {
 }
 
 static void short_buffers(void) {
-    for (int kind = TABLE; kind < KINDS; kind++) {
+    for (int kind = 0; kind < KINDS; kind++) {
+        if (required[kind] == 0)
+            continue;
         short_buffer((enum kind)kind, required[kind] - 1, 1);
         short_buffer((enum kind)kind, required[kind] - 1, 0);
         short_buffer((enum kind)kind, 0, 1);
     }
 }
 
-/* All that take a table refuse this one by 31. The answer's bytes are none and the instance is lacking, but that comes
- * later. */
+/* All that take a table refuse this one by 31. The answer's bytes are none, the instance is lacking, the frame has no
+ * bytes and the slip is stale and has no room for its length, but that comes later. */
 static void no_table(struct lent *lent) {
     lent->clause = UINT32_MAX;
+    resize(&lent->of[FRAME], 0);
     keep_all(lent);
     for (int operation = WRITE; operation < OPERATIONS; operation++)
         refused(LUTSAMIK_NO_TABLE, (enum operation)operation, lent);
@@ -131,6 +134,115 @@ static void lacking_instances(void) {
     take_back(&lent);
 }
 
+/* A rule for K6, which has four clauses, two constants and three predicates of one argument, by its digits; so many
+ * zeros follow. Where a slip can hold it, setting refuses it alike. */
+static void refused_rule(unsigned refusal, const char *digits, size_t zeros, struct lent *lent) {
+    struct buffer *frame = &lent->of[FRAME], *slip = &lent->of[SLIP];
+    put_digits(frame, digits);
+    size_t len = frame->len;
+    resize(frame, len + zeros);
+    memset(frame->bytes + len, 0, zeros);
+    keep_all(lent);
+    refused(refusal, OFFER, lent);
+    if (frame->len > required[SLIP] - 2)
+        return;
+    memset(slip->bytes, 0, slip->len);
+    slip->bytes[0] = 4;
+    slip->bytes[1] = (uint8_t)frame->len;
+    memcpy(slip->bytes + 2, frame->bytes, frame->len);
+    keep_all(lent);
+    refused(refusal, SET, lent);
+    slip->bytes[0] = 5;
+    keep_all(lent);
+    refused(LUTSAMIK_STALE_SLIP, SET, lent);
+}
+
+/* Bytes left over are refused by 3 at any length, unless a fault comes before them. */
+static void refused_rules(void) {
+    static const struct {
+        unsigned refusal;
+        const char *digits;
+        size_t zeros;
+    } rules[] = {
+        {LUTSAMIK_BAD_KIND, "", 0},
+        {LUTSAMIK_BAD_KIND, "FF04", 0},
+        {LUTSAMIK_BAD_KIND, "02", 300},
+        {LUTSAMIK_BAD_LENGTH, "03", 0},
+        {LUTSAMIK_BAD_LENGTH, "03010002", 0},
+        {LUTSAMIK_BAD_LENGTH, "0301000280", 1},
+        {LUTSAMIK_BAD_LENGTH, "0301000280", 30},
+        {LUTSAMIK_BAD_LENGTH, "0301000280", 31},
+        {LUTSAMIK_BAD_LENGTH, "0301000280", 32},
+        {LUTSAMIK_BAD_LENGTH, "0301000280", 250},
+        {LUTSAMIK_BAD_LENGTH, "0301000280", 251},
+        {LUTSAMIK_BAD_LENGTH, "0301000280", 65531},
+        {LUTSAMIK_BAD_COUNT, "0305", 0},
+        {LUTSAMIK_BAD_COUNT, "0305", 34},
+        {LUTSAMIK_UNKNOWN, "03010003", 0},
+        {LUTSAMIK_UNKNOWN, "0301000102", 31},
+        {LUTSAMIK_BAD_NUMBERING, "0301000181", 0},
+        {LUTSAMIK_BAD_NUMBERING, "0301000181", 251},
+        {LUTSAMIK_FREE_VARIABLE, "0300010180", 0},
+        {LUTSAMIK_BAD_LENGTH, "0300010180", 31},
+    };
+    struct lent lent;
+    lend(&lent, "K6");
+    read_ticket(&lent);
+    for (size_t i = 0; i < sizeof rules / sizeof *rules; i++)
+        refused_rule(rules[i].refusal, rules[i].digits, rules[i].zeros, &lent);
+    take_back(&lent);
+    lend(&lent, "K11");
+    read_ticket(&lent);
+    refused_rule(LUTSAMIK_TOO_MANY_MARKS, "030100000000", 0, &lent);
+    take_back(&lent);
+}
+
+/* Each byte of a slip is complemented in turn: the number of clauses, the length, the kind, two counts, a predicate and
+ * an argument of K6's. The bytes past its frame do not matter. */
+static void mangled_slips(void) {
+    static const unsigned refusals_by[] = {LUTSAMIK_STALE_SLIP, LUTSAMIK_BAD_LENGTH, LUTSAMIK_BAD_KIND, LUTSAMIK_BAD_COUNT,
+                                           LUTSAMIK_BAD_COUNT,  LUTSAMIK_UNKNOWN,    LUTSAMIK_UNKNOWN};
+    struct lent lent;
+    lend(&lent, "K6");
+    put_digits(&lent.of[FRAME], "0301000280");
+    for (size_t place = 0; place < required[SLIP]; place++) {
+        read_ticket(&lent);
+        check_result(LUTSAMIK_OK, OFFER, &lent, call(OFFER, &lent));
+        lent.of[SLIP].bytes[place] ^= 0xFF;
+        keep_all(&lent);
+        if (place < sizeof refusals_by / sizeof *refusals_by)
+            refused(refusals_by[place], SET, &lent);
+        else
+            check_result(LUTSAMIK_OK, SET, &lent, call(SET, &lent));
+    }
+    take_back(&lent);
+}
+
+/* A ticket is filled up to 64 clauses; then there is no room for another, whatever stands after its kind. */
+static void full_ticket(void) {
+    struct lent lent;
+    lend(&lent, "K6");
+    read_ticket(&lent);
+    for (int clauses = 4; clauses < 64; clauses++) {
+        check_result(LUTSAMIK_OK, OFFER, &lent, call(OFFER, &lent));
+        check_result(LUTSAMIK_OK, SET, &lent, call(SET, &lent));
+    }
+    static const char *const rules[] = {"030000", "03", "0301000181", "03010003"};
+    for (size_t i = 0; i < sizeof rules / sizeof *rules; i++) {
+        put_digits(&lent.of[FRAME], rules[i]);
+        keep_all(&lent);
+        refused(LUTSAMIK_BAD_COUNT, OFFER, &lent);
+    }
+    refused(LUTSAMIK_STALE_SLIP, SET, &lent);
+    lent.of[SLIP].bytes[0] = 64;
+    keep_all(&lent);
+    refused(LUTSAMIK_BAD_COUNT, SET, &lent);
+    put_digits(&lent.of[FRAME], "02");
+    keep_all(&lent);
+    refused(LUTSAMIK_BAD_KIND, OFFER, &lent);
+    take_back(&lent);
+}
+
 /* A text that ends with a line is refused by 2 at the next, for want of FF, and one that ends within a line by 1. */
 static uint64_t cut_short(const struct buffer *text) {
     uint64_t line = 1;
@@ -170,6 +282,9 @@ int main(void) {
     filled_tables();
     bad_answers();
     lacking_instances();
+    refused_rules();
+    mangled_slips();
+    full_ticket();
     cut_texts();
     refused_ticket("K10_refused", LUTSAMIK_TOO_MANY_ATOMS, 3);
     refused_ticket("K11_refused", LUTSAMIK_TOO_MANY_MARKS, 7);

@@ -43,14 +43,14 @@ static void require(bool holds, const char *what) {
 
 /* ---- Buffers ---- */
 
-enum buffer { TEXT, TABLE, OUT, RULES, ANSWER, WORK, BUFFERS };
+enum buffer { TEXT, FRAME, TABLE, OUT, SLIP, RULES, ANSWER, WORK, BUFFERS };
 
 static const size_t required[BUFFERS] = {
-    [TABLE] = LUTSAMIK_TABLE_BYTES,   [OUT] = LUTSAMIK_TEXT_BYTES,   [RULES] = LUTSAMIK_RULES_BYTES,
-    [ANSWER] = LUTSAMIK_ANSWER_BYTES, [WORK] = LUTSAMIK_WORK_BYTES,
+    [TABLE] = LUTSAMIK_TABLE_BYTES, [OUT] = LUTSAMIK_TEXT_BYTES,      [SLIP] = LUTSAMIK_SLIP_BYTES,
+    [RULES] = LUTSAMIK_RULES_BYTES, [ANSWER] = LUTSAMIK_ANSWER_BYTES, [WORK] = LUTSAMIK_WORK_BYTES,
 };
 
-/* What the host puts into a buffer, and goes on with after a call: a text, a table, an answer. */
+/* What the host puts into a buffer, and goes on with after a call: a text, a frame, a table, a slip, an answer. */
 static struct {
     uint8_t bytes[LONGEST_TEXT];
     size_t len;
@@ -81,7 +81,7 @@ static void protect(enum buffer which, int protection) {
 
 static void map_pages(enum buffer which) {
     size_t page = (size_t)sysconf(_SC_PAGESIZE);
-    size_t most = (which == TEXT ? LONGEST_TEXT : required[which]) + MORE;
+    size_t most = (required[which] == 0 ? LONGEST_TEXT : required[which]) + MORE;
     pages[which].size = (most + page - 1) / page * page;
     uint8_t *all = mmap(NULL, page + pages[which].size + page, PROT_NONE, MAP_PRIVATE | MAP_ANONYMOUS, -1, 0);
     require(all != MAP_FAILED, "there are pages");
@@ -136,28 +136,31 @@ static bool untouched_past(enum buffer which, size_t first) {
            memcmp(lent[which].memory + to, lent[which].copy + to, lent[which].size - to) == 0;
 }
 
-/* None, one byte, one less than required, as many, one more, or more; mostly enough. The text's own length counts as required. */
+/* None, one byte, one less than required, as many, one more, or more; mostly enough. The own length of a text or a frame counts as required. */
 static size_t any_length(enum buffer which, bool near) {
-    size_t enough = which == TEXT ? held[TEXT].len : required[which];
+    size_t enough = required[which] == 0 ? held[which].len : required[which];
     size_t lengths[] = {0, 1, enough == 0 ? 0 : enough - 1, enough, enough + 1, enough + MORE};
     if (near)
         return lengths[below(6)];
-    return lengths[which == TEXT ? 3 : 3 + below(3)];
+    return lengths[required[which] == 0 ? 3 : 3 + below(3)];
 }
 
 static void keep(enum buffer which) { memcpy(held[which].bytes, lent[which].bytes, held[which].len = required[which]); }
 
 /* ---- Operations ---- */
 
-enum operation { READ, WRITE, REWRITE, FIT_RELEVANCY, FIT_MAGIC, JUDGE, HOLDING, OPERATIONS };
+enum operation { READ, WRITE, OFFER, SET, REWRITE, FIT_RELEVANCY, FIT_MAGIC, JUDGE, HOLDING, OPERATIONS };
 
-static const char *const names[OPERATIONS] = {"read", "write", "rewrite", "fit_relevancy", "fit_magic", "judge", "holding"};
+static const char *const names[OPERATIONS] = {"read",          "write",     "offer", "set",    "rewrite",
+                                             "fit_relevancy", "fit_magic", "judge", "holding"};
 
 /* Which buffers each is lent: to be read, or to be written to. */
 enum use { NOT_LENT, CONST, WRITTEN };
 static const enum use uses[OPERATIONS][BUFFERS] = {
     [READ] = {[TEXT] = CONST, [TABLE] = WRITTEN},
     [WRITE] = {[TABLE] = CONST, [OUT] = WRITTEN},
+    [OFFER] = {[TABLE] = CONST, [FRAME] = CONST, [SLIP] = WRITTEN},
+    [SET] = {[TABLE] = WRITTEN, [SLIP] = CONST},
     [REWRITE] = {[TABLE] = CONST, [RULES] = WRITTEN},
     [FIT_RELEVANCY] = {[TABLE] = CONST, [ANSWER] = WRITTEN, [WORK] = WRITTEN},
     [FIT_MAGIC] = {[TABLE] = CONST, [RULES] = WRITTEN, [ANSWER] = WRITTEN, [WORK] = WRITTEN},
@@ -183,6 +186,10 @@ static uint64_t invoke(enum operation operation) {
         return lutsamik_read(LENT(TEXT), LENT(TABLE));
     case WRITE:
         return lutsamik_write(LENT(TABLE), LENT(OUT));
+    case OFFER:
+        return lutsamik_offer(LENT(TABLE), LENT(FRAME), LENT(SLIP));
+    case SET:
+        return lutsamik_set(LENT(TABLE), LENT(SLIP));
     case REWRITE:
         return lutsamik_rewrite(LENT(TABLE), LENT(RULES));
     case FIT_RELEVANCY:
@@ -199,6 +206,25 @@ static uint64_t invoke(enum operation operation) {
 static void has_read(void) {
     keep(TABLE);
     is_fitted = false;
+}
+
+/* The slip has the frame, and can be set in this table. */
+static void has_offered(void) {
+    uint8_t table[LUTSAMIK_TABLE_BYTES];
+    require(lent[FRAME].len <= LUTSAMIK_SLIP_BYTES - 2 && lent[SLIP].bytes[1] == lent[FRAME].len, "a slip has room for the frame");
+    require(memcmp(lent[SLIP].bytes + 2, lent[FRAME].bytes, lent[FRAME].len) == 0, "a slip has the frame");
+    memcpy(table, lent[TABLE].bytes, sizeof table);
+    require(lutsamik_set(table, sizeof table, LENT(SLIP)) == LUTSAMIK_OK, "what was offered can be set");
+    keep(SLIP);
+}
+
+/* The table is some ticket's, and the slip stale. The next calls go on with it. */
+static void has_set(void) {
+    uint8_t out[LUTSAMIK_TEXT_BYTES];
+    require(lutsamik_refusal(lutsamik_write(LENT(TABLE), out, sizeof out)) == LUTSAMIK_OK, "what setting leaves is a table");
+    keep(TABLE);
+    is_fitted = false;
+    require(lutsamik_set(LENT(TABLE), LENT(SLIP)) == LUTSAMIK_STALE_SLIP, "a slip is not set twice");
 }
 
 /* What was written reads to the very table. */
@@ -245,6 +271,10 @@ static void has_done(enum operation operation, uint64_t answer) {
         has_read();
     else if (operation == WRITE)
         has_written(answer);
+    else if (operation == OFFER)
+        has_offered();
+    else if (operation == SET)
+        has_set();
     else if (operation == REWRITE)
         require(lutsamik_rules(answer) <= 320, "there are no more rules than 320");
     else if (operation == JUDGE)
@@ -267,8 +297,12 @@ static void check(enum operation operation, uint64_t answer) {
         require(untouched_past(which, is_written ? required[which] : 0), "no byte is touched that may not be");
     }
     require((refusal == LUTSAMIK_SHORT_BUFFER) == is_short, "a short buffer is refused by 11, and nothing else is");
-    require(refusal <= LUTSAMIK_BAD_ANSWER || (refusal == LUTSAMIK_NO_INSTANCE && operation == HOLDING), "there is such a refusal");
-    require((lutsamik_line(answer) > 0 && operation == READ) || refusal == LUTSAMIK_OK || refusal > 10, "a fault has a line");
+    require(refusal <= LUTSAMIK_BAD_ANSWER || (refusal == LUTSAMIK_NO_INSTANCE && operation == HOLDING) ||
+                (refusal == LUTSAMIK_STALE_SLIP && operation == SET),
+            "there is such a refusal");
+    bool is_fault = refusal != LUTSAMIK_OK && refusal <= LUTSAMIK_TOO_MANY_MARKS;
+    require(!is_fault || operation == READ || operation == OFFER || operation == SET, "only what is read or offered has a fault");
+    require(refusal == LUTSAMIK_OK || (lutsamik_line(answer) > 0) == (is_fault && operation == READ), "a fault that is read has a line, and no other");
     met[operation][refusal]++;
     if (refusal == LUTSAMIK_OK)
         has_done(operation, answer);
@@ -301,8 +335,42 @@ static void damage_table(void) {
     is_fitted = false;
 }
 
+static size_t value_of(uint8_t digit) { return digit <= '9' ? (size_t)digit - '0' : (size_t)digit - 'A' + 10; }
+
+/* Any line of the held text from its second third on, where clauses are likely, as bytes; some are changed, cut off or go on. */
+static void any_frame(void) {
+    const uint8_t *text = held[TEXT].bytes;
+    uint8_t *frame = held[FRAME].bytes;
+    size_t at = held[TEXT].len / 3 + below(held[TEXT].len + 1 - held[TEXT].len / 3), len = 0;
+    while (at > 0 && text[at - 1] != '\n')
+        at--;
+    for (; at + 1 < held[TEXT].len && text[at] != '\n'; at += 2)
+        frame[len++] = (uint8_t)(value_of(text[at]) << 4 | (value_of(text[at + 1]) & 15));
+    if (len > 0 && once_in(6))
+        frame[below(len)] = (uint8_t)below(once_in(2) ? 256 : 6);
+    if (once_in(8))
+        len = below(len + 1);
+    for (size_t more = once_in(8) ? 1 + below(300) : 0; more > 0; more--)
+        frame[len++] = (uint8_t)below(4);
+    held[FRAME].len = len;
+}
+
+/* A slip that nobody has offered: with a frame, with other counts, or of any bytes. */
+static void any_slip(void) {
+    uint8_t *slip = held[SLIP].bytes;
+    size_t len = held[FRAME].len < LUTSAMIK_SLIP_BYTES - 2 ? held[FRAME].len : LUTSAMIK_SLIP_BYTES - 2;
+    any_bytes(slip, held[SLIP].len = LUTSAMIK_SLIP_BYTES);
+    if (once_in(6))
+        return;
+    slip[0] = once_in(4) ? (uint8_t)below(256) : held[TABLE].bytes[2];
+    slip[1] = once_in(6) ? (uint8_t)below(256) : (uint8_t)len;
+    memcpy(slip + 2, held[FRAME].bytes, len);
+}
+
 static void begin_day(void) {
     begin_random(seed);
+    any_bytes(held[SLIP].bytes, held[SLIP].len = LUTSAMIK_SLIP_BYTES);
+    held[FRAME].len = 0;
     any_bytes(held[TABLE].bytes, held[TABLE].len = LUTSAMIK_TABLE_BYTES);
     for (size_t i = 0; i < LUTSAMIK_ANSWER_BYTES; i++)
         held[ANSWER].bytes[i] = (uint8_t)below(2);
@@ -328,6 +396,10 @@ static void day(void) {
             held[TEXT].len = any_text(held[TEXT].bytes);
         else if (once_in(12))
             damage_table();
+        if (operation == OFFER || once_in(6))
+            any_frame();
+        if (operation == SET && once_in(2))
+            any_slip();
         if (once_in(6))
             held[ANSWER].bytes[below(24)] = (uint8_t)below(3);
         any_instance();
@@ -350,6 +422,8 @@ static void print_met(void) {
     require(verdicts[LUTSAMIK_NONE] > 0 && verdicts[LUTSAMIK_FITS] > 0 && verdicts[LUTSAMIK_SPENT] > 0, "each verdict comes");
     require(met[JUDGE][LUTSAMIK_BAD_ANSWER] > 0 && met[HOLDING][LUTSAMIK_BAD_ANSWER] > 0, "judging and holding refuse an answer");
     require(met[HOLDING][LUTSAMIK_NO_INSTANCE] > 0, "holding refuses an instance");
+    require(met[SET][LUTSAMIK_STALE_SLIP] > 0, "setting refuses a stale slip");
+    require(met[OFFER][LUTSAMIK_BAD_KIND] > 0 && met[OFFER][LUTSAMIK_BAD_LENGTH] > 0 && met[SET][LUTSAMIK_BAD_LENGTH] > 0, "rules are refused");
 }
 
 int main(int many, char **arguments) {

@@ -13,6 +13,7 @@ static const char K6[] = COUNTS THREE "03020002800001\nFF04\n";
 
 static uint8_t table[LUTSAMIK_TABLE_BYTES];
 static uint8_t out[LUTSAMIK_TEXT_BYTES];
+static uint8_t slip[LUTSAMIK_SLIP_BYTES];
 static uint8_t rules[LUTSAMIK_RULES_BYTES];
 static uint8_t answer[LUTSAMIK_ANSWER_BYTES];
 static uint8_t work[LUTSAMIK_WORK_BYTES];
@@ -93,6 +94,28 @@ static int judges(void) {
     return 0;
 }
 
+/* K1 with the clause that K6 has last: it is offered, set, and written out; set again it is refused. */
+static int adds(void) {
+    static const uint8_t rule[] = {0x03, 0x02, 0x00, 0x02, 0x80, 0x00, 0x01};
+    static const char longer[] = COUNTS THREE "0301000280\n03020002800001\nFF05\n";
+    uint64_t result = lutsamik_offer(table, sizeof table, rule, sizeof rule, slip, sizeof slip);
+    if (lutsamik_refusal(result) != LUTSAMIK_OK || slip[0] != 4 || slip[1] != sizeof rule)
+        return fail("a rule cannot be added to K1", result);
+    result = lutsamik_set(table, sizeof table, slip, sizeof slip);
+    if (lutsamik_refusal(result) != LUTSAMIK_OK)
+        return fail("a rule is not set in K1", result);
+    result = lutsamik_write(table, sizeof table, out, sizeof out);
+    if (lutsamik_written(result) != sizeof longer - 1 || memcmp(out, longer, sizeof longer - 1) != 0)
+        return fail("K1 with a rule is not written out", result);
+    result = lutsamik_set(table, sizeof table, slip, sizeof slip);
+    if (lutsamik_refusal(result) != LUTSAMIK_STALE_SLIP)
+        return fail("a slip is set twice", result);
+    result = lutsamik_offer(table, sizeof table, rule, sizeof rule - 1, slip, sizeof slip);
+    if (lutsamik_refusal(result) != LUTSAMIK_BAD_LENGTH || lutsamik_line(result) != 0)
+        return fail("a rule with a byte missing can be added", result);
+    return 0;
+}
+
 static int is_fit(uint64_t result, unsigned verdict, uint32_t count) {
     return lutsamik_refusal(result) == LUTSAMIK_OK && lutsamik_verdict(result) == verdict &&
            lutsamik_count(result) == count;
@@ -141,8 +164,8 @@ static int says_how_many_hold(void) {
 }
 
 int main(void) {
-    if (takes_apart() || refuses() || reads_and_writes() || judges() || rewrites_and_fits_none() || fits_and_judges() ||
-        says_how_many_hold())
+    if (takes_apart() || refuses() || reads_and_writes() || judges() || rewrites_and_fits_none() || adds() ||
+        fits_and_judges() || says_how_many_hold())
         return 1;
     puts("smoke: results are taken apart, and each operation answers for K1 or K6");
     return 0;
