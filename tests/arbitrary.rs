@@ -129,7 +129,7 @@ fn change_byte(random: &mut Random, frame: &mut [u8]) {
 }
 
 /// Bytes after a frame: a few, or up to a length at which a line or a byte ends; more of them at times.
-pub fn lengthen(random: &mut Random, frame: &mut Vec<u8>) {
+fn lengthen(random: &mut Random, frame: &mut Vec<u8>) {
     let few = frame.len() + random.within(1, 3);
     let len = random.pick(&[few, few, 35, 36, 37, 70, 255, 256, 257, 1000]).max(few);
     while frame.len() < len {

@@ -66,7 +66,10 @@ impl Run<Met> {
         let more = self.random.pick(&[0, 0, 1, 57]);
         table.extend(arbitrary::bytes(&mut self.random, more));
         let mut lent = Lent::of_table(table);
-        if lent.ticket.is_some() {
+        if let Some(ticket) = &lent.ticket {
+            if self.random.once_in(20) {
+                self.grows(ticket)?;
+            }
             self.offers(&lent)?;
             self.goes_on(&lent)?;
             self.slips(&lent)?;
@@ -87,6 +90,19 @@ impl Run<Met> {
             6 => tickets::marks_near_limit(random),
             _ => nearly_full(random),
         }
+    }
+
+    /// All clauses of a ticket, offered and set one after another, make its table out of the one without clauses.
+    fn grows(&mut self, ticket: &Ticket) -> Result<(), Report> {
+        let none = Ticket { clauses: Vec::new(), ..ticket.clone() };
+        let mut lent = Lent::of_table(reference::encode(&none));
+        for clause in &ticket.clauses {
+            let refused = |why: Why| format!("{why:?} of a clause of an accepted ticket");
+            let held = self.offer_over_any(&lent, &clause_frame(clause))?.map_err(refused)?;
+            lent = self.set(&lent, &held)?.map_err(refused)?;
+        }
+        self.tally.note(GROWN, "all".to_string());
+        same("the table of all clauses", dump(&reference::encode(ticket)), dump(&lent.table))
     }
 
     /// Frames of all kinds, and no bytes.
@@ -110,9 +126,10 @@ impl Run<Met> {
             Err(Why::OtherKind | Why::Full | Why::Count | Why::Unknown | Why::Numbering) => said,
             _ => Err(Why::LeftOver),
         };
-        for _ in 0..3 {
-            let mut longer = frame.clone();
-            arbitrary::lengthen(&mut self.random, &mut longer);
+        let lengths = [frame.len() + 1, 36, 37, self.random.within(38, 254), self.random.pick(&[255, 256]), self.random.pick(&[257, 258, 511, 65536])];
+        for len in lengths.into_iter().filter(|len| *len > frame.len()) {
+            let mut longer = arbitrary::bytes(&mut self.random, len);
+            longer[..frame.len()].copy_from_slice(&frame);
             same("a frame that goes on", expected, self.offer_over_any(lent, &longer)?.map(drop))?;
             self.tally.note(class(longer.len()), named(said.err()));
         }
@@ -287,6 +304,7 @@ const SETTINGS: &str = "settings";
 const STALE: &str = "43, else";
 const BETWEEN: &str = "offers in between, into";
 const ADDED: &str = "clauses set as number";
+const GROWN: &str = "clauses set that a ticket has";
 
 /// How far frames have gone on after a fault, or after all that is asked for.
 const LENGTHS: [&str; 6] = [
@@ -320,6 +338,7 @@ fn required() -> Vec<(&'static str, String)> {
     for length in LENGTHS {
         required.extend(of(length, |why| why >= Why::OtherKind && !matches!(why, Why::Missing | Why::LeftOver)));
     }
+    required.push((GROWN, "all".to_string()));
     required.extend(["another slip", "the same"].map(|name| (BETWEEN, name.to_string())));
     required.extend(["01", "63", "64"].map(|number| (ADDED, number.to_string())));
     required

@@ -1,4 +1,4 @@
-//! The words after a command: options, some with a value, and files.
+//! The words after a command: options, some with a value, files, and a rule.
 
 use crate::ending::{Ending, Failure};
 use crate::spell::counted;
@@ -12,6 +12,8 @@ pub struct Command {
     pub about: &'static str,
     pub help: &'static str,
     pub files: usize,
+    /// whether a rule follows the files
+    pub rule: bool,
     /// options with a value
     pub options: &'static [&'static str],
     /// options without one
@@ -19,9 +21,10 @@ pub struct Command {
     pub run: fn(&Arguments) -> Result<Ending, Failure>,
 }
 
+/// The words that are no options are the files, and then the rule.
 #[derive(Default)]
 pub struct Arguments {
-    files: Vec<OsString>,
+    words: Vec<OsString>,
     options: Vec<(&'static str, OsString)>,
     flags: Vec<&'static str>,
 }
@@ -33,18 +36,22 @@ impl Command {
         while let Some(word) = words.next() {
             self.take(word, &mut words, &mut arguments)?;
         }
-        match arguments.files.len() {
-            given if given == self.files && arguments.files.iter().filter(|file| *file == "-").count() < 2 => Ok(arguments),
-            given if given == self.files => Err(self.wrong("standard input can be named once")),
-            given => Err(self.wrong(&format!("{} takes {} and was given {given}", self.name, counted(self.files, "file")))),
+        let given = arguments.words.len();
+        if given != self.files + self.rule as usize {
+            let rule = if self.rule { " and a rule" } else { "" };
+            return Err(self.wrong(&format!("{} takes {}{rule} and was given {given}", self.name, counted(self.files, "file"))));
+        }
+        match arguments.words[..self.files].iter().filter(|file| *file == "-").count() {
+            0 | 1 => Ok(arguments),
+            _ => Err(self.wrong("standard input can be named once")),
         }
     }
 
-    /// Takes a word, and the next one where it is the word's value.
+    /// Takes a word, and the next one where it is the word's value. A rule may begin with its arrow, as no option does.
     fn take<'a>(&self, word: &'a OsString, rest: &mut impl Iterator<Item = &'a OsString>, into: &mut Arguments) -> Result<(), Failure> {
         let name = word.to_string_lossy();
-        if name == "-" || !name.starts_with('-') {
-            into.files.push(word.clone());
+        if name == "-" || !name.starts_with('-') || (self.rule && name.starts_with("->")) {
+            into.words.push(word.clone());
         } else if let Some(flag) = self.flags.iter().find(|flag| **flag == name) {
             into.flags.push(flag);
         } else if let Some(option) = self.options.iter().find(|option| **option == name) {
@@ -63,7 +70,13 @@ impl Command {
 
 impl Arguments {
     pub fn file(&self, i: usize) -> &OsStr {
-        &self.files[i]
+        &self.words[i]
+    }
+
+    /// The last word, of a command that takes a rule.
+    pub fn rule(&self) -> Result<&str, Failure> {
+        let rule = self.words.last().and_then(|word| word.to_str());
+        rule.ok_or_else(|| Failure::usage("the rule is not in UTF-8"))
     }
 
     pub fn has(&self, flag: &str) -> bool {

@@ -4,8 +4,8 @@ use crate::frame::{Fault, Frame};
 use crate::spell::{counted, hex};
 use crate::ticket::{Atom, Clause, Ticket, FIRST_VARIABLE};
 
-const MOST_CLAUSES: usize = 64;
-const MOST_SUM: usize = 16384;
+pub const MOST_CLAUSES: usize = 64;
+pub const MOST_SUM: usize = 16384;
 const LAST_CONSTANT: u8 = 0x1F;
 const LAST_VARIABLE: u8 = 0x83;
 
@@ -26,6 +26,14 @@ pub fn clause(ticket: &mut Ticket, frame: &mut Frame) -> Result<(), Fault> {
         return Err(Fault::whole(10, format!("with this clause the sum is {sum}")));
     }
     Ok(())
+}
+
+/// The ticket with the clause of these bytes, of which the first is a clause line's kind.
+pub fn with_clause(ticket: &Ticket, bytes: &[u8]) -> Result<Ticket, Fault> {
+    let (mut longer, mut frame) = (ticket.clone(), Frame::of_bytes(bytes));
+    frame.next("the kind")?;
+    clause(&mut longer, &mut frame)?;
+    Ok(longer)
 }
 
 /// A clause line, with how many different variables it has so far.

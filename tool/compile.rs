@@ -17,6 +17,7 @@ alone is printed. The other commands take a sheet too. docs/LANGUAGE.md has the
 language.
 Example: ./lutsamik compile -o /tmp/heads.text examples/heads.rules",
     files: 1,
+    rule: false,
     options: &["-o"],
     flags: &[],
     run: compile,
@@ -30,6 +31,7 @@ pub const SHOW: Command = Command {
 Prints a ticket as a sheet of rules, which compiles to the same ticket.
 Example: ./lutsamik show crates/cases/data/K6.text",
     files: 1,
+    rule: false,
     options: &[],
     flags: &[],
     run: show,

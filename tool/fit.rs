@@ -21,6 +21,7 @@ On a terminal a long walk shows about how many entries it has made. That is an
 estimate, from the rate of a shorter walk of the same ticket.
 Example: ./lutsamik fit crates/cases/data/K6.text",
     files: 1,
+    rule: false,
     options: &["--engine", "--limit"],
     flags: &["--lines"],
     run,

@@ -43,6 +43,11 @@ impl Frame {
         }
     }
 
+    /// These bytes, however many.
+    pub fn of_bytes(bytes: &[u8]) -> Frame {
+        Frame { bytes: bytes.to_vec(), taken: 0 }
+    }
+
     /// The next byte, which is asked for as `what`.
     pub fn next(&mut self, what: &str) -> Result<u8, Fault> {
         match self.bytes.get(self.taken) {

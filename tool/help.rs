@@ -15,11 +15,11 @@ FILE is a ticket's text or a sheet of rules; - is standard input.
 './lutsamik help COMMAND' has a command's options and an example.
 
 Exit statuses:
-   0  fits; accepted; a fitting; done
+   0  fits; accepted; can be added; a fitting; done
   10  none
   20  spent
-   1  a ticket, a sheet, an answer or an instance is refused, or the answer is no
-      fitting
+   1  a ticket, a sheet, a rule, an answer or an instance is refused, or the answer
+      is no fitting
    2  the command line is wrong, or a file cannot be read or written
    3  two ways to one answer disagree: a defect, never the ticket's fault
    4  the tool could not be built

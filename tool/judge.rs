@@ -24,6 +24,7 @@ ANSWER has what 'fit' or 'fit --lines' prints, or an atom in each line, or a byt
 0 or 1 for each atom.
 Example: ./lutsamik fit crates/cases/data/K6.text | ./lutsamik judge --at 3,00 crates/cases/data/K6.text -",
     files: 2,
+    rule: false,
     options: &["--at"],
     flags: &[],
     run,

@@ -30,6 +30,12 @@ pub struct Compiled {
     pub names: Names,
 }
 
+/// The bytes of a rule's clause line, and what the rule has that no ticket's can, in words of the language.
+pub struct Rule {
+    pub frame: Vec<u8>,
+    pub beyond: Option<Error>,
+}
+
 /// What is wrong with a sheet, and where: line and column count from 1, columns in characters.
 #[derive(Clone, Debug, PartialEq, Eq)]
 pub struct Error {
@@ -42,6 +48,12 @@ impl Error {
     fn at(place: Place, message: impl Into<String>) -> Error {
         Error { line: place.line, column: place.column, message: message.into() }
     }
+}
+
+/// One rule by these names. Whether a ticket can have it is left to Lutsamik.
+pub fn rule(source: &str, names: &Names) -> Result<Rule, Error> {
+    let rule = sheet::read_rule(source)?;
+    Ok(Rule { frame: clauses::frame_of_any(&rule, names)?, beyond: clauses::frame(&rule, names).err() })
 }
 
 /// The ticket text of a sheet. Lutsamik's reading accepts it.

@@ -11,12 +11,17 @@ const RULES: usize = 16384;
 const ANSWER: usize = 1024;
 const WORK: usize = 65536;
 const TEXT_OUT: usize = 7168;
+const SLIP: usize = 37;
 
 const BAD_ANSWER: u8 = 32;
 const NO_INSTANCE: u8 = 44;
 
 /// A ticket that the library accepted, as it keeps it.
+#[derive(PartialEq, Eq)]
 pub struct Table(Vec<u8>);
+
+/// A rule that was offered to a ticket, as the library keeps it.
+pub struct Slip(Vec<u8>);
 
 /// A reading refused by 1 to 10, at a line that counts from 1.
 #[derive(Clone, Copy, Debug, PartialEq, Eq)]
@@ -108,6 +113,25 @@ pub fn write(table: &Table) -> Result<Vec<u8>, Failure> {
     let answer = accepted("lutsamik_write", calls::write(&table.0, &mut out))?;
     out.truncate(high(answer) as usize);
     Ok(out)
+}
+
+/// Offers the bytes of a clause line: a slip, or the number by which reading would refuse the line.
+pub fn offer(table: &Table, frame: &[u8]) -> Result<Result<Slip, u8>, Failure> {
+    let mut slip = vec![0; SLIP];
+    let answer = calls::offer(&table.0, frame, &mut slip);
+    match refusal(answer) {
+        number @ (2 | 3 | 5..=8 | 10) => Ok(Err(number)),
+        _ => accepted("lutsamik_offer", answer).map(|_| Ok(Slip(slip))),
+    }
+}
+
+/// The ticket with the rule of a slip, which was offered to it.
+pub fn set(table: &Table, slip: &Slip) -> Result<Table, Failure> {
+    let mut longer = table.0.clone();
+    match refusal(calls::set(&mut longer, &slip.0)) {
+        0 => Ok(Table(longer)),
+        number => Err(Failure::disagreement(format!("lutsamik_set refuses a rule that was just offered, with {number}"))),
+    }
 }
 
 /// The number of magic rules.

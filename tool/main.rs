@@ -1,4 +1,5 @@
 //! Lutsamik at a terminal: commands over the proved library.
+mod add;
 mod answer;
 mod arguments;
 mod check;
@@ -33,7 +34,8 @@ use std::ffi::OsString;
 use std::io::{self, ErrorKind, Write};
 use std::process::ExitCode;
 
-const COMMANDS: [Command; 6] = [fit::COMMAND, read::COMMAND, judge::COMMAND, trail::COMMAND, compile::COMPILE, compile::SHOW];
+const COMMANDS: [Command; 7] =
+    [fit::COMMAND, read::COMMAND, add::COMMAND, judge::COMMAND, trail::COMMAND, compile::COMPILE, compile::SHOW];
 
 fn main() -> ExitCode {
     let words: Vec<OsString> = env::args_os().skip(1).collect();

@@ -17,6 +17,7 @@ Says whether a ticket is accepted. Where it is refused: the refusal's number and
 line, the line itself, the rule it breaks, and what stands there instead.
 Example: ./lutsamik read crates/cases/data/K10_refused.text",
     files: 1,
+    rule: false,
     options: &[],
     flags: &[],
     run,
@@ -72,20 +73,22 @@ fn refused(text: &[u8], Refusal { number, line }: Refusal) -> String {
     let found = parse(text).err().filter(|(at, fault)| *at == line && fault.number == number);
     let stands = text.split(|byte| *byte == b'\n').nth(line - 1).unwrap_or_default();
     if !stands.is_empty() {
-        printed += &shown(line, stands, found.as_ref().and_then(|(_, fault)| fault.digits.clone()));
+        printed += &shown(&format!("line {line}: "), stands, found.as_ref().and_then(|(_, fault)| fault.digits.clone()));
     }
     if let Some((_, Fault { words, .. })) = &found {
         printed += &format!("here: {words}\n");
     }
-    match RULES.get((number as usize).wrapping_sub(1)) {
-        Some(rule) => printed + &format!("rule {number}: {rule}\n"),
-        None => printed,
-    }
+    printed + &broken(number)
 }
 
-/// A line of the text, with marks under the digits at fault. What cannot be printed is shown as a question mark.
-fn shown(number: usize, line: &[u8], digits: Option<Range<usize>>) -> String {
-    let heading = format!("line {number}: ");
+/// The rule that a refusal stands for, as a line.
+pub fn broken(number: u8) -> String {
+    let rule = RULES.get((number as usize).wrapping_sub(1));
+    rule.map_or(String::new(), |rule| format!("rule {number}: {rule}\n"))
+}
+
+/// A line of digits after some words, with marks under the digits at fault. What cannot be printed is shown as a question mark.
+pub fn shown(heading: &str, line: &[u8], digits: Option<Range<usize>>) -> String {
     let printable = |byte: &u8| if (b' '..=b'~').contains(byte) { *byte as char } else { '?' };
     let text: String = line.iter().take(SHOWN).map(printable).collect();
     let cut = if line.len() > SHOWN { " ..." } else { "" };

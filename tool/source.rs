@@ -16,6 +16,7 @@ pub struct Source {
     pub file: String,
     pub text: Vec<u8>,
     pub names: Option<Names>,
+    pub is_sheet: bool,
 }
 
 /// A ticket that the library accepted.
@@ -56,7 +57,7 @@ impl Source {
     pub fn open(file: &OsStr) -> Result<Source, Failure> {
         let bytes = bytes(file)?;
         if is_ticket(&bytes) {
-            return Ok(Source { file: called(file), names: names_beside(file, &bytes)?, text: bytes });
+            return Ok(Source { file: called(file), names: names_beside(file, &bytes)?, text: bytes, is_sheet: false });
         }
         Source::compile(file, &bytes)
     }
@@ -67,7 +68,7 @@ impl Source {
         let sheet = std::str::from_utf8(sheet).map_err(|_| Failure::refused(format!("{file} is neither a ticket's text nor a sheet in UTF-8")))?;
         let misspelt = |error: language::Error| Failure::refused(format!("{file}:{}:{}: {}", error.line, error.column, error.message));
         let compiled = language::compile(sheet).map_err(misspelt)?;
-        Ok(Source { file, text: compiled.text, names: Some(compiled.names) })
+        Ok(Source { file, text: compiled.text, names: Some(compiled.names), is_sheet: true })
     }
 
     /// The ticket, or a failure that tells the refusal's number and line.

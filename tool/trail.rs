@@ -28,6 +28,7 @@ predicates or atoms than a ticket can have; the place is then marked [unchecked]
 In any case the tree's verdict, count and fitting must be those of both engines.
 Example: ./lutsamik trail --svg /tmp/trail.svg crates/cases/data/example_1.text",
     files: 1,
+    rule: false,
     options: &["--entries", "--svg"],
     flags: &[],
     run,

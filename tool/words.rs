@@ -16,7 +16,7 @@ impl Accepted {
         atoms.iter().map(|atom| self.atom(atom)).collect()
     }
 
-    /// A clause with its variables.
+    /// A clause with its variables, by its number.
     pub fn rule(&self, clause: usize) -> String {
         let clause = &self.ticket.clauses[clause];
         self.implication(&clause.conditions, &clause.alternatives)

@@ -9,6 +9,8 @@
 #define TRUE(name) true_##name
 uint64_t TRUE(read)(const uint8_t *text, size_t text_len, uint8_t *table, size_t table_len);
 uint64_t TRUE(write)(const uint8_t *table, size_t table_len, uint8_t *out, size_t out_len);
+uint64_t TRUE(offer)(const uint8_t *table, size_t table_len, const uint8_t *frame, size_t frame_len, uint8_t *slip, size_t slip_len);
+uint64_t TRUE(set)(uint8_t *table, size_t table_len, const uint8_t *slip, size_t slip_len);
 uint64_t TRUE(judge)(const uint8_t *table, size_t table_len, const uint8_t *answer, size_t answer_len);
 uint64_t TRUE(holding)(const uint8_t *table, size_t table_len, const uint8_t *answer, size_t answer_len, uint32_t clause, uint32_t value_80,
                        uint32_t value_81, uint32_t value_82, uint32_t value_83);
@@ -34,6 +36,28 @@ uint64_t lutsamik_read(const uint8_t *text, size_t text_len, uint8_t *table, siz
 uint64_t lutsamik_write(const uint8_t *table, size_t table_len, uint8_t *out, size_t out_len) {
     uint64_t answer = TRUE(write)(table, table_len, out, out_len);
     if (lie("write")) out[0] = '1';
+    return answer;
+}
+
+/* Any rule can be added, or none, since the sum would pass its limit. */
+uint64_t lutsamik_offer(const uint8_t *table, size_t table_len, const uint8_t *frame, size_t frame_len, uint8_t *slip, size_t slip_len) {
+    uint64_t answer = TRUE(offer)(table, table_len, frame, frame_len, slip, slip_len);
+    if (lie("offer")) return LUTSAMIK_OK;
+    return lie("no offer") ? LUTSAMIK_TOO_MANY_MARKS : answer;
+}
+
+/* Nothing is set, the rule is refused, the ticket has another limit afterwards, or the rule is set twice. */
+uint64_t lutsamik_set(uint8_t *table, size_t table_len, const uint8_t *slip, size_t slip_len) {
+    if (lie("set nothing")) return LUTSAMIK_OK;
+    if (lie("set not")) return LUTSAMIK_BAD_COUNT;
+    uint64_t answer = TRUE(set)(table, table_len, slip, slip_len);
+    uint8_t again[LUTSAMIK_TABLE_BYTES];
+    if (lie("set other")) table[7] ^= 1;
+    if (lie("set twice")) {
+        memcpy(again, slip, slip_len);
+        again[0]++;
+        TRUE(set)(table, table_len, again, slip_len);
+    }
     return answer;
 }
 

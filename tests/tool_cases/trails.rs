@@ -74,7 +74,7 @@ fn run(run: &mut Run<Met>, many: u64) -> Result<(), Report> {
 }
 
 fn compare(ticket: &reference::Ticket, text: &[u8], tally: &mut Met) -> Result<(), Report> {
-    let accepted = Source { file: "ticket".to_string(), text: text.to_vec(), names: None }.accepted().map_err(|failure| failure.message)?;
+    let accepted = Source { file: "ticket".to_string(), text: text.to_vec(), names: None, is_sheet: false }.accepted().map_err(|failure| failure.message)?;
     let trail = tree::trail(&accepted).map_err(|failure| failure.message)?;
     let mut expected = Vec::new();
     let outcome = walk::walk(&Relevancy::new(ticket), LIMIT, &mut |entered, place| expected.push((entered.to_vec(), place.found.clone())));

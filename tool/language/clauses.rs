@@ -32,7 +32,7 @@ pub fn frames(rules: &[Rule], names: &Names) -> Result<Vec<Vec<u8>>, Error> {
 }
 
 /// A rule's frame and its number of variables.
-fn frame(rule: &Rule, names: &Names) -> Result<(Vec<u8>, u32), Error> {
+pub fn frame(rule: &Rule, names: &Names) -> Result<(Vec<u8>, u32), Error> {
     few("condition", &rule.conditions)?;
     few("alternative", &rule.alternatives)?;
     let frame = vec![CLAUSE, rule.conditions.len() as u8, rule.alternatives.len() as u8];
@@ -40,6 +40,15 @@ fn frame(rule: &Rule, names: &Names) -> Result<(Vec<u8>, u32), Error> {
     rule.conditions.iter().try_for_each(|atom| clause.add(atom, Clause::any_variable))?;
     rule.alternatives.iter().try_for_each(|atom| clause.add(atom, Clause::known_variable))?;
     Ok((clause.frame, clause.variables.len() as u32))
+}
+
+/// A rule's frame, however many conditions, alternatives and variables it has, and wherever these stand. Numbers that a byte cannot hold are the
+/// largest ones that it can.
+pub fn frame_of_any(rule: &Rule, names: &Names) -> Result<Vec<u8>, Error> {
+    let [n, m] = [&rule.conditions, &rule.alternatives].map(|atoms| u8::try_from(atoms.len()).unwrap_or(u8::MAX));
+    let mut clause = Clause { names, variables: Vec::new(), frame: vec![CLAUSE, n, m] };
+    rule.conditions.iter().chain(&rule.alternatives).try_for_each(|atom| clause.add(atom, Clause::next_variable))?;
+    Ok(clause.frame)
 }
 
 fn few(what: &str, atoms: &[Atom]) -> Result<(), Error> {
@@ -71,7 +80,7 @@ impl<'a> Clause<'a> {
         self.frame.push(predicate);
         for argument in &atom.arguments {
             let byte = match argument.kind {
-                Kind::Variable => FIRST_VARIABLE + variable(self, argument)? as u8,
+                Kind::Variable => u8::try_from(FIRST_VARIABLE as usize + variable(self, argument)?).unwrap_or(u8::MAX),
                 _ => self.constant(argument)?,
             };
             self.frame.push(byte);
@@ -90,8 +99,16 @@ impl<'a> Clause<'a> {
         if self.variables.len() == MOST_VARIABLES {
             return Err(Error::at(word.place, format!("'{}' is one variable too many: a rule has at most {MOST_VARIABLES}", word.text)));
         }
-        self.variables.push(word.text);
-        Ok(self.variables.len() - 1)
+        self.next_variable(word)
+    }
+
+    /// Without a limit.
+    fn next_variable(&mut self, word: &Word<'a>) -> Result<usize, Error> {
+        let number = self.number(word).unwrap_or(self.variables.len());
+        if number == self.variables.len() {
+            self.variables.push(word.text);
+        }
+        Ok(number)
     }
 
     fn known_variable(&mut self, word: &Word<'a>) -> Result<usize, Error> {

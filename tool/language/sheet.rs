@@ -47,6 +47,18 @@ pub fn read(source: &str) -> Result<Sheet<'_>, Error> {
     Ok(sheet)
 }
 
+/// One rule by itself, of which the full stop may be left out.
+pub fn read_rule(source: &str) -> Result<Rule<'_>, Error> {
+    let mut words = words(source)?;
+    let end = words.len() - 1;
+    if end == 0 || words[end - 1].text != "." {
+        words.insert(end, Word { kind: Kind::Sign, text: ".", place: words[end].place });
+    }
+    let mut reader = Reader { words, at: 0 };
+    let rule = reader.rule()?;
+    if reader.next().kind == Kind::End { Ok(rule) } else { Err(reader.expected("one rule")) }
+}
+
 /// The words of a sheet, and how many of them are read. The last one, its end, is never passed.
 struct Reader<'a> {
     words: Vec<Word<'a>>,
