@@ -14,7 +14,7 @@ use Rattle.ground.specs.declared.branch.NextBranch.{NextBranch}
 use Rattle.ground.proofs.AtomLaws.{Row, alts-row, alts-numbers}
 use Rattle.ground.proofs.Headings.{numbered-in}
 use Rattle.ground.proofs.Turns.{ClauseKnown, clause-known, numbers-take}
-use Rattle.walk.specs.contracts.Path.{numberAt, fourAt, nextAt, siteAt, altsAt}
+use Rattle.walk.specs.contracts.Path.{numberAt, fourAt, siteAt, altsAt}
 use Rattle.relevancy_walk.specs.contracts.Place.{instanceOf, relevancyWalker}
 
 module _ (tb : List ℕ) (h : Lawful tb) (path : List ℕ) (depth : ℕ) (listed : InstanceOf (problemIn tb) (instanceOf (siteAt (relevancyWalker tb) path depth))) where
@@ -56,6 +56,5 @@ module _ (tb : List ℕ) (h : Lawful tb) (path : List ℕ) (depth : ℕ) (listed
     pub slots-numbered : SlotsNumbered tb (144 + 56 * k + 32) 6 (getD tb (144 + 56 * k + 1) 0) values
     slots-numbered = rw (k-is, values-are) (record { few = site-row .few; each = λ i l. numbered-in tb h (144 + 56 * clause + 32 + 6 * i) four (site-row .numbered i l) })
 
-    pub slots-next : (n : ℕ) → n ≡ nextAt path depth → (r : NextBranch) → NextOf (branches (slotNumbers tb (144 + 56 * k + 32) 6 values (getD tb (144 + 56 * k + 1) 0))) n r
-        → NextOf (altsAt (relevancyWalker tb) path depth) (nextAt path depth) r
-    slots-next n n-is r next = rw (← alts-are, ← n-is, ← k-is, ← values-are) next
+    pub slots-next : (n : ℕ) (r : NextBranch) → NextOf (branches (slotNumbers tb (144 + 56 * k + 32) 6 values (getD tb (144 + 56 * k + 1) 0))) n r → NextOf (altsAt (relevancyWalker tb) path depth) n r
+    slots-next n r next = rw (← alts-are, ← k-is, ← values-are) next

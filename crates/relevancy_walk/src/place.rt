@@ -13,7 +13,7 @@ use walk::node::number;
 use walk::node::pass;
 use walk::node::values;
 ghost use mathlib.Core.Bool.{true, false};
-ghost use Prim.Native.Nat.{_<_};
+ghost use Prim.Native.Nat.{ℕ, _<_};
 ghost use Rattle.store.specs.contracts.Store.{Store};
 ghost use Rattle.problem.specs.Table.{Lawful};
 ghost use Rattle.relevancy_node.specs.contracts.Index.{ClausesIndexed};
@@ -23,23 +23,26 @@ ghost use Rattle.walk.specs.contracts.Path.{Room, nextAt, siteAt, altsAt};
 ghost use Rattle.walk.specs.contracts.Place.{Parted, Finding, Making, Beginning};
 ghost use Rattle.relevancy_walk.specs.contracts.Place.{relevancyWalker, TrueFresh};
 
+// Alternative j of the split node at `depth`.
+pub fn alternative_at(table: &[u8], path: &[u8], depth: usize, j: u8) -> NextBranch
+    requires { ⌜ Lawful (now table) ⌝ }
+    requires { ⌜ Room (now path) depth × (relevancyWalker (now table)) .Named (siteAt (relevancyWalker (now table)) (now path) depth) ⌝ }
+    ensures { λ r. ⌜ NextOf (altsAt (relevancyWalker (now (table .entry))) (now (path .entry)) depth) j r ⌝ }
+{
+    let four = values(path, depth);
+    let record = 144 + 56 * number(path, depth);
+    let count = table[record + 1] as usize;
+    branch_after(table, record + 32, 6, count, &four, j as usize)
+}
+
 // The alternative that the split node at `depth` enters next.
 pub fn alternative(table: &[u8], path: &[u8], depth: usize) -> NextBranch
     requires { ⌜ Lawful (now table) ⌝ }
     requires { ⌜ Room (now path) depth × (relevancyWalker (now table)) .Named (siteAt (relevancyWalker (now table)) (now path) depth) ⌝ }
     ensures { λ r. ⌜ NextOf (altsAt (relevancyWalker (now (table .entry))) (now (path .entry)) depth) (nextAt (now (path .entry)) depth) r ⌝ }
 {
-    let four = values(path, depth);
-    let record = 144 + 56 * number(path, depth);
-    let count = table[record + 1] as usize;
-    branch_after(
-        table,
-        record + 32,
-        6,
-        count,
-        &four,
-        next(path, depth) as usize,
-    )
+    let j = next(path, depth);
+    alternative_at(table, path, depth, j)
 }
 
 // Finds the place at `depth`, whose truths begin with n facts, of which `done` are worked off.
@@ -73,7 +76,29 @@ fn find(
     }
 }
 
-// Makes the next place, entry `count` + 1 of a run, where the limit allows one: enters atom a, the next alternative of the split node at `depth`.
+// Makes the next place: enters atom a, the next alternative of the split node at `depth`. It is the next entry of whatever run stands there.
+pub fn enter(
+    table: &[u8],
+    conds: &[u16; 384],
+    alts: &[u16; 384],
+    facts: &mut [u8],
+    path: &mut [u8],
+    depth: usize,
+    a: usize,
+) -> Found
+    requires { ⌜ Lawful (now table) ⌝ }
+    requires { ⌜ ClausesIndexed (now table) false (now conds) × ClausesIndexed (now table) true (now alts) ⌝ }
+    requires { ⌜ Parted (relevancyWalker (now table)) (now facts) (now path) depth ⌝ }
+    requires { ⌜ NextOf (altsAt (relevancyWalker (now table)) (now path) depth) (nextAt (now path) depth) (Atom a) ⌝ }
+    ensures { λ x. ⌜ ((count : ℕ) → Making (relevancyWalker (now (table .entry))) (now (facts .entry)) (now (path .entry)) depth count x (now (facts .exit)) (now (path .exit))) ⌝ }
+{
+    let own = mark(path, depth);
+    pass(path, depth);
+    let n = add(facts, 2050, own, a);
+    find(table, conds, alts, facts, path, depth + 1, n, own)
+}
+
+// Makes the next place as entry `count` + 1 of a run, where the limit allows one.
 pub fn place(
     table: &[u8],
     conds: &[u16; 384],
@@ -92,10 +117,7 @@ pub fn place(
     requires { ⌜ count < limit ⌝ }
     ensures { λ x. ⌜ Making (relevancyWalker (now (table .entry))) (now (facts .entry)) (now (path .entry)) depth count x (now (facts .exit)) (now (path .exit)) ⌝ }
 {
-    let own = mark(path, depth);
-    pass(path, depth);
-    let n = add(facts, 2050, own, a);
-    find(table, conds, alts, facts, path, depth + 1, n, own)
+    enter(table, conds, alts, facts, path, depth, a)
 }
 
 // Makes the root, in a set without facts.

@@ -1,45 +1,20 @@
 -- `relevancy_walk::place::alternative` meets its contract.
-use native.Mathlib.Omega.{arith}
+use Prim.Native.Nat.{ℕ}
+use mathlib.Core.Path.{subst}
 use borrow.Author.Needs.{needs}
-use Rattle.ground.proofs.AtomLaws.{lawful-headed}
-use Rattle.ground.proofs.Turns.{ClauseKnown}
-use Rattle.walk.specs.contracts.Path.{numberAt}
-use Rattle.relevancy_walk.proofs.AltLaws.{site-clause, slots-numbered, slots-next}
+use Rattle.ground.specs.contracts.Branching.{NextOf}
+use Rattle.walk.specs.contracts.Path.{altsAt}
+use Rattle.relevancy_walk.specs.contracts.Place.{relevancyWalker}
 use Rattle.relevancy_walk.proofs.place.alternative.Statement.{statement}
 use Rattle.relevancy_walk.proofs.place.alternative.Tie as tie
-
--- the clause that the node is split by is in the table
-clause : (s : tie.Start) → ClauseKnown (s .args .table .now) (numberAt (s .args .path .now) (s .args .depth))
-clause s = site-clause (s .args .table .now) (s .pre .0) (s .args .path .now) (s .args .depth) (s .pre .1 .1)
 
 pub alternative-spec : {M : Type 1} → statement M
 alternative-spec =
     tie.close
     (tie.spec
-    (λ c κs. search needs)  -- values-requires
-    (λ c κs. search needs)  -- number-requires
-    (λ c. omega (arith, clause (c .before .before .before .before) .few, c .number .ensures))  -- mul-record
-    (λ c. omega (arith, clause (c .before .before .before .before) .few, c .number .ensures))  -- add-record
-    (λ c. omega (arith, clause (c .before .before .before .before) .few, c .number .ensures))  -- add-count
-    (λ c. omega (arith, clause (c .before .before .before .before .before) .few, clause (c .before .before .before .before .before) .size, (c .before) .number .ensures))  -- shared-slice-read-count
-    (λ c.
-    let s = c .before .before .before .before .before in
-    let k = c .before .number in
-    let v = c .before .before .values in
-    omega (arith, (slots-numbered (s .args .table .now) (s .pre .0) (s .args .path .now) (s .args .depth) (s .pre .1 .1) (k .result) (v .result) (k .ensures) (v .ensures)) .few))  -- cast-count
-    (λ c. omega (arith, clause (c .before .before .before .before .before) .few, (c .before) .number .ensures))  -- add-branch-after
-    (λ c. search needs)  -- slice-aggregate-branch-after
     (λ c κs. search needs)  -- next-requires
-    (λ c. search needs)  -- cast-branch-after
-    (λ c κs.
-    let s = c .before .before .before .before .before .before .before in
-    let k = c .before .before .before .number in
-    let v = c .before .before .before .before .values in
-    (lawful-headed (s .args .table .now) (s .pre .0), slots-numbered (s .args .table .now) (s .pre .0) (s .args .path .now) (s .args .depth) (s .pre .1 .1) (k .result) (v .result) (k .ensures) (v .ensures)))  -- branch-after-requires
+    (λ c κs. search needs)  -- alternative-at-requires
     (λ c.
-    let s = c .before .before .before .before .before .before .before .before in
-    let k = c .before .before .before .before .number in
-    let v = c .before .before .before .before .before .values in
-    let n = c .before .next in
-    let b = c .branch-after in
-    slots-next (s .args .table .now) (s .pre .0) (s .args .path .now) (s .args .depth) (s .pre .1 .1) (k .result) (v .result) (k .ensures) (v .ensures) (n .result) (n .ensures) (b .result) (b .ensures)))  -- returns
+    let s = c .before .before .before .before in
+    let b = c .alternative-at in
+    subst (λ (j : ℕ). NextOf (altsAt (relevancyWalker (s .args .table .now)) (s .args .path .now) (s .args .depth)) j (b .result)) (c .before .next .ensures) (b .ensures)))  -- returns
