@@ -4,3 +4,4 @@ pub mod TrailLaws
 pub mod PlaceLaws
 pub mod WalkLaws
 pub mod TriedLaws
+pub mod ResumeLaws

@@ -11,7 +11,7 @@ use Rattle.lists.proofs.Digits.{two-back}
 use Rattle.search.specs.Ground.{Found, split}
 use Rattle.search.specs.Machine.{Branch, entered, enter, back, Genuine}
 use Rattle.walk.specs.contracts.Walker.{Site, Walker, Sound}
-use Rattle.walk.specs.contracts.Path.{Room, nodeAt, numberAt, fourAt, nextAt, markAt, PathKept, Noted, Passed, siteAt, altsAt, entryAt, entryBefore, pathIn, nextIn}
+use Rattle.walk.specs.contracts.Path.{Room, nodeAt, numberAt, fourAt, nextAt, markAt, PathKept, Noted, Passed, Turned, siteAt, altsAt, entryAt, entryBefore, pathIn, nextIn}
 use Rattle.walk.proofs.NodeRecord.{stored-byte, stored-first, stored-before, take-four}
 
 -- ---- a node's own bytes
@@ -70,27 +70,32 @@ module _ (path : List ℕ) (depth number a b c d mark : ℕ) (room : Room path d
         before = λ i l. stored-before path (nodeAt depth) (number % 256) (number / 256 % 256) a b c d 0 (mark % 256) (mark / 256 % 256) fits i l;
       }
 
--- ---- a node passed on
+-- ---- a node turned to another alternative, and passed on
 
 module _ (path : List ℕ) (depth : ℕ) (room : Room path depth) where
-  other : (i : ℕ) → (i ≡ nodeAt depth + 6 → ⊥) → getD (set path (nodeAt depth + 6) (nextAt path depth + 1)) i 0 ≡ getD path i 0
-  other i ne = getD-set-other path (nodeAt depth + 6) i (nextAt path depth + 1) 0 ne
+  other : (next i : ℕ) → (i ≡ nodeAt depth + 6 → ⊥) → getD (set path (nodeAt depth + 6) next) i 0 ≡ getD path i 0
+  other next i ne = getD-set-other path (nodeAt depth + 6) i next 0 ne
+
+  pub turned : (next : ℕ) → Turned path depth next (set path (nodeAt depth + 6) next)
+  turned next =
+      record {
+        number-is = rw (other next (nodeAt depth) (λ e. omega arith), other next (nodeAt depth + 1) (λ e. omega arith));
+        four =
+            rw (
+              other next (nodeAt depth + 2) (λ e. omega arith),
+              other next (nodeAt depth + 3) (λ e. omega arith),
+              other next (nodeAt depth + 4) (λ e. omega arith),
+              other next (nodeAt depth + 5) (λ e. omega arith),
+            );
+        next-is = getD-set-same path (nodeAt depth + 6) next 0 (omega (arith, room .size, room .deep));
+        mark-is = rw (other next (nodeAt depth + 7) (λ e. omega arith), other next (nodeAt depth + 8) (λ e. omega arith));
+        before = λ i l. other next i (λ e. omega arith);
+      }
 
   pub passed : Passed path depth (set path (nodeAt depth + 6) (nextAt path depth + 1))
   passed =
-      record {
-        number-is = rw (other (nodeAt depth) (λ e. omega arith), other (nodeAt depth + 1) (λ e. omega arith));
-        four =
-            rw (
-              other (nodeAt depth + 2) (λ e. omega arith),
-              other (nodeAt depth + 3) (λ e. omega arith),
-              other (nodeAt depth + 4) (λ e. omega arith),
-              other (nodeAt depth + 5) (λ e. omega arith),
-            );
-        next = getD-set-same path (nodeAt depth + 6) (nextAt path depth + 1) 0 (omega (arith, room .size, room .deep));
-        mark-is = rw (other (nodeAt depth + 7) (λ e. omega arith), other (nodeAt depth + 8) (λ e. omega arith));
-        before = λ i l. other i (λ e. omega arith);
-      }
+      let t = turned (nextAt path depth + 1) in
+      record { number-is = t .number-is; four = t .four; next = t .next-is; mark-is = t .mark-is; before = t .before }
 
 -- where the nodes from the next one on have changed since
 pub passed-still : (path went left : List ℕ) (depth : ℕ) → Passed path depth went → PathKept went (depth + 1) left → Passed path depth left

@@ -44,7 +44,7 @@ found-open (ToldSplit n) t = let z : _≡_ {A = ℕ} 2 1 = t in absurd (omega ar
 closed-unopened : {I : Type 0} (bits : List Bool) → _≡_ {A = Found I} closed (opened bits) → ⊥
 closed-unopened bits e = let z : _≡_ {A = ℕ} 0 1 = cc in omega arith
 
-split-unopened : {I : Type 0} (i : I) (ds : List ℕ) (bits : List Bool) → split i ds ≡ opened bits → ⊥
+pub split-unopened : {I : Type 0} (i : I) (ds : List ℕ) (bits : List Bool) → split i ds ≡ opened bits → ⊥
 split-unopened i ds bits e = let z : _≡_ {A = ℕ} 0 1 = cc in omega arith
 
 -- ---- untrue atoms
@@ -170,7 +170,7 @@ module _ {I : Type 0} (w : Walker I) (facts path : List ℕ) (depth : ℕ) (node
 
   -- one is entered, and it is shut: the next one is tried
   module _ (count : ℕ) (x : Told) (made-facts made : List ℕ) (went : Making w facts path depth count x made-facts made)
-      (limit c : ℕ) (after-facts after : List ℕ) (size : length after ≡ 9225) (shut : AllShut w made-facts made (depth + 1) (markAt path depth) (count + 1) limit c after-facts after) where
+      {from : ℕ} (limit c : ℕ) (after-facts after : List ℕ) (size : length after ≡ 9225) (shut : AllShut w made-facts made (depth + 1) (markAt path depth) from limit c after-facts after) where
     pub after-passed : Passed path depth after
     after-passed = passed-still path made after depth (went .passed) (shut .before)
 

@@ -4,3 +4,4 @@ pub mod Walker
 pub mod Path
 pub mod Place
 pub mod Walk
+pub mod Resume

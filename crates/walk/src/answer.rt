@@ -13,3 +13,9 @@ pub enum Walked {
     Opened(u32, usize),
     Exhausted(usize),
 }
+
+// How going on with a session ends: it is none of the walk, or as the walk from where it stands.
+pub enum Resumed {
+    Foreign,
+    On(Walked),
+}

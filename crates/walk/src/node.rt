@@ -51,6 +51,14 @@ pub fn pass(path: &mut [u8], depth: usize)
     path[at] = path[at] + 1;
 }
 
+// Turns to another alternative.
+pub fn turn(path: &mut [u8], depth: usize, next: u8)
+    requires { ⌜ Room (now path) depth ⌝ }
+    ensures { λ _. ⌜ now (path .exit) ≡ set (now (path .entry)) (nodeAt depth + 6) next ⌝ }
+{
+    path[9 * depth + 6] = next;
+}
+
 // Writes a split node down, with all alternatives left.
 pub fn note(path: &mut [u8], depth: usize, number: usize, a: u8, b: u8, c: u8, d: u8, mark: usize)
     requires { ⌜ Room (now path) depth ⌝ }

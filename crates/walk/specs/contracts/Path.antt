@@ -47,6 +47,14 @@ pub record Passed (path : List ℕ) (depth : ℕ) (left : List ℕ) : Type 0 whe
   pub mark-is : markAt left depth ≡ markAt path depth
   pub before : PathKept path depth left
 
+-- the node at a depth has another next alternative, and the nodes before it are kept
+pub record Turned (path : List ℕ) (depth next : ℕ) (left : List ℕ) : Type 0 where
+  pub number-is : numberAt left depth ≡ numberAt path depth
+  pub four : fourAt left depth ≡ fourAt path depth
+  pub next-is : nextAt left depth ≡ next
+  pub mark-is : markAt left depth ≡ markAt path depth
+  pub before : PathKept path depth left
+
 module _ {I : Type 0} (w : Walker I) where
   -- what node i is split at
   unfoldable pub siteAt : List ℕ → ℕ → Site

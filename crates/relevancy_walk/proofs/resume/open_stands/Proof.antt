@@ -1,0 +1,12 @@
+-- `relevancy_walk::resume::open_stands` meets its contract.
+use borrow.Author.Needs.{needs}
+use Rattle.walk.proofs.ResumeLaws.{open-none, open-on}
+use Rattle.relevancy_walk.proofs.resume.open_stands.Statement.{statement}
+use Rattle.relevancy_walk.proofs.resume.open_stands.Tie as tie
+
+pub open-stands-spec : {M : Type 1} → statement M
+open-stands-spec =
+    tie.close
+    (tie.spec
+    (λ c. let s = c .before in open-none (s .args .standing) (s .args .next) (c .if1 .taken))  -- returns
+    (λ c. let s = c .before in open-on (s .args .standing) (s .args .next) (c .if1 .left)))  -- returns-2

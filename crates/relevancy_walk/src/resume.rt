@@ -1,0 +1,280 @@
+// Going on with a session: its path is entered again without being counted, and the walk goes on from its last node.
+use crate::place::alternative_at;
+use crate::place::enter;
+use crate::place::root;
+use crate::trail::try_next;
+use ground::branch::NextBranch;
+use relevancy_node::index::build;
+use store::undo;
+use walk::answer::Found;
+use walk::answer::Resumed;
+use walk::answer::Walked;
+use walk::node::mark;
+use walk::node::turn;
+ghost use mathlib.Core.Bool.{true, false};
+ghost use mathlib.Core.Option.{some};
+ghost use mathlib.Core.Path.{_≡_};
+ghost use Prim.Native.Nat.{_+_, _≤_};
+ghost use lib.Dec.{leb};
+ghost use lib.ListN.{length, set};
+ghost use Rattle.store.specs.contracts.Store.{Store, Undone};
+ghost use Rattle.problem.specs.Table.{Lawful};
+ghost use Rattle.relevancy_node.specs.contracts.Index.{ClausesIndexed};
+ghost use Rattle.ground.specs.Instance.{Instance};
+ghost use Rattle.search.specs.Session.{pathOf, placeOf};
+ghost use Rattle.walk.specs.contracts.Walker.{Run};
+ghost use Rattle.walk.specs.contracts.Path.{Room, nodeAt, markAt, siteAt, altsAt, pathIn};
+ghost use Rattle.walk.specs.contracts.Place.{Parted, Reached, Trying};
+ghost use Rattle.walk.specs.contracts.Walk.{Leaves, Ended};
+ghost use Rattle.walk.specs.contracts.Resume.{standingOf, stepsIn, sessionOf, isTaken, closedStands, openStands, splitStands, lastIn, Resumes};
+ghost use Rattle.relevancy_walk.specs.contracts.Place.{relevancyWalker};
+
+// Whether an atom is the alternative of the split node at `depth` just before the next one.
+fn is_taken(table: &[u8], path: &[u8], depth: usize, next: u8, atom: usize) -> bool
+    requires { ⌜ Lawful (now table) ⌝ }
+    requires { ⌜ Room (now path) depth × (relevancyWalker (now table)) .Named (siteAt (relevancyWalker (now table)) (now path) depth) ⌝ }
+    ensures { λ r. ⌜ r ≡ isTaken (altsAt (relevancyWalker (now (table .entry))) (now (path .entry)) depth) next atom ⌝ }
+{
+    if next == 0 {
+        return false;
+    }
+    let before = alternative_at(table, path, depth, next - 1);
+    let NextBranch::Atom(a) = before else {
+        return false;
+    };
+    a == atom
+}
+
+// Whether the next alternative is at most the number of those of the split node at `depth`.
+fn reaches(table: &[u8], path: &[u8], depth: usize, next: u8) -> bool
+    requires { ⌜ Lawful (now table) ⌝ }
+    requires { ⌜ Room (now path) depth × (relevancyWalker (now table)) .Named (siteAt (relevancyWalker (now table)) (now path) depth) ⌝ }
+    ensures { λ r. ⌜ r ≡ leb next (length (altsAt (relevancyWalker (now (table .entry))) (now (path .entry)) depth)) ⌝ }
+{
+    if next == 0 {
+        return true;
+    }
+    let before = alternative_at(table, path, depth, next - 1);
+    let NextBranch::Atom(_) = before else {
+        return false;
+    };
+    true
+}
+
+// Whether a session may stand at the split node at `depth`.
+fn split_stands(table: &[u8], path: &[u8], depth: usize, standing: u8, next: u8) -> bool
+    requires { ⌜ Lawful (now table) ⌝ }
+    requires { ⌜ Room (now path) depth × (relevancyWalker (now table)) .Named (siteAt (relevancyWalker (now table)) (now path) depth) ⌝ }
+    ensures { λ r. ⌜ r ≡ splitStands (standingOf standing) depth (altsAt (relevancyWalker (now (table .entry))) (now (path .entry)) depth) next ⌝ }
+{
+    if standing == 1 {
+        return false;
+    }
+    let reached = reaches(table, path, depth, next);
+    if standing > 1 {
+        return reached;
+    }
+    if !reached {
+        return false;
+    }
+    if depth > 0 {
+        return false;
+    }
+    let due = alternative_at(table, path, depth, next);
+    let NextBranch::Atom(_) = due else {
+        return true;
+    };
+    false
+}
+
+// Whether a session may stand at a closed node at `depth`.
+fn closed_stands(depth: usize, standing: u8, next: u8) -> bool
+    ensures { λ r. ⌜ r ≡ closedStands (standingOf standing) depth next ⌝ }
+{
+    if standing == 1 {
+        return false;
+    }
+    if next > 0 {
+        return false;
+    }
+    if standing > 1 {
+        return true;
+    }
+    depth == 0
+}
+
+// Whether a session may stand at an open node.
+fn open_stands(standing: u8, next: u8) -> bool
+    ensures { λ r. ⌜ r ≡ openStands (standingOf standing) next ⌝ }
+{
+    if standing == 0 {
+        return false;
+    }
+    next == 0
+}
+
+// Takes the set of n facts back to the own facts of the split node at `depth`, and turns the node to an alternative.
+fn rewind(facts: &mut [u8], path: &mut [u8], depth: usize, n: usize, next: u8)
+    requires { ⌜ Store 2050 (now facts) n ⌝ }
+    requires { ⌜ Room (now path) depth × (markAt (now path) depth ≤ n) ⌝ }
+    ensures { λ _. ⌜ Undone 2050 (now (facts .entry)) (markAt (now (path .entry)) depth) (now (facts .exit)) × (now (path .exit) ≡ set (now (path .entry)) (nodeAt depth + 6) next) ⌝ }
+{
+    let own = mark(path, depth);
+    undo(facts, 2050, n, own);
+    turn(path, depth, next);
+}
+
+// Tries the alternatives left at the split node at `depth`, and takes its facts back to the first `done` where all is closed.
+fn work_off(
+    table: &[u8],
+    conds: &[u16; 384],
+    alts: &[u16; 384],
+    facts: &mut [u8],
+    path: &mut [u8],
+    depth: usize,
+    done: usize,
+    count: u32,
+    limit: u32,
+) -> Walked
+    requires { ⌜ Lawful (now table) ⌝ }
+    requires { ⌜ ClausesIndexed (now table) false (now conds) × ClausesIndexed (now table) true (now alts) ⌝ }
+    requires { ⌜ Parted (relevancyWalker (now table)) (now facts) (now path) depth ⌝ }
+    requires { ⌜ (done ≤ markAt (now path) depth) × (count ≤ limit) ⌝ }
+    ensures { λ x. ⌜ Leaves (relevancyWalker (now (table .entry))) (now (facts .entry)) (now (path .entry)) depth done count limit x (now (facts .exit)) (now (path .exit)) × ((r : Run Instance) → r .limit ≡ limit → Trying (relevancyWalker (now (table .entry))) r (now (path .entry)) depth count → Ended (relevancyWalker (now (table .entry))) r (now (path .entry)) depth x (now (facts .exit)) (now (path .exit))) ⌝ }
+{
+    let own = mark(path, depth);
+    let walked = try_next(table, conds, alts, facts, path, depth, count, limit);
+    match walked {
+        Walked::Shut(shut) => {
+            undo(facts, 2050, own, done);
+            return Walked::Shut(shut);
+        }
+        _ => {}
+    }
+    walked
+}
+
+// The last node of a session's path, at `depth`: goes on from it, where a session may stand there.
+fn stand(
+    table: &[u8],
+    conds: &[u16; 384],
+    alts: &[u16; 384],
+    facts: &mut [u8],
+    path: &mut [u8],
+    depth: usize,
+    done: usize,
+    found: Found,
+    standing: u8,
+    next: u8,
+    count: u32,
+    limit: u32,
+) -> Resumed
+    requires { ⌜ Lawful (now table) ⌝ }
+    requires { ⌜ ClausesIndexed (now table) false (now conds) × ClausesIndexed (now table) true (now alts) ⌝ }
+    requires { ⌜ Reached (relevancyWalker (now table)) (now facts) (now path) depth done found ⌝ }
+    requires { ⌜ count ≤ limit ⌝ }
+    ensures { λ x. ⌜ Resumes (relevancyWalker (now (table .entry))) (lastIn (relevancyWalker (now (table .entry))) (now (path .entry)) depth standing next) (now (facts .entry)) (now (path .entry)) depth done count limit x (now (facts .exit)) (now (path .exit)) ⌝ }
+{
+    match found {
+        Found::Split(n) => {
+            if !split_stands(table, path, depth, standing, next) {
+                return Resumed::Foreign;
+            }
+            rewind(facts, path, depth, n, next);
+            let walked = work_off(table, conds, alts, facts, path, depth, done, count, limit);
+            return Resumed::On(walked);
+        }
+        Found::Closed(n) => {
+            if !closed_stands(depth, standing, next) {
+                return Resumed::Foreign;
+            }
+            undo(facts, 2050, n, done);
+            return Resumed::On(Walked::Shut(count));
+        }
+        _ => {}
+    }
+    if !open_stands(standing, next) {
+        return Resumed::Foreign;
+    }
+    Resumed::On(Walked::Opened(count, depth))
+}
+
+// Goes on with a session from the node at `depth` on: the steps from there on are entered again, each as the alternative that the walk takes there.
+fn resume(
+    table: &[u8],
+    conds: &[u16; 384],
+    alts: &[u16; 384],
+    facts: &mut [u8],
+    path: &mut [u8],
+    atoms: &[u16],
+    nexts: &[u8],
+    steps: usize,
+    depth: usize,
+    done: usize,
+    found: Found,
+    standing: u8,
+    next: u8,
+    count: u32,
+    limit: u32,
+) -> Resumed
+    requires { ⌜ Lawful (now table) ⌝ }
+    requires { ⌜ ClausesIndexed (now table) false (now conds) × ClausesIndexed (now table) true (now alts) ⌝ }
+    requires { ⌜ Reached (relevancyWalker (now table)) (now facts) (now path) depth done found ⌝ }
+    requires { ⌜ pathOf ((relevancyWalker (now table)) .find) (stepsIn (now atoms) (now nexts) depth) ≡ some (pathIn (relevancyWalker (now table)) (now path) depth) ⌝ }
+    requires { ⌜ (depth ≤ steps) × (steps ≤ length (now atoms)) × (steps ≤ length (now nexts)) ⌝ }
+    requires { ⌜ count ≤ limit ⌝ }
+    ensures { λ x. ⌜ Resumes (relevancyWalker (now (table .entry))) (placeOf ((relevancyWalker (now (table .entry))) .find) (sessionOf standing count (now (atoms .entry)) (now (nexts .entry)) steps next)) (now (facts .entry)) (now (path .entry)) depth done count limit x (now (facts .exit)) (now (path .exit)) ⌝ }
+{
+    if depth == steps {
+        return stand(
+            table,
+            conds,
+            alts,
+            facts,
+            path,
+            depth,
+            done,
+            found,
+            standing,
+            next,
+            count,
+            limit,
+        );
+    }
+    let Found::Split(n) = found else {
+        return Resumed::Foreign;
+    };
+    let a = atoms[depth] as usize;
+    let j = nexts[depth];
+    if !is_taken(table, path, depth, j, a) {
+        return Resumed::Foreign;
+    }
+    rewind(facts, path, depth, n, j - 1);
+    let own = mark(path, depth);
+    let made = enter(table, conds, alts, facts, path, depth, a);
+    let below = resume(
+        table,
+        conds,
+        alts,
+        facts,
+        path,
+        atoms,
+        nexts,
+        steps,
+        depth + 1,
+        own,
+        made,
+        standing,
+        next,
+        count,
+        limit,
+    );
+    let Resumed::On(walked) = below else {
+        return Resumed::Foreign;
+    };
+    let Walked::Shut(shut) = walked else {
+        return Resumed::On(walked);
+    };
+    let rest = work_off(table, conds, alts, facts, path, depth, done, shut, limit);
+    Resumed::On(rest)
+}
