@@ -26,7 +26,7 @@ ghost use Rattle.walk.specs.contracts.Walker.{Run};
 ghost use Rattle.walk.specs.contracts.Path.{Room, nodeAt, markAt, siteAt, altsAt, pathIn};
 ghost use Rattle.walk.specs.contracts.Place.{Parted, Reached, Trying};
 ghost use Rattle.walk.specs.contracts.Walk.{Leaves, Ended};
-ghost use Rattle.walk.specs.contracts.Resume.{standingOf, stepsIn, sessionOf, isTaken, closedStands, openStands, splitStands, lastIn, Resumes};
+ghost use Rattle.walk.specs.contracts.Resume.{standingOf, stepsIn, sessionOf, isTaken, closedStands, openStands, splitStands, lastIn, Resumes, GoesOn, ResumeMade};
 ghost use Rattle.relevancy_walk.specs.contracts.Place.{relevancyWalker};
 
 // Whether an atom is the alternative of the split node at `depth` just before the next one.
@@ -277,4 +277,84 @@ fn resume(
     };
     let rest = work_off(table, conds, alts, facts, path, depth, done, shut, limit);
     Resumed::On(rest)
+}
+
+// Goes on with a session of so many steps, in a set without facts.
+pub fn go_on(
+    table: &[u8],
+    conds: &[u16; 384],
+    alts: &[u16; 384],
+    facts: &mut [u8],
+    path: &mut [u8],
+    atoms: &[u16],
+    nexts: &[u8],
+    steps: usize,
+    standing: u8,
+    next: u8,
+    count: u32,
+    limit: u32,
+) -> Resumed
+    requires { ⌜ Lawful (now table) ⌝ }
+    requires { ⌜ ClausesIndexed (now table) false (now conds) × ClausesIndexed (now table) true (now alts) ⌝ }
+    requires { ⌜ Store 2050 (now facts) 0 × Room (now path) 0 ⌝ }
+    requires { ⌜ (steps ≤ length (now atoms)) × (steps ≤ length (now nexts)) ⌝ }
+    requires { ⌜ count ≤ limit ⌝ }
+    ensures { λ x. ⌜ GoesOn (relevancyWalker (now (table .entry))) (placeOf ((relevancyWalker (now (table .entry))) .find) (sessionOf standing count (now (atoms .entry)) (now (nexts .entry)) steps next)) count limit x (now (facts .exit)) (now (path .exit)) ⌝ }
+{
+    let found = root(table, conds, alts, facts, path);
+    resume(
+        table,
+        conds,
+        alts,
+        facts,
+        path,
+        atoms,
+        nexts,
+        steps,
+        0,
+        0,
+        found,
+        standing,
+        next,
+        count,
+        limit,
+    )
+}
+
+// Goes on with a session of so many steps under a limit, its count included, in a buffer for facts with any bytes.
+pub fn resumed_walk(
+    table: &[u8],
+    facts: &mut [u8],
+    atoms: &[u16],
+    nexts: &[u8],
+    steps: usize,
+    standing: u8,
+    next: u8,
+    count: u32,
+    limit: u32,
+) -> Resumed
+    requires { ⌜ Lawful (now table) ⌝ }
+    requires { ⌜ length (now facts) ≡ 6150 ⌝ }
+    requires { ⌜ (steps ≤ length (now atoms)) × (steps ≤ length (now nexts)) ⌝ }
+    requires { ⌜ count ≤ limit ⌝ }
+    ensures { λ x. ⌜ ResumeMade (relevancyWalker (now (table .entry))) (placeOf ((relevancyWalker (now (table .entry))) .find) (sessionOf standing count (now (atoms .entry)) (now (nexts .entry)) steps next)) count limit x (now (facts .exit)) ⌝ }
+{
+    let conds = build(table, false);
+    let alts = build(table, true);
+    lists::zero(facts);
+    let mut path = [0u8; 9225];
+    go_on(
+        table,
+        &conds,
+        &alts,
+        facts,
+        &mut path,
+        atoms,
+        nexts,
+        steps,
+        standing,
+        next,
+        count,
+        limit,
+    )
 }

@@ -20,7 +20,7 @@ use Rattle.walk.specs.contracts.Walker.{Walker, Run}
 use Rattle.walk.specs.contracts.Path.{nextAt, markAt, PathKept, Passed, Turned, siteAt, altsAt, entryAt, pathIn, nextIn}
 use Rattle.walk.specs.contracts.Place.{bitsIn, placeIn, Parted, Reached, Trying, Making}
 use Rattle.walk.specs.contracts.Walk.{AllShut, Leaves, Ended}
-use Rattle.walk.specs.contracts.Resume.{standingOf, stepsIn, sessionOf, isTaken, closedStands, openStands, splitStands, lastFrom, lastOf, lastIn, GoneOn, Resumes}
+use Rattle.walk.specs.contracts.Resume.{standingOf, stepsIn, sessionOf, isTaken, closedStands, openStands, splitStands, lastFrom, lastOf, lastIn, GoneOn, Resumes, GoesOn, ResumeMade}
 use Rattle.walk.specs.declared.answer.Found.{Found as Told}
 use Rattle.walk.specs.declared.answer.Found.the-variants.{Closed as ToldClosed, Open as ToldOpen, Split as ToldSplit}
 use Rattle.walk.specs.declared.answer.Resumed.{Resumed}
@@ -33,7 +33,7 @@ use Rattle.walk.proofs.PlaceLaws.{split-same, split-parted}
 use Rattle.walk.proofs.answer.Found.{the-type as found-type}
 use Rattle.walk.proofs.answer.Resumed.{the-type as resumed-type}
 use Rattle.walk.proofs.answer.Walked.{the-type as walked-type}
-use Rattle.walk.proofs.WalkLaws.{split-unopened, visit-open, visit-closed, closed-ended, passes, passes-ended, leaves-as, ended-as, after-passed, after-logs, after-parted, after-tries}
+use Rattle.walk.proofs.WalkLaws.{split-unopened, visit-open, visit-closed, closed-ended, passes, passes-ended, leaves-as, ended-as, after-passed, after-logs, after-parted, after-tries, root-walks, walks-tell}
 
 -- ---- the verdict by its number
 
@@ -518,3 +518,29 @@ resumes-last I w facts path depth done count limit atoms nexts standing steps ne
     let whole = subst (λ (j : ℕ). pathOf (w .find) (stepsIn atoms nexts j) ≡ some (pathIn w path depth)) over so-far in
     subst (λ (o : Option (Place I)). Resumes w o facts path depth done count limit x left-facts left)
     (sym (place-last (w .find) (sessionOf standing count atoms nexts steps next) (pathIn w path depth) whole)) h
+
+-- ---- a whole run on
+
+-- at the root no step is taken yet
+pub root-so-far : {I : Type 0} (w : Walker I) (path atoms nexts : List ℕ) → pathOf (w .find) (stepsIn atoms nexts 0) ≡ some (pathIn w path 0)
+unfolding stepsIn pathIn
+root-so-far w path atoms nexts = refl
+
+module _ {I : Type 0} (w : Walker I) (o : Option (Place I)) (count limit : ℕ) where
+  pub goes-on : (facts path : List ℕ) (done : ℕ) (x : Resumed) (left-facts left : List ℕ) → Resumes w o facts path 0 done count limit x left-facts left → GoesOn w o count limit x left-facts left
+  goes-on facts path done Foreign left-facts left h = h
+  goes-on facts path done (On y) left-facts left h =
+      record {
+        start = h .start;
+        stands = h .stands;
+        walks = root-walks w (record { start = h .start; base = count; limit = limit }) facts path done count y left-facts left (h .leaves) (h .ended);
+      }
+
+  pub resume-made : (x : Resumed) (facts path : List ℕ) → GoesOn w o count limit x facts path → ResumeMade w o count limit x facts
+  resume-made Foreign facts path h = h
+  resume-made (On y) facts path h =
+      record {
+        start = h .start;
+        stands = h .stands;
+        made = record { path = path; walks = h .walks; tells = walks-tell w (record { start = h .start; base = count; limit = limit }) y facts path (h .walks) };
+      }

@@ -11,7 +11,7 @@ use Rattle.search.specs.Machine.{Branch, Place, entered}
 use Rattle.search.specs.Session.{Step, Standing, refuted, satisfied, exhausted, Session, nodeTaken, whereStands}
 use Rattle.walk.specs.contracts.Walker.{Walker}
 use Rattle.walk.specs.contracts.Path.{pathIn}
-use Rattle.walk.specs.contracts.Walk.{Leaves, Ended}
+use Rattle.walk.specs.contracts.Walk.{Leaves, Ended, Walks, WalkMade}
 use Rattle.walk.specs.declared.answer.Resumed.{Resumed}
 use Rattle.walk.specs.declared.answer.Resumed.the-variants.{Foreign, On}
 use Rattle.walk.specs.declared.answer.Walked.{Walked}
@@ -79,3 +79,24 @@ module _ {I : Type 0} (w : Walker I) where
   abbrev pub Resumes : Option (Place I) → List ℕ → List ℕ → ℕ → ℕ → ℕ → ℕ → Resumed → List ℕ → List ℕ → Type 0
   Resumes o facts path depth done count limit Foreign left-facts left = o ≡ none
   Resumes o facts path depth done count limit (On x) left-facts left = GoneOn o facts path depth done count limit x left-facts left
+
+  -- ---- a whole run on from where a session stands, if it is one of the walk
+
+  pub record WalksOn (o : Option (Place I)) (count limit : ℕ) (x : Walked) (facts path : List ℕ) : Type 0 where
+    pub start : Place I
+    pub stands : o ≡ some start
+    pub walks : Walks w (record { start = start; base = count; limit = limit }) x facts path
+
+  abbrev pub GoesOn : Option (Place I) → ℕ → ℕ → Resumed → List ℕ → List ℕ → Type 0
+  GoesOn o count limit Foreign facts path = o ≡ none
+  GoesOn o count limit (On x) facts path = WalksOn o count limit x facts path
+
+  -- the run has been made, in some buffer for its path, and its answer tells the outcome
+  pub record WalkMadeOn (o : Option (Place I)) (count limit : ℕ) (x : Walked) (facts : List ℕ) : Type 0 where
+    pub start : Place I
+    pub stands : o ≡ some start
+    pub made : WalkMade w (record { start = start; base = count; limit = limit }) x facts
+
+  abbrev pub ResumeMade : Option (Place I) → ℕ → ℕ → Resumed → List ℕ → Type 0
+  ResumeMade o count limit Foreign facts = o ≡ none
+  ResumeMade o count limit (On x) facts = WalkMadeOn o count limit x facts
