@@ -5,16 +5,15 @@ use mathlib.Core.List.{List, [], _∷_}
 use mathlib.Core.Logic.{inl, inr}
 use mathlib.Core.Option.{Option, none, some}
 use mathlib.Core.Path.{_≡_, refl, sym, ap, subst, _∙_}
-use native.Mathlib.Numerals.{add-one}
 use native.Mathlib.Omega.{arith}
 use denote.Enum.Declared.{tagOf}
 use types.Run.{OneOf}
 use lib.Dec.{T, eqb, ltb, leb}
-use borrow.Author.Tests.{ltb-true, leb-true, eqb-true, leb-false, lt-ltb, le-ltb, le-leb, lt-leb, eq-eqb, ne-eqb}
+use borrow.Author.Tests.{ltb-true, leb-true, eqb-true, leb-false, lt-ltb, le-leb, lt-leb, eq-eqb, ne-eqb}
 use lib.ListN.{length, drop, getD}
 use Rattle.search.specs.Ground.{Found, closed, opened, split}
 use Rattle.search.specs.Machine.{Branch, Place, entered, back, nextPath}
-use Rattle.search.specs.Session.{Step, Standing, refuted, satisfied, exhausted, Session, stepTaken, nodeTaken, isRoot, isOver, whereStands, pathOf, nodeOf, placeOf}
+use Rattle.search.specs.Session.{Step, Standing, refuted, satisfied, exhausted, Session, stepTaken, nodeTaken, isRoot, isOver, pathOf, nodeOf, placeOf}
 use Rattle.store.specs.contracts.Store.{Store, Undone, logged}
 use Rattle.walk.specs.contracts.Walker.{Walker, Run}
 use Rattle.walk.specs.contracts.Path.{nextAt, markAt, PathKept, Passed, Turned, siteAt, altsAt, entryAt, pathIn, nextIn}

@@ -1,6 +1,5 @@
 -- `relevancy_walk::resume::closed_stands` meets its contract.
 use native.Mathlib.Omega.{arith}
-use borrow.Author.Needs.{needs}
 use Rattle.walk.proofs.ResumeLaws.{closed-fits, closed-tried, closed-spent, closed-none}
 use Rattle.relevancy_walk.proofs.resume.closed_stands.Statement.{statement}
 use Rattle.relevancy_walk.proofs.resume.closed_stands.Tie as tie

@@ -1,5 +1,4 @@
 -- `relevancy_walk::resume::open_stands` meets its contract.
-use borrow.Author.Needs.{needs}
 use Rattle.walk.proofs.ResumeLaws.{open-none, open-on}
 use Rattle.relevancy_walk.proofs.resume.open_stands.Statement.{statement}
 use Rattle.relevancy_walk.proofs.resume.open_stands.Tie as tie

@@ -1,7 +1,6 @@
 -- `relevancy_walk::resume::split_stands` meets its contract.
 use mathlib.Core.Path.{sym, _∙_}
 use native.Mathlib.Omega.{arith}
-use lib.ListN.{length}
 use borrow.Author.Needs.{needs}
 use borrow.Author.Tests.{not-true, not-false}
 use Rattle.ground.proofs.BranchLaws.{next-nothing}
