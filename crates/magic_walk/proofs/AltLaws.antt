@@ -27,7 +27,7 @@ use Rattle.magic_node.specs.contracts.Applied.{siteWith, Applied}
 use Rattle.magic_node.specs.contracts.Watch.{sitePlace}
 use Rattle.magic_node.proofs.RuledLaws.{givenAtom, RuleRead, rule-read, ruled-few}
 use Rattle.walk.specs.contracts.Walker.{Site}
-use Rattle.walk.specs.contracts.Path.{numberAt, fourAt, nextAt, siteAt, altsAt}
+use Rattle.walk.specs.contracts.Path.{numberAt, fourAt, siteAt, altsAt}
 use Rattle.magic_walk.specs.contracts.Place.{ruleSite, siteAlts, Splitting, magicWalker}
 
 -- two alternatives or more are those that the rule gives
@@ -126,6 +126,5 @@ module _ (bs : List ℕ) (h : Ruled bs) (path : List ℕ) (depth : ℕ) (named :
   pub read-slots : SlotsNumbered bs (ruleAt q + 26) 4 (getD bs (ruleAt q + 5) 0) values
   read-slots = rw (number-is, four-is) slots
 
-  pub read-next : (n : ℕ) → n ≡ nextAt path depth → (r : NextBranch) → NextOf (branches (slotNumbers bs (ruleAt q + 26) 4 values (getD bs (ruleAt q + 5) 0))) n r
-      → NextOf (altsAt (magicWalker bs) path depth) (nextAt path depth) r
-  read-next n n-is r next = rw (← alts-are, ← n-is, ← number-is, ← four-is) next
+  pub read-next : (n : ℕ) (r : NextBranch) → NextOf (branches (slotNumbers bs (ruleAt q + 26) 4 values (getD bs (ruleAt q + 5) 0))) n r → NextOf (altsAt (magicWalker bs) path depth) n r
+  read-next n r next = rw (← alts-are, ← number-is, ← four-is) next

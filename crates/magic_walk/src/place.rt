@@ -14,7 +14,7 @@ use walk::node::number;
 use walk::node::pass;
 use walk::node::values;
 ghost use mathlib.Core.Path.{_≡_};
-ghost use Prim.Native.Nat.{_+_, _<_};
+ghost use Prim.Native.Nat.{ℕ, _+_, _<_};
 ghost use Rattle.store.specs.contracts.Store.{Store};
 ghost use Rattle.rewriting.specs.contracts.Ruled.{Ruled};
 ghost use Rattle.magic_node.specs.contracts.Index.{RulesIndexed};
@@ -26,23 +26,26 @@ ghost use Rattle.walk.specs.contracts.Path.{Room, nextAt, siteAt, altsAt};
 ghost use Rattle.walk.specs.contracts.Place.{Parted, Finding, Making, Beginning};
 ghost use Rattle.magic_walk.specs.contracts.Place.{ruleSite, magicWalker, HeldFresh, OwnFacts};
 
+// Alternative j of the split node at `depth`.
+pub fn alternative_at(rules: &[u8], path: &[u8], depth: usize, j: u8) -> NextBranch
+    requires { ⌜ Ruled (now rules) ⌝ }
+    requires { ⌜ Room (now path) depth × (magicWalker (now rules)) .Named (siteAt (magicWalker (now rules)) (now path) depth) ⌝ }
+    ensures { λ r. ⌜ NextOf (altsAt (magicWalker (now (rules .entry))) (now (path .entry)) depth) j r ⌝ }
+{
+    let four = values(path, depth);
+    let record = 144 + 42 * number(path, depth);
+    let count = rules[record + 5] as usize;
+    branch_after(rules, record + 26, 4, count, &four, j as usize)
+}
+
 // The alternative that the split node at `depth` enters next.
 pub fn alternative(rules: &[u8], path: &[u8], depth: usize) -> NextBranch
     requires { ⌜ Ruled (now rules) ⌝ }
     requires { ⌜ Room (now path) depth × (magicWalker (now rules)) .Named (siteAt (magicWalker (now rules)) (now path) depth) ⌝ }
     ensures { λ r. ⌜ NextOf (altsAt (magicWalker (now (rules .entry))) (now (path .entry)) depth) (nextAt (now (path .entry)) depth) r ⌝ }
 {
-    let four = values(path, depth);
-    let record = 144 + 42 * number(path, depth);
-    let count = rules[record + 5] as usize;
-    branch_after(
-        rules,
-        record + 26,
-        4,
-        count,
-        &four,
-        next(path, depth) as usize,
-    )
+    let j = next(path, depth);
+    alternative_at(rules, path, depth, j)
 }
 
 // The place, in the walk's order, of the instance that it is split at.
@@ -86,7 +89,29 @@ fn find(
     }
 }
 
-// Makes the next place, entry `count` + 1 of a run, where the limit allows one: enters atom a, the next alternative of the split node at `depth`.
+// Makes the next place: enters atom a, the next alternative of the split node at `depth`. It is the next entry of whatever run stands there.
+pub fn enter(
+    rules: &[u8],
+    index: &[u16; 1536],
+    facts: &mut [u8],
+    path: &mut [u8],
+    depth: usize,
+    a: usize,
+) -> Found
+    requires { ⌜ Ruled (now rules) ⌝ }
+    requires { ⌜ RulesIndexed (now rules) (now index) ⌝ }
+    requires { ⌜ Parted (magicWalker (now rules)) (now facts) (now path) depth ⌝ }
+    requires { ⌜ NextOf (altsAt (magicWalker (now rules)) (now path) depth) (nextAt (now path) depth) (Atom a) ⌝ }
+    ensures { λ x. ⌜ ((count : ℕ) → Making (magicWalker (now (rules .entry))) (now (facts .entry)) (now (path .entry)) depth count x (now (facts .exit)) (now (path .exit))) × OwnFacts (now (path .exit)) (depth + 1) x ⌝ }
+{
+    let own = mark(path, depth);
+    let from = split_place(rules, path, depth);
+    pass(path, depth);
+    let n = add(facts, 18434, own, a);
+    find(rules, index, facts, path, depth + 1, n, own, from)
+}
+
+// Makes the next place as entry `count` + 1 of a run, where the limit allows one.
 pub fn place(
     rules: &[u8],
     index: &[u16; 1536],
@@ -104,11 +129,7 @@ pub fn place(
     requires { ⌜ count < limit ⌝ }
     ensures { λ x. ⌜ Making (magicWalker (now (rules .entry))) (now (facts .entry)) (now (path .entry)) depth count x (now (facts .exit)) (now (path .exit)) × OwnFacts (now (path .exit)) (depth + 1) x ⌝ }
 {
-    let own = mark(path, depth);
-    let from = split_place(rules, path, depth);
-    pass(path, depth);
-    let n = add(facts, 18434, own, a);
-    find(rules, index, facts, path, depth + 1, n, own, from)
+    enter(rules, index, facts, path, depth, a)
 }
 
 // Makes the root, in a set without facts.
