@@ -27,6 +27,11 @@ use Rattle.ground.proofs.branch.NextBranch.{the-type as branch-type}
 pub next-atom : (ds : List ℕ) (n : ℕ) (r : NextBranch) (a : ℕ) → r ≡ Atom a → NextOf ds n r → NextOf ds n (Atom a)
 next-atom ds n r a e next = subst (NextOf ds n) e next
 
+-- an answer that is an alternative, by its tag alone
+pub next-some : (ds : List ℕ) (n : ℕ) (r : NextBranch) → tagOf branch-type r ≡ 0 → NextOf ds n r → n < length ds
+next-some ds n (Atom a) tag next = next .0
+next-some ds n Nothing tag next = let z : _≡_ {A = ℕ} 1 0 = tag in absurd (omega arith)
+
 pub next-nothing : (ds : List ℕ) (n : ℕ) (r : NextBranch) → OneOf (1 ∷ []) (tagOf branch-type r) → NextOf ds n r → length ds ≤ n
 next-nothing ds n (Atom a) tag next = let z : _≡_ {A = ℕ} 0 1 = tag in absurd (omega arith)
 next-nothing ds n Nothing tag next = next

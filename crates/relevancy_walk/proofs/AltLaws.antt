@@ -3,7 +3,6 @@ use Prim.Native.Nat.{ℕ, _+_, _*_, _<_}
 use mathlib.Core.List.{List}
 use mathlib.Core.Path.{_≡_, refl, sym, ap, _∙_}
 use native.Mathlib.Omega.{arith}
-use denote.Enum.Declared.{tagOf}
 use lib.ListN.{length, take, getD, replicate, length-replicate}
 use Rattle.search.specs.Relevancy.{branches}
 use Rattle.problem.specs.Layout.{problemIn}
@@ -12,18 +11,11 @@ use Rattle.ground.specs.Instance.{InstanceOf, clauseOf, groundAtoms, groundOf}
 use Rattle.ground.specs.contracts.Branching.{SlotsNumbered, slotNumbers, NextOf}
 use Rattle.ground.specs.contracts.Placed.{Placed}
 use Rattle.ground.specs.declared.branch.NextBranch.{NextBranch}
-use Rattle.ground.specs.declared.branch.NextBranch.the-variants.{Atom, Nothing}
-use Rattle.ground.proofs.branch.NextBranch.{the-type as branch-type}
 use Rattle.ground.proofs.AtomLaws.{Row, alts-row, alts-numbers}
 use Rattle.ground.proofs.Headings.{numbered-in}
 use Rattle.ground.proofs.Turns.{ClauseKnown, clause-known, numbers-take}
 use Rattle.walk.specs.contracts.Path.{numberAt, fourAt, siteAt, altsAt}
 use Rattle.relevancy_walk.specs.contracts.Place.{instanceOf, relevancyWalker}
-
--- an answer that is an alternative, by its tag alone
-pub next-some : (ds : List ℕ) (n : ℕ) (r : NextBranch) → tagOf branch-type r ≡ 0 → NextOf ds n r → n < length ds
-next-some ds n (Atom a) tag next = next .0
-next-some ds n Nothing tag next = let z : _≡_ {A = ℕ} 1 0 = tag in absurd (omega arith)
 
 module _ (tb : List ℕ) (h : Lawful tb) (path : List ℕ) (depth : ℕ) (listed : InstanceOf (problemIn tb) (instanceOf (siteAt (relevancyWalker tb) path depth))) where
   abbrev clause : ℕ

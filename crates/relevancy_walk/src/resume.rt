@@ -10,23 +10,25 @@ use walk::answer::Found;
 use walk::answer::Resumed;
 use walk::answer::Walked;
 use walk::node::mark;
-use walk::node::turn;
+use walk::standing::closed_stands;
+use walk::standing::open_stands;
+use walk::standing::rewind;
 ghost use mathlib.Core.Bool.{true, false};
 ghost use mathlib.Core.Option.{some};
 ghost use mathlib.Core.Path.{_≡_};
-ghost use Prim.Native.Nat.{_+_, _≤_};
+ghost use Prim.Native.Nat.{_≤_};
 ghost use lib.Dec.{leb};
-ghost use lib.ListN.{length, set};
-ghost use Rattle.store.specs.contracts.Store.{Store, Undone};
+ghost use lib.ListN.{length};
+ghost use Rattle.store.specs.contracts.Store.{Store};
 ghost use Rattle.problem.specs.Table.{Lawful};
 ghost use Rattle.relevancy_node.specs.contracts.Index.{ClausesIndexed};
 ghost use Rattle.ground.specs.Instance.{Instance};
 ghost use Rattle.search.specs.Session.{pathOf, placeOf};
 ghost use Rattle.walk.specs.contracts.Walker.{Run};
-ghost use Rattle.walk.specs.contracts.Path.{Room, nodeAt, markAt, siteAt, altsAt, pathIn};
+ghost use Rattle.walk.specs.contracts.Path.{Room, markAt, siteAt, altsAt, pathIn};
 ghost use Rattle.walk.specs.contracts.Place.{Parted, Reached, Trying};
 ghost use Rattle.walk.specs.contracts.Walk.{Leaves, Ended};
-ghost use Rattle.walk.specs.contracts.Resume.{standingOf, stepsIn, sessionOf, isTaken, closedStands, openStands, splitStands, lastIn, Resumes, GoesOn, ResumeMade};
+ghost use Rattle.walk.specs.contracts.Resume.{standingOf, stepsIn, sessionOf, isTaken, splitStands, lastIn, Resumes, GoesOn, ResumeMade};
 ghost use Rattle.relevancy_walk.specs.contracts.Place.{relevancyWalker};
 
 // Whether an atom is the alternative of the split node at `depth` just before the next one.
@@ -87,43 +89,6 @@ fn split_stands(table: &[u8], path: &[u8], depth: usize, standing: u8, next: u8)
     false
 }
 
-// Whether a session may stand at a closed node at `depth`.
-fn closed_stands(depth: usize, standing: u8, next: u8) -> bool
-    ensures { λ r. ⌜ r ≡ closedStands (standingOf standing) depth next ⌝ }
-{
-    if standing == 1 {
-        return false;
-    }
-    if next > 0 {
-        return false;
-    }
-    if standing > 1 {
-        return true;
-    }
-    depth == 0
-}
-
-// Whether a session may stand at an open node.
-fn open_stands(standing: u8, next: u8) -> bool
-    ensures { λ r. ⌜ r ≡ openStands (standingOf standing) next ⌝ }
-{
-    if standing == 0 {
-        return false;
-    }
-    next == 0
-}
-
-// Takes the set of n facts back to the own facts of the split node at `depth`, and turns the node to an alternative.
-fn rewind(facts: &mut [u8], path: &mut [u8], depth: usize, n: usize, next: u8)
-    requires { ⌜ Store 2050 (now facts) n ⌝ }
-    requires { ⌜ Room (now path) depth × (markAt (now path) depth ≤ n) ⌝ }
-    ensures { λ _. ⌜ Undone 2050 (now (facts .entry)) (markAt (now (path .entry)) depth) (now (facts .exit)) × (now (path .exit) ≡ set (now (path .entry)) (nodeAt depth + 6) next) ⌝ }
-{
-    let own = mark(path, depth);
-    undo(facts, 2050, n, own);
-    turn(path, depth, next);
-}
-
 // Tries the alternatives left at the split node at `depth`, and takes its facts back to the first `done` where all is closed.
 fn work_off(
     table: &[u8],
@@ -180,7 +145,7 @@ fn stand(
             if !split_stands(table, path, depth, standing, next) {
                 return Resumed::Foreign;
             }
-            rewind(facts, path, depth, n, next);
+            rewind(facts, path, 2050, depth, n, next);
             let walked = work_off(table, conds, alts, facts, path, depth, done, count, limit);
             return Resumed::On(walked);
         }
@@ -249,7 +214,7 @@ fn resume(
     if !is_taken(table, path, depth, j, a) {
         return Resumed::Foreign;
     }
-    rewind(facts, path, depth, n, j - 1);
+    rewind(facts, path, 2050, depth, n, j - 1);
     let own = mark(path, depth);
     let made = enter(table, conds, alts, facts, path, depth, a);
     let below = resume(

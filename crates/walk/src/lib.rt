@@ -2,3 +2,4 @@
 // said in specs/contracts/ over a record of what differs between engines.
 pub mod answer;
 pub mod node;
+pub mod standing;

@@ -22,10 +22,10 @@ use Rattle.relevancy_walk.proofs.resume.resume.Kinds as resume-kinds
 use Rattle.relevancy_walk.proofs.resume.+resume.Lts-resume as resume-lts
 use Rattle.relevancy_walk.proofs.place.enter.Reads as enter-reads
 use Rattle.relevancy_walk.proofs.resume.is_taken.Reads as is-taken-reads
-use Rattle.relevancy_walk.proofs.resume.rewind.Reads as rewind-reads
 use Rattle.relevancy_walk.proofs.resume.stand.Reads as stand-reads
 use Rattle.relevancy_walk.proofs.resume.work_off.Reads as work-off-reads
 use Rattle.walk.proofs.node.mark.Reads as mark-reads
+use Rattle.walk.proofs.standing.rewind.Reads as rewind-reads
 use Rattle.relevancy_walk.proofs.resume.+resume.{statement}
 use Rattle.relevancy_walk.proofs.resume.+resume.Tie.{close}
 
@@ -123,7 +123,7 @@ pub +resume-spec : {M : Type 1} → statement M
     let w = relevancyWalker (s .args .table .now) in
     let g = c .before .before .before .before .before .before .before .before .found .given in
     let at = reached-as w (s .args .facts .now) (s .args .path .now) (s .args .depth) (s .args .done) (s .args .found) (Split (g .0 .0)) (g .1) (s .pre .1 .1 .1 .0) in
-    (at .store, (at .room, at .ready .1)))  -- rewind-requires
+    ((at .store, omega arith), (at .room, at .ready .1)))  -- rewind-requires
     (λ c κs.
     let s = c .before .before .before .before .before .before .before .before .before .before .before .before .before .before .before .before .before .before .before .before .before .before in
     let w = relevancyWalker (s .args .table .now) in

@@ -5,10 +5,9 @@ use native.Mathlib.Omega.{arith}
 use lib.ListN.{length}
 use borrow.Author.Needs.{needs}
 use borrow.Author.Tests.{le-leb, lt-leb}
-use Rattle.ground.proofs.BranchLaws.{next-nothing}
+use Rattle.ground.proofs.BranchLaws.{next-some, next-nothing}
 use Rattle.walk.specs.contracts.Path.{altsAt}
 use Rattle.relevancy_walk.specs.contracts.Place.{relevancyWalker}
-use Rattle.relevancy_walk.proofs.AltLaws.{next-some}
 use Rattle.relevancy_walk.proofs.resume.reaches.Statement.{statement}
 use Rattle.relevancy_walk.proofs.resume.reaches.Tie as tie
 

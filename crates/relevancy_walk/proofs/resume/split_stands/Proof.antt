@@ -3,11 +3,10 @@ use mathlib.Core.Path.{sym, _∙_}
 use native.Mathlib.Omega.{arith}
 use borrow.Author.Needs.{needs}
 use borrow.Author.Tests.{not-true, not-false}
-use Rattle.ground.proofs.BranchLaws.{next-nothing}
+use Rattle.ground.proofs.BranchLaws.{next-some, next-nothing}
 use Rattle.walk.specs.contracts.Path.{altsAt}
 use Rattle.walk.proofs.ResumeLaws.{split-fits, split-spent, split-short, split-deep, split-over, split-due}
 use Rattle.relevancy_walk.specs.contracts.Place.{relevancyWalker}
-use Rattle.relevancy_walk.proofs.AltLaws.{next-some}
 use Rattle.relevancy_walk.proofs.resume.split_stands.Statement.{statement}
 use Rattle.relevancy_walk.proofs.resume.split_stands.Tie as tie
 

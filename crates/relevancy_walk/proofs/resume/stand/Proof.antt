@@ -38,7 +38,7 @@ stand-spec =
     let w = relevancyWalker (s .args .table .now) in
     let g = c .before .before .before .before .before .before .found .given in
     let at = reached-as w (s .args .facts .now) (s .args .path .now) (s .args .depth) (s .args .done) (s .args .found) (Split (g .0 .0)) (g .1) (s .pre .1 .1 .0) in
-    (at .store, (at .room, at .ready .1)))  -- rewind-requires
+    ((at .store, omega arith), (at .room, at .ready .1)))  -- rewind-requires
     (λ c κs.
     let s = c .before .before .before .before .before .before .before .before .before .before .before .before .before .before .before .before .before .before in
     let w = relevancyWalker (s .args .table .now) in

@@ -1,8 +1,8 @@
--- `relevancy_walk::resume::closed_stands` meets its contract.
+-- `walk::standing::closed_stands` meets its contract.
 use native.Mathlib.Omega.{arith}
 use Rattle.walk.proofs.ResumeLaws.{closed-fits, closed-tried, closed-spent, closed-none}
-use Rattle.relevancy_walk.proofs.resume.closed_stands.Statement.{statement}
-use Rattle.relevancy_walk.proofs.resume.closed_stands.Tie as tie
+use Rattle.walk.proofs.standing.closed_stands.Statement.{statement}
+use Rattle.walk.proofs.standing.closed_stands.Tie as tie
 
 pub closed-stands-spec : {M : Type 1} → statement M
 closed-stands-spec =

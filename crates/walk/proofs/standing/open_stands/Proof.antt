@@ -1,7 +1,7 @@
--- `relevancy_walk::resume::open_stands` meets its contract.
+-- `walk::standing::open_stands` meets its contract.
 use Rattle.walk.proofs.ResumeLaws.{open-none, open-on}
-use Rattle.relevancy_walk.proofs.resume.open_stands.Statement.{statement}
-use Rattle.relevancy_walk.proofs.resume.open_stands.Tie as tie
+use Rattle.walk.proofs.standing.open_stands.Statement.{statement}
+use Rattle.walk.proofs.standing.open_stands.Tie as tie
 
 pub open-stands-spec : {M : Type 1} → statement M
 open-stands-spec =
