@@ -5,3 +5,4 @@ pub mod PlaceLaws
 pub mod WalkLaws
 pub mod TriedLaws
 pub mod ResumeLaws
+pub mod LeftLaws

@@ -5,3 +5,4 @@ pub mod Path
 pub mod Place
 pub mod Walk
 pub mod Resume
+pub mod Left

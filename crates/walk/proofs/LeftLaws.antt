@@ -1,0 +1,134 @@
+-- What a walk leaves: its path in steps, node by node, and the session that the end of a run stands for.
+use Prim.Native.Nat.{ℕ, zero, suc, _+_, _-_, _≤_, _<_}
+use mathlib.Core.List.{List, _∷_}
+use mathlib.Core.Option.{Option, some}
+use mathlib.Core.Path.{_≡_, refl, ap, _∙_}
+use native.Mathlib.Numerals.{add-one}
+use native.Mathlib.Omega.{arith}
+use lib.ListN.{length, drop, getD, set, replicate, length-drop}
+use lib.Seq.{getD-set-same, getD-set-other}
+use Rattle.search.specs.Ground.{Found}
+use Rattle.search.specs.Machine.{Place, Outcome, Satisfied, Refuted, Exhausted, nextPath, last, entries, proceed}
+use Rattle.search.specs.Session.{satisfied, exhausted, altsFound, stepsOf, dueAt, leftBy, sessionAfter}
+use Rattle.walk.specs.contracts.Walker.{Walker, Run}
+use Rattle.walk.specs.contracts.Path.{nextAt, siteAt, altsAt, entryAt, pathIn}
+use Rattle.walk.specs.contracts.Place.{bitsIn, placeIn}
+use Rattle.walk.specs.contracts.Walk.{OneDue, Walks}
+use Rattle.walk.specs.contracts.Resume.{stepsIn, GoneOn}
+use Rattle.walk.specs.contracts.Left.{Tied, SplitHere, StepsLeft, sessionLeft}
+use Rattle.walk.specs.declared.answer.Found.the-variants.{Open as ToldOpen}
+use Rattle.walk.specs.declared.answer.Walked.{Walked}
+use Rattle.walk.specs.declared.answer.Walked.the-variants.{Shut, Opened, Exhausted as LimitMet}
+use Rattle.walk.proofs.PathLaws.{next-some}
+use Rattle.walk.proofs.WalkLaws.{root-walks, walks-tell}
+
+-- ---- a path in steps
+
+blank : (n j : ℕ) → _≡_ {A = ℕ} (getD (replicate n 0) j 0) 0
+blank zero j = refl
+blank (suc n) zero = refl
+blank (suc n) (suc j) = blank n j
+
+-- the steps before a place are as they were when it is written
+steps-before : (atoms nexts : List ℕ) (i a n k : ℕ) → k ≤ i → stepsIn (set atoms i a) (set nexts i n) k ≡ stepsIn atoms nexts k
+unfolding stepsIn
+steps-before atoms nexts i a n zero l = refl
+steps-before atoms nexts i a n (suc k) l =
+    rw (
+      getD-set-other atoms i k a 0 (λ e. omega arith),
+      getD-set-other nexts i k n 0 (λ e. omega arith),
+      steps-before atoms nexts i a n k (omega arith),
+    )
+
+module _ {I : Type 0} (w : Walker I) (path : List ℕ) where
+  -- nothing is written down yet
+  pub left-none : (n : ℕ) (atoms nexts : List ℕ) → atoms ≡ replicate n 0 → nexts ≡ replicate n 0 → StepsLeft w path 0 atoms nexts
+  unfolding stepsIn pathIn
+  left-none n atoms nexts ea en =
+      record {
+        steps = refl;
+        atoms-end = λ j l. ap (λ (xs : List ℕ). getD xs j 0) ea ∙ blank n j;
+        nexts-end = λ j l. ap (λ (xs : List ℕ). getD xs j 0) en ∙ blank n j;
+      }
+
+  -- the step of a node: the alternative before its next one, and how many are not left
+  step-of : (i : ℕ) → SplitHere w path i → stepsOf (w .find) (pathIn w path (suc i))
+      ≡ record { atom = getD (altsAt w path i) (nextAt path i - 1) 0; next = length (altsAt w path i) - length (drop (nextAt path i) (altsAt w path i)) } ∷ stepsOf (w .find) (pathIn w path i)
+  unfolding pathIn
+  step-of i here =
+      ap
+      (λ (f : Found I). record { atom = getD (altsAt w path i) (nextAt path i - 1) 0; next = length (altsFound f) - length (drop (nextAt path i) (altsAt w path i)) } ∷ stepsOf (w .find) (pathIn w path i))
+      (here .found)
+
+  -- one more node is written down
+  pub left-more : (i : ℕ) (atoms nexts : List ℕ) → StepsLeft w path i atoms nexts → SplitHere w path i → i < length atoms → i < length nexts → (a n : ℕ)
+      → a ≡ getD (altsAt w path i) (nextAt path i - 1) 0 → n ≡ length (altsAt w path i) - length (drop (nextAt path i) (altsAt w path i))
+      → StepsLeft w path (i + 1) (set atoms i a) (set nexts i n)
+  unfolding stepsIn
+  left-more i atoms nexts was here room-a room-n a n ea en =
+      record {
+        steps =
+            rw (
+              add-one,
+              getD-set-same atoms i a 0 room-a,
+              getD-set-same nexts i n 0 room-n,
+              steps-before atoms nexts i a n i (omega arith),
+              was .steps,
+              ea,
+              en,
+              step-of i here,
+            );
+        atoms-end = λ j l. getD-set-other atoms i j a 0 (λ e. omega arith) ∙ was .atoms-end j (omega arith);
+        nexts-end = λ j l. getD-set-other nexts i j n 0 (λ e. omega arith) ∙ was .nexts-end j (omega arith);
+      }
+
+-- ---- the end of a run
+
+module _ {I : Type 0} (w : Walker I) (tied : Tied w) (r : Run I) where
+  -- where the limit is met, the node of the next entry is split there
+  pub due-here : (facts path : List ℕ) (e : ℕ) → OneDue w e facts path → SplitHere w path e
+  due-here facts path e due =
+      let at = due .node .at-split in
+      record {
+        listed = at .listed;
+        found =
+            tied (siteAt w path e) (getD (altsAt w path e) (nextAt path e) 0) (drop (suc (nextAt path e)) (altsAt w path e)) (pathIn w path e) (at .listed)
+            (at .enters (nextAt path e) (due .left-over));
+      }
+
+  abbrev end : Place I
+  end = last (r .start) (entries (w .find) (r .limit - r .base) (r .start))
+
+  -- what is left, by the outcome
+  by-outcome : (o : Outcome) → proceed (w .find) (r .limit - r .base) (r .base) (r .start) ≡ o
+      → sessionAfter (w .find) (r .limit - r .base) (r .base) (r .start) ≡ leftBy (w .find) o (last (r .start) (entries (w .find) (r .limit - r .base) (r .start)))
+  unfolding sessionAfter
+  by-outcome o told = ap (λ (x : Outcome). leftBy (w .find) x end) told
+
+  -- a run leaves the session of how it ends
+  pub walks-left : (y : Walked) (facts path : List ℕ) → Walks w r y facts path
+      → sessionAfter (w .find) (r .limit - r .base) (r .base) (r .start) ≡ sessionLeft w r y path
+  walks-left (Shut c) facts path h = by-outcome (Refuted c) (walks-tell w r (Shut c) facts path h)
+  walks-left (Opened c e) facts path h =
+      let here : end ≡ placeIn w facts path e (ToldOpen 0) = ap (last (r .start)) (h .0) ∙ h .1 .here in
+      by-outcome (Satisfied c (bitsIn w facts)) (walks-tell w r (Opened c e) facts path h)
+      ∙ ap (λ (t : Place I). record { standing = satisfied; count = c; path = stepsOf (w .find) (t .path); next = 0 }) here
+  walks-left (LimitMet e) facts path h =
+      let ds = altsAt w path e in
+      let next-is : nextPath end ≡ some (entryAt w path e ∷ pathIn w path e) =
+      ap nextPath (h .0 .at-latest .here) ∙ h .0 .next ∙ next-some w path e (h .1 .left-over) in
+      let left : length ds - suc (length (drop (suc (nextAt path e)) ds)) ≡ nextAt path e = omega (arith, length-drop (suc (nextAt path e)) ds, h .1 .left-over) in
+      by-outcome (Exhausted (r .limit)) (walks-tell w r (LimitMet e) facts path h)
+      ∙ ap (dueAt (w .find) (r .limit)) next-is
+      ∙ ap
+      (λ (f : Found I). record { standing = exhausted; count = r .limit; path = stepsOf (w .find) (pathIn w path e); next = length (altsFound f) - suc (length (drop (suc (nextAt path e)) ds)) })
+      (due-here facts path e (h .1) .found)
+      ∙ ap (λ (n : ℕ). record { standing = exhausted; count = r .limit; path = stepsOf (w .find) (pathIn w path e); next = n }) left
+
+-- and so does one that goes on from where a session stands
+pub gone-left : {I : Type 0} (w : Walker I) → Tied w → (o : Option (Place I)) (facts path : List ℕ) (done count limit : ℕ) (y : Walked) (left-facts left : List ℕ)
+    → (went : GoneOn w o facts path 0 done count limit y left-facts left)
+    → sessionAfter (w .find) (limit - count) count (went .start) ≡ sessionLeft w (record { start = went .start; base = count; limit = limit }) y left
+gone-left {I} w tied o facts path done count limit y left-facts left went =
+    let r : Run I = record { start = went .start; base = count; limit = limit } in
+    walks-left w tied r y left-facts left (root-walks w r facts path done count y left-facts left (went .leaves) (went .ended))
