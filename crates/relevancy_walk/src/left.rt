@@ -1,12 +1,16 @@
 // What a walk leaves: the path written down in steps.
 use crate::place::alternative_at;
 use ground::branch::NextBranch;
+use walk::answer::Found;
 use walk::node::next;
+ghost use mathlib.Core.List.{List, []};
 ghost use mathlib.Core.Path.{_≡_};
-ghost use Prim.Native.Nat.{_+_, _-_};
+ghost use Prim.Native.Nat.{ℕ, _+_, _-_};
 ghost use lib.ListN.{length, drop, getD, replicate};
+ghost use Rattle.search.specs.Session.{altsFound};
 ghost use Rattle.problem.specs.Table.{Lawful};
 ghost use Rattle.walk.specs.contracts.Path.{Room, nextAt, siteAt, altsAt, pathIn};
+ghost use Rattle.walk.specs.contracts.Place.{Beginning};
 ghost use Rattle.walk.specs.contracts.Left.{StepsLeft};
 ghost use Rattle.relevancy_walk.specs.contracts.Place.{relevancyWalker};
 
@@ -25,6 +29,18 @@ pub fn taken(table: &[u8], path: &[u8], depth: usize, j: u8) -> u8
         i += 1;
     }
     i
+}
+
+// How many alternatives the root has that has just been found so: none where it is not split.
+pub fn root_alternatives(table: &[u8], path: &[u8], found: Found) -> u8
+    requires { ⌜ Lawful (now table) ⌝ }
+    requires { ⌜ ((facts : List ℕ) × Beginning (relevancyWalker (now table)) found facts (now path)) ⌝ }
+    ensures { λ r. ⌜ r ≡ length (altsFound ((relevancyWalker (now (table .entry))) .find [])) ⌝ }
+{
+    let Found::Split(_) = found else {
+        return 0;
+    };
+    taken(table, path, 0, 4)
 }
 
 // The atom that is entered from the node at `depth`: its alternative before the next one.

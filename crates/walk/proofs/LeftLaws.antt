@@ -1,10 +1,13 @@
 -- What a walk leaves: its path in steps, node by node, and the session that the end of a run stands for.
 use Prim.Native.Nat.{ℕ, zero, suc, _+_, _-_, _≤_, _<_}
-use mathlib.Core.List.{List, _∷_}
-use mathlib.Core.Option.{Option, some}
-use mathlib.Core.Path.{_≡_, refl, ap, _∙_}
+use mathlib.Core.List.{List, [], _∷_}
+use mathlib.Core.Logic.{inl, inr}
+use mathlib.Core.Option.{some}
+use mathlib.Core.Path.{_≡_, refl, sym, ap, _∙_}
 use native.Mathlib.Numerals.{add-one}
 use native.Mathlib.Omega.{arith}
+use denote.Enum.Declared.{tagOf}
+use types.Run.{OneOf}
 use lib.ListN.{length, drop, getD, set, replicate, length-drop}
 use lib.Seq.{getD-set-same, getD-set-other}
 use Rattle.search.specs.Ground.{Found}
@@ -12,15 +15,17 @@ use Rattle.search.specs.Machine.{Place, Outcome, Satisfied, Refuted, Exhausted,
 use Rattle.search.specs.Session.{satisfied, exhausted, altsFound, stepsOf, dueAt, leftBy, sessionAfter}
 use Rattle.walk.specs.contracts.Walker.{Walker, Run}
 use Rattle.walk.specs.contracts.Path.{nextAt, siteAt, altsAt, entryAt, pathIn}
-use Rattle.walk.specs.contracts.Place.{bitsIn, placeIn}
+use Rattle.walk.specs.contracts.Place.{bitsIn, placeIn, Beginning}
 use Rattle.walk.specs.contracts.Walk.{OneDue, Walks}
-use Rattle.walk.specs.contracts.Resume.{stepsIn, GoneOn}
+use Rattle.walk.specs.contracts.Resume.{stepsIn}
 use Rattle.walk.specs.contracts.Left.{Tied, SplitHere, StepsLeft, sessionLeft}
-use Rattle.walk.specs.declared.answer.Found.the-variants.{Open as ToldOpen}
+use Rattle.walk.specs.declared.answer.Found.{Found as Told}
+use Rattle.walk.specs.declared.answer.Found.the-variants.{Closed as ToldClosed, Open as ToldOpen, Split as ToldSplit}
 use Rattle.walk.specs.declared.answer.Walked.{Walked}
 use Rattle.walk.specs.declared.answer.Walked.the-variants.{Shut, Opened, Exhausted as LimitMet}
 use Rattle.walk.proofs.PathLaws.{next-some}
-use Rattle.walk.proofs.WalkLaws.{root-walks, walks-tell}
+use Rattle.walk.proofs.answer.Found.{the-type as found-type}
+use Rattle.walk.proofs.WalkLaws.{walks-tell}
 
 -- ---- a path in steps
 
@@ -125,10 +130,22 @@ module _ {I : Type 0} (w : Walker I) (tied : Tied w) (r : Run I) where
       (due-here facts path e (h .1) .found)
       ∙ ap (λ (n : ℕ). record { standing = exhausted; count = r .limit; path = stepsOf (w .find) (pathIn w path e); next = n }) left
 
--- and so does one that goes on from where a session stands
-pub gone-left : {I : Type 0} (w : Walker I) → Tied w → (o : Option (Place I)) (facts path : List ℕ) (done count limit : ℕ) (y : Walked) (left-facts left : List ℕ)
-    → (went : GoneOn w o facts path 0 done count limit y left-facts left)
-    → sessionAfter (w .find) (limit - count) count (went .start) ≡ sessionLeft w (record { start = went .start; base = count; limit = limit }) y left
-gone-left {I} w tied o facts path done count limit y left-facts left went =
-    let r : Run I = record { start = went .start; base = count; limit = limit } in
-    walks-left w tied r y left-facts left (root-walks w r facts path done count y left-facts left (went .leaves) (went .ended))
+-- ---- the root, all its alternatives used up
+
+module _ {I : Type 0} (w : Walker I) (facts path : List ℕ) where
+  pub root-split : (x : Told) → tagOf found-type x ≡ 2 → Beginning w x facts path → w .Named (siteAt w path 0) × (altsFound (w .find []) ≡ altsAt w path 0)
+  root-split (ToldClosed n) tag begun = let z : _≡_ {A = ℕ} 0 2 = tag in absurd (omega arith)
+  root-split (ToldOpen n) tag begun = let z : _≡_ {A = ℕ} 1 2 = tag in absurd (omega arith)
+  root-split (ToldSplit n) tag begun = (
+    begun .reached .ready .3 .listed,
+    ap (λ (t : Place I). altsFound (t .found)) (begun .made) ∙ ap (λ (j : ℕ). drop j (altsAt w path 0)) (begun .reached .ready .2),
+  )
+
+  pub root-unsplit : (x : Told) → OneOf (0 ∷ 1 ∷ []) (tagOf found-type x) → Beginning w x facts path → 0 ≡ length (altsFound (w .find []))
+  root-unsplit (ToldClosed n) tag begun = sym (ap (λ (t : Place I). length (altsFound (t .found))) (begun .made))
+  root-unsplit (ToldOpen n) tag begun = sym (ap (λ (t : Place I). length (altsFound (t .found))) (begun .made))
+  root-unsplit (ToldSplit n) tag begun = absurd (not-one tag)
+    where
+      not-one : OneOf (0 ∷ 1 ∷ []) 2 → ⊥
+      not-one (inl e) = omega arith
+      not-one (inr e) = omega arith
