@@ -3,10 +3,9 @@ use Prim.Native.Nat.{_-_, _≤_}
 use native.Mathlib.Omega.{arith}
 use borrow.Author.Needs.{needs}
 use lib.ListN.{length, length-drop}
-use Rattle.ground.proofs.BranchLaws.{next-nothing}
+use Rattle.ground.proofs.BranchLaws.{next-some, next-nothing}
 use Rattle.walk.specs.contracts.Path.{siteAt, altsAt}
 use Rattle.relevancy_walk.specs.contracts.Place.{relevancyWalker}
-use Rattle.relevancy_walk.proofs.AltLaws.{next-some}
 use Rattle.relevancy_walk.proofs.SoundLaws.{sound}
 use Rattle.relevancy_walk.proofs.left.taken.Statement.{statement}
 use Rattle.relevancy_walk.proofs.left.taken.Tie as tie
