@@ -107,10 +107,10 @@ module _ {I : Type 0} (k : Key I) (p : Ground I) where
 
   -- ---- any origin
 
-  fits-told : Proper p → (s : Session) (further n : ℕ) (bits : List Bool) (left : Session) → called (findR p) s further ≡ told (Satisfied n bits) left
+  satisfied-told : Proper p → (s : Session) (further n : ℕ) (bits : List Bool) (left : Session) → called (findR p) s further ≡ told (Satisfied n bits) left
       → (length bits ≡ p .atoms) × Model p (Marked bits)
   unfolding called
-  fits-told proper s further n bits left e = go (ltb 4294967295 (s .count + further)) (placeOf (findR p) s) (stands-reached (findR p) s) e
+  satisfied-told proper s further n bits left e = go (ltb 4294967295 (s .count + further)) (placeOf (findR p) s) (stands-reached (findR p) s) e
     where
       go : (b : Bool) (o : Option (Place I)) → ((t : Place I) → o ≡ some t → Reached (findR p) t)
           → _≡_ {A = Called}
@@ -137,5 +137,5 @@ module _ {I : Type 0} (k : Key I) (p : Ground I) where
             (λ u h. same-facts k p u (h .0))
             (t ∷ entries (findR p) further t)
             (r, entries-reached (findR p) further t r);
-        models = fits-told proper s further;
+        models = satisfied-told proper s further;
       }

@@ -47,10 +47,10 @@ module _ {I : Type 0} (find : List ℕ → Found I) where
   left-told (Refuted n) u = (refl, refl)
   left-told (Exhausted n) u = due-told n (nextPath u)
 
-  left-fits : (x : Outcome) (u : Place I) → (leftBy find x u) .standing ≡ satisfied → atomsOf ((leftBy find x u) .path) ≡ entered (u .path)
-  left-fits (Satisfied n bits) u e = steps-atoms (u .path)
-  left-fits (Refuted n) u e = let z : _≡_ {A = ℕ} 0 1 = cc in absurd (omega arith)
-  left-fits (Exhausted n) u e = let s : exhausted ≡ satisfied = sym ((due-told n (nextPath u)) .0) ∙ e in let z : _≡_ {A = ℕ} 0 1 = cc in absurd (omega arith)
+  left-satisfied : (x : Outcome) (u : Place I) → (leftBy find x u) .standing ≡ satisfied → atomsOf ((leftBy find x u) .path) ≡ entered (u .path)
+  left-satisfied (Satisfied n bits) u e = steps-atoms (u .path)
+  left-satisfied (Refuted n) u e = let z : _≡_ {A = ℕ} 0 1 = cc in absurd (omega arith)
+  left-satisfied (Exhausted n) u e = let s : exhausted ≡ satisfied = sym ((due-told n (nextPath u)) .0) ∙ e in let z : _≡_ {A = ℕ} 0 1 = cc in absurd (omega arith)
 
   -- where the next entry is due
   record Due (u : Place I) (n : ℕ) : Type 0 where
@@ -119,10 +119,10 @@ module _ {I : Type 0} (find : List ℕ → Found I) where
         count-is = l .1;
         made = sym (l .1) ∙ s .counted;
         right = stands-right find (leftBy find (answer u n) u) (s .at) (s .stands);
-        spent-all = λ e. s .counted ∙ ap (λ (k : ℕ). base + k) (all-made limit t _ ((left-due u n e) .next-is));
-        spent-due = λ e. (due-left u n reached e) .due;
-        spent-next = λ bs e q. (due-left u n reached e) .next bs q;
-        fits-last = left-fits (answer u n) u;
+        exhausted-all = λ e. s .counted ∙ ap (λ (k : ℕ). base + k) (all-made limit t _ ((left-due u n e) .next-is));
+        exhausted-due = λ e. (due-left u n reached e) .due;
+        exhausted-next = λ bs e q. (due-left u n reached e) .next bs q;
+        satisfied-last = left-satisfied (answer u n) u;
       }
 
   -- ---- a finished session
@@ -147,9 +147,9 @@ module _ {I : Type 0} (find : List ℕ → Found I) where
   finished-next s r h = go (s .standing) refl
     where
       go : (x : Standing) → s .standing ≡ x → s .next ≡ length (altsHere find s)
-      go refuted e = r .none-over e
+      go refuted e = r .refuted-over e
       go satisfied e =
-          let unsplit : length (altsHere find s) ≡ 0 = ap (λ (f : Found I). length (altsFound f)) ((r .fits-open e) .1) in
+          let unsplit : length (altsHere find s) ≡ 0 = ap (λ (f : Found I). length (altsFound f)) ((r .satisfied-open e) .1) in
           omega (arith, r .next-fits)
       go exhausted e = absurd (h e)
 

@@ -64,10 +64,10 @@ module _ {I : Type 0} where
   -- what `Right` says of the node that a path leads to
   record NodeRight (f : Found I) (next : ℕ) (standing : Standing) (bs : List (Branch I)) : Type 0 where
     next-fits : next ≤ length (altsFound f)
-    fits-open : standing ≡ satisfied → (bits : List Bool) × (f ≡ opened bits)
-    none-root : standing ≡ refuted → bs ≡ []
-    none-over : standing ≡ refuted → next ≡ length (altsFound f)
-    none-shut : standing ≡ refuted → (bits : List Bool) → f ≡ opened bits → ⊥
+    satisfied-open : standing ≡ satisfied → (bits : List Bool) × (f ≡ opened bits)
+    refuted-root : standing ≡ refuted → bs ≡ []
+    refuted-over : standing ≡ refuted → next ≡ length (altsFound f)
+    refuted-shut : standing ≡ refuted → (bits : List Bool) → f ≡ opened bits → ⊥
 
   node-fits : (f h : Found I) (next : ℕ) → nodeTaken f next ≡ some h → next ≤ length (altsFound f)
   node-fits closed h next e = let z : next ≡ 0 = eqb-true next 0 ((cond-some (eqb next 0) closed h e) .0) in omega arith
@@ -108,10 +108,10 @@ module _ {I : Type 0} where
       let at : (x : Standing) → standing ≡ x → standsAt x (record { path = bs; found = h }) ≡ true = λ x q. ap (λ (y : Standing). standsAt y (record { path = bs; found = h })) (sym q) ∙ t in
       record {
         next-fits = node-fits f h next e;
-        fits-open = λ q. open-is f (ap isOpen (n .1) ∙ tried-open (n .0) h ∙ at satisfied q);
-        none-root = λ q. root-is bs ((and-parts (isRoot bs) (isOver h) (at refuted q)) .0);
-        none-over = λ q. over-next f h next e ((and-parts (isRoot bs) (isOver h) (at refuted q)) .1);
-        none-shut = λ q bits u. over-shut h ((and-parts (isRoot bs) (isOver h) (at refuted q)) .1) (sym (tried-open (n .0) h) ∙ ap isOpen (sym (n .1) ∙ u));
+        satisfied-open = λ q. open-is f (ap isOpen (n .1) ∙ tried-open (n .0) h ∙ at satisfied q);
+        refuted-root = λ q. root-is bs ((and-parts (isRoot bs) (isOver h) (at refuted q)) .0);
+        refuted-over = λ q. over-next f h next e ((and-parts (isRoot bs) (isOver h) (at refuted q)) .1);
+        refuted-shut = λ q bits u. over-shut h ((and-parts (isRoot bs) (isOver h) (at refuted q)) .1) (sym (tried-open (n .0) h) ∙ ap isOpen (sym (n .1) ∙ u));
       }
 
   -- the node with its first alternatives taken off
@@ -132,8 +132,8 @@ module _ {I : Type 0} where
 
   right-node : (f : Found I) (next : ℕ) (standing : Standing) (bs : List (Branch I)) → NodeRight f next standing bs
       → standsAt standing (record { path = bs; found = nodeAfter f next }) ≡ true
-  right-node f next refuted bs r = rw (r .none-root refl) (after-over f next (r .none-over refl) (r .none-shut refl))
-  right-node f next satisfied bs r = let o = r .fits-open refl in rw (o .1)
+  right-node f next refuted bs r = rw (r .refuted-root refl) (after-over f next (r .refuted-over refl) (r .refuted-shut refl))
+  right-node f next satisfied bs r = let o = r .satisfied-open refl in rw (o .1)
   right-node f next exhausted bs r = refl
 
 -- ---- the whole
@@ -150,10 +150,10 @@ module _ {I : Type 0} (find : List ℕ → Found I) where
       let there : NodeRight (find (atomsOf (s .path))) (s .next) (s .standing) (w .0) =
       record {
         next-fits = r .next-fits;
-        fits-open = r .fits-open;
-        none-root = λ q. root-steps (w .0) (p .steps-are ∙ r .none-root q);
-        none-over = r .none-over;
-        none-shut = r .none-shut;
+        satisfied-open = r .satisfied-open;
+        refuted-root = λ q. root-steps (w .0) (p .steps-are ∙ r .refuted-root q);
+        refuted-over = r .refuted-over;
+        refuted-shut = r .refuted-shut;
       } in
       let n : NodeRight (find (entered (w .0))) (s .next) (s .standing) (w .0) =
       subst (λ (l : List ℕ). NodeRight (find l) (s .next) (s .standing) (w .0)) (sym (p .entered-is)) there in
@@ -182,8 +182,8 @@ module _ {I : Type 0} (find : List ℕ → Found I) where
       record {
         steps = p .right;
         next-fits = n .next-fits;
-        fits-open = n .fits-open;
-        none-root = λ q. sym (p .steps-are) ∙ ap (stepsOf find) (n .none-root q);
-        none-over = n .none-over;
-        none-shut = n .none-shut;
+        satisfied-open = n .satisfied-open;
+        refuted-root = λ q. sym (p .steps-are) ∙ ap (stepsOf find) (n .refuted-root q);
+        refuted-over = n .refuted-over;
+        refuted-shut = n .refuted-shut;
       }

@@ -46,10 +46,10 @@ module _ {I : Type 0} (find : List ℕ → Found I) where
   pub record Right (s : Session) : Type 0 where
     pub steps : StepsRight (s .path)
     pub next-fits : s .next ≤ length (altsHere s)
-    pub fits-open : s .standing ≡ satisfied → (bits : List Bool) × (find (atomsOf (s .path)) ≡ opened bits)
-    pub none-root : s .standing ≡ refuted → s .path ≡ []
-    pub none-over : s .standing ≡ refuted → s .next ≡ length (altsHere s)
-    pub none-shut : s .standing ≡ refuted → (bits : List Bool) → find (atomsOf (s .path)) ≡ opened bits → ⊥
+    pub satisfied-open : s .standing ≡ satisfied → (bits : List Bool) × (find (atomsOf (s .path)) ≡ opened bits)
+    pub refuted-root : s .standing ≡ refuted → s .path ≡ []
+    pub refuted-over : s .standing ≡ refuted → s .next ≡ length (altsHere s)
+    pub refuted-shut : s .standing ≡ refuted → (bits : List Bool) → find (atomsOf (s .path)) ≡ opened bits → ⊥
 
   -- what a run from a place on, which counts as entry `base`, leaves under a limit
   pub record RunLeft (t : Place I) (base limit : ℕ) (o : Outcome) (left : Session) : Type 0 where
@@ -59,12 +59,12 @@ module _ {I : Type 0} (find : List ℕ → Found I) where
     -- it is a session of the walk
     pub right : Right left
     -- spent after all entries that the limit allows, at the node whose next alternative is due
-    pub spent-all : left .standing ≡ exhausted → left .count ≡ base + limit
-    pub spent-due : left .standing ≡ exhausted → left .next < length (altsHere left)
-    pub spent-next : (bs : List (Branch I)) → left .standing ≡ exhausted → nextPath (last t (entries find limit t)) ≡ some bs
+    pub exhausted-all : left .standing ≡ exhausted → left .count ≡ base + limit
+    pub exhausted-due : left .standing ≡ exhausted → left .next < length (altsHere left)
+    pub exhausted-next : (bs : List (Branch I)) → left .standing ≡ exhausted → nextPath (last t (entries find limit t)) ≡ some bs
         → entered bs ≡ getD (altsHere left) (left .next) 0 ∷ atomsOf (left .path)
     -- fits at the last entry
-    pub fits-last : left .standing ≡ satisfied → atomsOf (left .path) ≡ entered ((last t (entries find limit t)) .path)
+    pub satisfied-last : left .standing ≡ satisfied → atomsOf (left .path) ≡ entered ((last t (entries find limit t)) .path)
 
   -- what a call that is not refused says and leaves
   pub record CallTold (s : Session) (further : ℕ) : Type 0 where

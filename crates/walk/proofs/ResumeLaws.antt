@@ -36,15 +36,15 @@ use Rattle.walk.proofs.WalkLaws.{split-unopened, visit-open, visit-clos
 
 -- ---- the verdict by its number
 
-pub standing-spent : (n : ℕ) → 1 < n → standingOf n ≡ exhausted
-standing-spent zero l = absurd (omega arith)
-standing-spent (suc zero) l = absurd (omega arith)
-standing-spent (suc (suc n)) l = refl
+pub standing-exhausted : (n : ℕ) → 1 < n → standingOf n ≡ exhausted
+standing-exhausted zero l = absurd (omega arith)
+standing-exhausted (suc zero) l = absurd (omega arith)
+standing-exhausted (suc (suc n)) l = refl
 
-pub standing-none : (n : ℕ) → (n ≡ 1 → ⊥) → n ≤ 1 → standingOf n ≡ refuted
-standing-none zero ne l = refl
-standing-none (suc zero) ne l = absurd (ne refl)
-standing-none (suc (suc n)) ne l = absurd (omega arith)
+pub standing-refuted : (n : ℕ) → (n ≡ 1 → ⊥) → n ≤ 1 → standingOf n ≡ refuted
+standing-refuted zero ne l = refl
+standing-refuted (suc zero) ne l = absurd (ne refl)
+standing-refuted (suc (suc n)) ne l = absurd (omega arith)
 
 last-false : (b : Bool) → false ≡ (b && false)
 last-false true = refl
@@ -53,8 +53,8 @@ last-false false = refl
 -- ---- whether a session may stand there, test by test
 
 module _ (standing depth next : ℕ) where
-  pub closed-fits : standing ≡ 1 → false ≡ closedStands (standingOf standing) depth next
-  closed-fits e = rw e
+  pub closed-satisfied : standing ≡ 1 → false ≡ closedStands (standingOf standing) depth next
+  closed-satisfied e = rw e
 
   pub closed-tried : 0 < next → false ≡ closedStands (standingOf standing) depth next
   closed-tried l = go (standingOf standing)
@@ -64,14 +64,14 @@ module _ (standing depth next : ℕ) where
       go satisfied = refl
       go exhausted = sym (ne-eqb next 0 (λ e. omega (arith, e)))
 
-  pub closed-spent : next ≡ 0 → 1 < standing → true ≡ closedStands (standingOf standing) depth next
-  closed-spent e l = rw (standing-spent standing l) (sym (eq-eqb next 0 e))
+  pub closed-exhausted : next ≡ 0 → 1 < standing → true ≡ closedStands (standingOf standing) depth next
+  closed-exhausted e l = rw (standing-exhausted standing l) (sym (eq-eqb next 0 e))
 
-  pub closed-none : (standing ≡ 1 → ⊥) → standing ≤ 1 → next ≡ 0 → eqb depth 0 ≡ closedStands (standingOf standing) depth next
-  closed-none ne l e = rw (standing-none standing ne l, eq-eqb next 0 e)
+  pub closed-refuted : (standing ≡ 1 → ⊥) → standing ≤ 1 → next ≡ 0 → eqb depth 0 ≡ closedStands (standingOf standing) depth next
+  closed-refuted ne l e = rw (standing-refuted standing ne l, eq-eqb next 0 e)
 
-pub open-none : (standing next : ℕ) → standing ≡ 0 → false ≡ openStands (standingOf standing) next
-open-none standing next e = rw e
+pub open-refuted : (standing next : ℕ) → standing ≡ 0 → false ≡ openStands (standingOf standing) next
+open-refuted standing next e = rw e
 
 pub open-on : (standing next : ℕ) → (standing ≡ 0 → ⊥) → eqb next 0 ≡ openStands (standingOf standing) next
 open-on zero next ne = absurd (ne refl)
@@ -79,25 +79,25 @@ open-on (suc zero) next ne = refl
 open-on (suc (suc n)) next ne = refl
 
 module _ (ds : List ℕ) (standing depth next : ℕ) where
-  pub split-fits : standing ≡ 1 → false ≡ splitStands (standingOf standing) depth ds next
-  split-fits e = rw e
+  pub split-satisfied : standing ≡ 1 → false ≡ splitStands (standingOf standing) depth ds next
+  split-satisfied e = rw e
 
-  pub split-spent : 1 < standing → leb next (length ds) ≡ splitStands (standingOf standing) depth ds next
-  split-spent l = rw (standing-spent standing l)
+  pub split-exhausted : 1 < standing → leb next (length ds) ≡ splitStands (standingOf standing) depth ds next
+  split-exhausted l = rw (standing-exhausted standing l)
 
   module _ (unlike : standing ≡ 1 → ⊥) (few : standing ≤ 1) where
     pub split-short : leb next (length ds) ≡ false → false ≡ splitStands (standingOf standing) depth ds next
-    split-short e = rw (standing-none standing unlike few, e)
+    split-short e = rw (standing-refuted standing unlike few, e)
 
     module _ (reached : leb next (length ds) ≡ true) where
       pub split-deep : 0 < depth → false ≡ splitStands (standingOf standing) depth ds next
-      split-deep l = rw (standing-none standing unlike few, reached, ne-eqb depth 0 (λ e. omega (arith, e)))
+      split-deep l = rw (standing-refuted standing unlike few, reached, ne-eqb depth 0 (λ e. omega (arith, e)))
 
       pub split-over : depth ≡ 0 → length ds ≤ next → true ≡ splitStands (standingOf standing) depth ds next
-      split-over e l = rw (standing-none standing unlike few, reached, eq-eqb depth 0 e) (sym (le-leb (length ds) next l))
+      split-over e l = rw (standing-refuted standing unlike few, reached, eq-eqb depth 0 e) (sym (le-leb (length ds) next l))
 
       pub split-due : next < length ds → false ≡ splitStands (standingOf standing) depth ds next
-      split-due l = rw (standing-none standing unlike few, reached, lt-leb (length ds) next l) (last-false (eqb depth 0))
+      split-due l = rw (standing-refuted standing unlike few, reached, lt-leb (length ds) next l) (last-false (eqb depth 0))
 
 -- ---- an entry by its number
 

@@ -5,7 +5,7 @@ use borrow.Author.Needs.{needs}
 use borrow.Author.Tests.{not-true, not-false}
 use Rattle.ground.proofs.BranchLaws.{next-some, next-nothing}
 use Rattle.walk.specs.contracts.Path.{altsAt}
-use Rattle.walk.proofs.ResumeLaws.{split-fits, split-spent, split-short, split-deep, split-over, split-due}
+use Rattle.walk.proofs.ResumeLaws.{split-satisfied, split-exhausted, split-short, split-deep, split-over, split-due}
 use Rattle.magic_walk.specs.contracts.Place.{magicWalker}
 use Rattle.magic_walk.proofs.resume.split_stands.Statement.{statement}
 use Rattle.magic_walk.proofs.resume.split_stands.Tie as tie
@@ -16,11 +16,11 @@ split-stands-spec =
     (tie.spec
     (λ c.
     let s = c .before .before .before in
-    split-fits (altsAt (magicWalker (s .args .rules .now)) (s .args .path .now) (s .args .depth)) (s .args .standing) (s .args .depth) (s .args .next) (c .if1 .taken))  -- returns
+    split-satisfied (altsAt (magicWalker (s .args .rules .now)) (s .args .path .now) (s .args .depth)) (s .args .standing) (s .args .depth) (s .args .next) (c .if1 .taken))  -- returns
     (λ c κs. search needs)  -- reaches-requires
     (λ c.
     let s = c .before .before .before .before .before in
-    c .before .reaches .ensures ∙ split-spent (altsAt (magicWalker (s .args .rules .now)) (s .args .path .now) (s .args .depth)) (s .args .standing) (s .args .depth) (s .args .next) (c .if2 .taken))  -- returns-2
+    c .before .reaches .ensures ∙ split-exhausted (altsAt (magicWalker (s .args .rules .now)) (s .args .path .now) (s .args .depth)) (s .args .standing) (s .args .depth) (s .args .next) (c .if2 .taken))  -- returns-2
     (λ c.
     let s = c .before .before .before .before .before .before in
     split-short (altsAt (magicWalker (s .args .rules .now)) (s .args .path .now) (s .args .depth)) (s .args .standing) (s .args .depth) (s .args .next) (c .before .before .before .if1 .left) (omega (arith, c .before .if2 .left))
