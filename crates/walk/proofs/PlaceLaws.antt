@@ -1,22 +1,48 @@
 -- A place made: found, written down where it is split, and the entry after those made before.
 use Prim.Native.Nat.{ℕ, _+_, _≤_, _<_}
+use mathlib.Core.Bool.{Bool, true, false}
 use mathlib.Core.List.{List, [], _∷_}
 use mathlib.Core.Option.{some}
 use mathlib.Core.Path.{_≡_, refl, sym, ap, subst, _∙_}
 use native.Mathlib.Omega.{arith}
+use lib.Dec.{ltb}
+use borrow.Author.Tests.{ltb-true, ltb-false}
 use lib.ListN.{length, drop}
 use Rattle.search.specs.Ground.{Found, split}
 use Rattle.search.specs.Machine.{Branch, entered, place, placed}
 use Rattle.store.specs.contracts.Store.{Store, Undone, logged}
 use Rattle.walk.specs.contracts.Walker.{Site, Walker, Run, Sound, branchOf}
 use Rattle.walk.specs.contracts.Path.{Room, nextAt, markAt, PathKept, Passed, siteAt, altsAt, entryAt, pathIn, nextIn}
-use Rattle.walk.specs.contracts.Place.{factsOf, foundIn, placeIn, AtSplit, Parted, Ready, Reached, Visiting, Finding, Making, Beginning}
+use Rattle.walk.specs.contracts.Place.{factsOf, foundIn, placeIn, NodesNamed, AtSplit, Parted, Ready, Reached, Visiting, Finding, Making, Beginning}
 use Rattle.walk.specs.declared.answer.Found.{Found as Told}
 use Rattle.walk.specs.declared.answer.Found.the-variants.{Split}
-use Rattle.walk.proofs.PathLaws.{path-same, path-entered, passed-still, next-some}
+use Rattle.walk.proofs.PathLaws.{number-same, four-same, own-bytes, site-same, path-same, path-entered, passed-still, next-some}
 use Rattle.walk.proofs.TrailLaws.{entry-made}
 
 module _ {I : Type 0} (w : Walker I) where
+  -- ---- the nodes before a depth
+
+  pub site-kept : (path left : List ℕ) (depth : ℕ) → PathKept path depth left → (i : ℕ) → i < depth → siteAt w left i ≡ siteAt w path i
+  site-kept path left depth before i l =
+      let own = own-bytes path left depth i before l in
+      site-same w path left i (number-same path left i own) (four-same path left i own)
+
+  pub named-kept : (path left : List ℕ) (depth : ℕ) → PathKept path depth left → NodesNamed w path depth → NodesNamed w left depth
+  named-kept path left depth before named i l = subst (w .Named) (sym (site-kept path left depth before i l)) (named i l)
+
+  -- one alternative further, the node that it is entered from is one of them
+  pub named-entered : (facts path : List ℕ) (depth : ℕ) (went : List ℕ) → Passed path depth went → Parted w facts path depth → NodesNamed w went (depth + 1)
+  named-entered facts path depth went p node i l = go (ltb i depth) refl
+    where
+      go : (b : Bool) → ltb i depth ≡ b → w .Named (siteAt w went i)
+      go true e = named-kept path went depth (p .before) (node .named) i (ltb-true i depth e)
+      go false e =
+          let last : i ≡ depth = omega (arith, ltb-false i depth e) in
+          let site-is : siteAt w went i ≡ siteAt w path depth = ap (siteAt w went) last ∙ site-same w path went depth (p .number-is) (p .four) in
+          subst (w .Named) (sym site-is) (node .at-split .listed)
+
+  -- ---- a split node in other buffers
+
   -- a split node by another buffer that says the same of it, and other facts with the same log
   pub split-same : (path left : List ℕ) (depth : ℕ) (log now : List ℕ) → siteAt w left depth ≡ siteAt w path depth → pathIn w left depth ≡ pathIn w path depth → log ≡ now
       → AtSplit w path depth log → AtSplit w left depth now
@@ -41,6 +67,7 @@ module _ {I : Type 0} (w : Walker I) where
       record {
         room = at .room;
         kept = at .kept;
+        named = at .named;
         store = undone .store;
         at-split =
             split-same path path depth (logged facts (w .capacity) (markAt path depth)) (logged left (w .capacity) (markAt path depth)) refl refl
@@ -49,16 +76,16 @@ module _ {I : Type 0} (w : Walker I) where
 
   -- ---- a node that has just been entered is found; where it is closed or open the path is as it was
 
-  pub found-here : (facts path : List ℕ) (depth n done : ℕ) (x : Told) (left : List ℕ) → Room path depth → w .Kept (pathIn w path depth)
+  pub found-here : (facts path : List ℕ) (depth n done : ℕ) (x : Told) (left : List ℕ) → Room path depth → w .Kept (pathIn w path depth) → NodesNamed w path depth
       → w .find (entered (pathIn w path depth)) ≡ foundIn w left path depth x → Store (w .capacity) left (factsOf x)
       → w .Holds x (entered (pathIn w path depth)) (logged left (w .capacity) (factsOf x)) → Ready w left path depth done x
       → ((i : ℕ) → i ≤ n → logged left (w .capacity) i ≡ logged facts (w .capacity) i) → Finding w facts path depth n done x left path
-  found-here facts path depth n done x left room kept found store holds ready logs =
-      record { reached = record { room = room; kept = kept; found = found; store = store; holds = holds; ready = ready }; logs = logs; before = λ i l. refl }
+  found-here facts path depth n done x left room kept named found store holds ready logs =
+      record { reached = record { room = room; kept = kept; named = named; found = found; store = store; holds = holds; ready = ready }; logs = logs; before = λ i l. refl }
 
   -- ---- a node found to be split, and written down
 
-  module _ (sound : Sound w) (facts path : List ℕ) (depth n done : ℕ) (room : Room path depth) (kept : w .Kept (pathIn w path depth))
+  module _ (sound : Sound w) (facts path : List ℕ) (depth n done : ℕ) (room : Room path depth) (kept : w .Kept (pathIn w path depth)) (named : NodesNamed w path depth)
       (site : Site) (listed : w .Named site) (found : w .find (entered (pathIn w path depth)) ≡ split (w .instance site) (w .alts site))
       (left-facts left : List ℕ) (size : length left ≡ 9225) (before : PathKept path depth left) (site-is : siteAt w left depth ≡ site) (none-yet : nextAt left depth ≡ 0)
       (m : ℕ) (store : Store (w .capacity) left-facts m) (few : markAt left depth ≤ m) (more : done ≤ markAt left depth)
@@ -87,6 +114,7 @@ module _ {I : Type 0} (w : Walker I) where
               record {
                 room = record { size = size; deep = room .deep };
                 kept = subst (w .Kept) (sym path-is) kept;
+                named = named-kept path left depth before named;
                 found =
                     ap (λ (bs : List (Branch I)). w .find (entered bs)) path-is ∙ found
                     ∙ ap (λ (x : Site). split (w .instance x) (w .alts x)) (sym site-is)

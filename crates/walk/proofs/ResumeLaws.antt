@@ -28,7 +28,7 @@ use Rattle.walk.specs.declared.answer.Walked.{Walked}
 use Rattle.walk.specs.declared.answer.Walked.the-variants.{Shut, Opened, Exhausted as LimitMet}
 use Rattle.walk.proofs.PathLaws.{site-same, path-same}
 use Rattle.walk.proofs.TrailLaws.{at-start, next-of, next-as}
-use Rattle.walk.proofs.PlaceLaws.{split-same, split-parted}
+use Rattle.walk.proofs.PlaceLaws.{named-kept, split-same, split-parted}
 use Rattle.walk.proofs.answer.Found.{the-type as found-type}
 use Rattle.walk.proofs.answer.Resumed.{the-type as resumed-type}
 use Rattle.walk.proofs.answer.Walked.{the-type as walked-type}
@@ -279,6 +279,7 @@ module _ {I : Type 0} (w : Walker I) (path : List ℕ) (depth next : ℕ) (put :
       record {
         room = record { size = size; deep = node .room .deep };
         kept = subst (w .Kept) (sym turned-path) (node .kept);
+        named = named-kept w path put depth (t .before) (node .named);
         store = subst (Store (w .capacity) facts) (sym (t .mark-is)) (node .store);
         at-split =
             split-same w path put depth (logged facts (w .capacity) (markAt path depth)) (logged facts (w .capacity) (markAt put depth)) turned-site turned-path

@@ -30,7 +30,7 @@ use Rattle.walk.proofs.answer.Found.{the-type as found-type}
 use Rattle.walk.proofs.answer.Walked.{the-type as walked-type}
 use Rattle.walk.proofs.PathLaws.{site-same, path-same, passed-still, next-some}
 use Rattle.walk.proofs.TrailLaws.{at-start, next-of, next-as, all-made, open-over, answer-open, answer-shut, answer-due}
-use Rattle.walk.proofs.PlaceLaws.{split-same}
+use Rattle.walk.proofs.PlaceLaws.{named-kept, split-same}
 
 -- ---- the answers that a match tells apart
 
@@ -194,6 +194,7 @@ module _ {I : Type 0} (w : Walker I) (facts path : List ℕ) (depth : ℕ) (node
         record {
           room = record { size = size; deep = node .room .deep };
           kept = subst (w .Kept) (sym after-path) (node .kept);
+          named = named-kept w path after depth (after-passed .before) (node .named);
           store = subst (Store (w .capacity) after-facts) (sym (after-passed .mark-is)) (shut .undone .store);
           at-split =
               split-same w path after depth (logged facts (w .capacity) (markAt path depth)) (logged after-facts (w .capacity) (markAt after depth)) after-site after-path after-log (node .at-split);

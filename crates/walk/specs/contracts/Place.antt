@@ -36,6 +36,10 @@ module _ {I : Type 0} (w : Walker I) where
   abbrev pub placeIn : List ℕ → List ℕ → ℕ → Told → Place I
   placeIn facts path depth x = record { path = pathIn w path depth; found = foundIn facts path depth x }
 
+  -- each node of the path before this depth has a site that can be split at
+  abbrev pub NodesNamed : List ℕ → ℕ → Type 0
+  NodesNamed path depth = (i : ℕ) → i < depth → w .Named (siteAt w path i)
+
   -- a node is split at the site of its record, all of whose alternatives can be entered, and these are its facts
   pub record AtSplit (path : List ℕ) (depth : ℕ) (log : List ℕ) : Type 0 where
     pub listed : w .Named (siteAt w path depth)
@@ -46,6 +50,7 @@ module _ {I : Type 0} (w : Walker I) where
   pub record Parted (facts path : List ℕ) (depth : ℕ) : Type 0 where
     pub room : Room path depth
     pub kept : w .Kept (pathIn w path depth)
+    pub named : NodesNamed path depth
     pub store : Store (w .capacity) facts (markAt path depth)
     pub at-split : AtSplit path depth (logged facts (w .capacity) (markAt path depth))
 
@@ -60,6 +65,7 @@ module _ {I : Type 0} (w : Walker I) where
   pub record Reached (facts path : List ℕ) (depth done : ℕ) (x : Told) : Type 0 where
     pub room : Room path depth
     pub kept : w .Kept (pathIn w path depth)
+    pub named : NodesNamed path depth
     pub found : w .find (entered (pathIn w path depth)) ≡ foundIn facts path depth x
     pub store : Store (w .capacity) facts (factsOf x)
     pub holds : w .Holds x (entered (pathIn w path depth)) (logged facts (w .capacity) (factsOf x))
