@@ -32,12 +32,12 @@ module _ (tb : List ℕ) (h : Lawful tb) (facts path : List ℕ) (depth n done :
 
   pub node-closed : (m : ℕ) → ClosedByClauses tb facts n m left-facts → Finding (relevancyWalker tb) facts path depth n done (ToldClosed m) left-facts path
   node-closed m node =
-      found-here (relevancyWalker tb) facts path depth n done (ToldClosed m) left-facts (fresh .room) (fresh .kept) (node .found l (fresh .seeded)) (node .leaves .store)
+      found-here (relevancyWalker tb) facts path depth n done (ToldClosed m) left-facts (fresh .room) (fresh .kept) (fresh .named) (node .found l (fresh .seeded)) (node .leaves .store)
       (node .held l (fresh .seeded)) (omega (arith, node .leaves .grows, fresh .opening .part)) (node .leaves .kept)
 
   pub node-open : (m : ℕ) → OpenByClauses tb facts n m left-facts → Finding (relevancyWalker tb) facts path depth n done (ToldOpen m) left-facts path
   node-open m node =
-      found-here (relevancyWalker tb) facts path depth n done (ToldOpen m) left-facts (fresh .room) (fresh .kept) (node .found l (fresh .seeded)) (node .leaves .store)
+      found-here (relevancyWalker tb) facts path depth n done (ToldOpen m) left-facts (fresh .room) (fresh .kept) (fresh .named) (node .found l (fresh .seeded)) (node .leaves .store)
       (node .held l (fresh .seeded)) (omega (arith, node .leaves .grows, fresh .opening .part)) (node .leaves .kept)
 
   -- the node is split, and written down
@@ -68,6 +68,6 @@ module _ (tb : List ℕ) (h : Lawful tb) (facts path : List ℕ) (depth n done :
 
       pub node-split : Finding (relevancyWalker tb) facts path depth n done (ToldSplit m) left-facts left
       node-split =
-          found-split (relevancyWalker tb) (sound tb h) facts path depth n done (fresh .room) (fresh .kept) site (node .listed) (node .found l (fresh .seeded))
+          found-split (relevancyWalker tb) (sound tb h) facts path depth n done (fresh .room) (fresh .kept) (fresh .named) site (node .listed) (node .found l (fresh .seeded))
           left-facts left size (wrote .before) site-is (wrote .next) m (node .leaves .store)
           (omega (arith, wrote .mark-is, node .part)) (omega (arith, wrote .mark-is, node .more, fresh .opening .part)) rests (node .held l (fresh .seeded)) (node .leaves .kept)

@@ -21,7 +21,7 @@ use Rattle.relevancy_node.specs.contracts.Node.{TrueOpening, TrueStarted, TrueS
 use Rattle.walk.specs.contracts.Path.{Room, nextAt, markAt, Passed, siteAt, altsAt, entryAt, pathIn}
 use Rattle.walk.specs.contracts.Place.{Parted}
 use Rattle.walk.proofs.PathLaws.{path-deep, path-entered}
-use Rattle.walk.proofs.PlaceLaws.{entered-kept}
+use Rattle.walk.proofs.PlaceLaws.{named-entered, entered-kept}
 use Rattle.relevancy_walk.specs.contracts.Place.{TrueAtSplit, relevancyWalker, TrueFresh}
 use Rattle.relevancy_walk.proofs.SoundLaws.{sound}
 
@@ -75,6 +75,7 @@ module _ (tb : List ℕ) (h : Lawful tb) (facts path : List ℕ) (depth : ℕ) (
         record {
           room = record { size = size; deep = path-deep (relevancyWalker tb) (sound tb h) went (depth + 1) kept };
           kept = kept;
+          named = named-entered (relevancyWalker tb) facts path depth went p node;
           opening = added-opening;
           seeded = subst (λ (bs : List (Branch Instance)). TrueSeeded tb (entered bs) left n) (sym (path-entered (relevancyWalker tb) path went depth p)) added-seeded;
         }
@@ -86,6 +87,7 @@ root-fresh tb facts path left n room started =
     record {
       room = room;
       kept = tt;
+      named = λ i l. absurd (omega arith);
       opening = record { store = started .grew .store; truths = started .truths; part = omega arith; worked = started .worked };
       seeded = record { seeds = tt; inside = λ c closed held. started .grew .just c closed tt };
     }

@@ -13,6 +13,7 @@ use Rattle.ground.specs.Instance.{Instance, InstanceOf, clauseOf, groundIn}
 use Rattle.relevancy_node.specs.contracts.Node.{TrueOpening, TrueSeeded, TrueHeld, RelevantHeld, TruthsAlone}
 use Rattle.walk.specs.contracts.Walker.{Site, Walker}
 use Rattle.walk.specs.contracts.Path.{Room, pathIn}
+use Rattle.walk.specs.contracts.Place.{NodesNamed}
 use Rattle.walk.specs.declared.answer.Found.{Found as Told}
 use Rattle.walk.specs.declared.answer.Found.the-variants.{Closed, Open, Split}
 
@@ -55,5 +56,6 @@ relevancyWalker tb =
 pub record TrueFresh (tb facts path : List ℕ) (depth n done : ℕ) : Type 0 where
   pub room : Room path depth
   pub kept : (relevancyWalker tb) .Kept (pathIn (relevancyWalker tb) path depth)
+  pub named : NodesNamed (relevancyWalker tb) path depth
   pub opening : TrueOpening tb facts n done
   pub seeded : TrueSeeded tb (entered (pathIn (relevancyWalker tb) path depth)) facts n
