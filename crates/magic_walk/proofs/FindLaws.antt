@@ -42,12 +42,12 @@ module _ (bs : List ℕ) (h : Ruled bs) (facts path : List ℕ) (depth n done fr
 
   pub node-closed : (m : ℕ) → ClosedByRules bs facts n m left-facts → Finding (magicWalker bs) facts path depth n done (ToldClosed m) left-facts path
   node-closed m node =
-      found-here w facts path depth n done (ToldClosed m) left-facts room (fresh .kept) (node .found l (fresh .seeded)) (node .rests .leaves .store) (node .held l (fresh .seeded))
+      found-here w facts path depth n done (ToldClosed m) left-facts room (fresh .kept) (fresh .named) (node .found l (fresh .seeded)) (node .rests .leaves .store) (node .held l (fresh .seeded))
       (omega (arith, node .rests .leaves .grows, opening .part)) (node .rests .leaves .kept)
 
   pub node-open : (m : ℕ) → OpenByRules bs facts n m left-facts → Finding (magicWalker bs) facts path depth n done (ToldOpen m) left-facts path
   node-open m node =
-      found-here w facts path depth n done (ToldOpen m) left-facts room (fresh .kept) (node .found l (fresh .seeded)) (node .rests .leaves .store) (node .held l (fresh .seeded))
+      found-here w facts path depth n done (ToldOpen m) left-facts room (fresh .kept) (fresh .named) (node .found l (fresh .seeded)) (node .rests .leaves .store) (node .held l (fresh .seeded))
       (omega (arith, node .rests .leaves .grows, opening .part)) (node .rests .leaves .kept)
 
   -- the node is split, and written down
@@ -76,6 +76,6 @@ module _ (bs : List ℕ) (h : Ruled bs) (facts path : List ℕ) (depth n done fr
 
     pub node-split : Finding (magicWalker bs) facts path depth n done (ToldSplit m) left-facts left
     node-split =
-        found-split w (sound bs h) facts path depth n done room (fresh .kept) site splitting (node .found l (fresh .seeded))
+        found-split w (sound bs h) facts path depth n done room (fresh .kept) (fresh .named) site splitting (node .found l (fresh .seeded))
         left-facts left size (wrote .before) site-is (wrote .next) m (node .rests .leaves .store)
         (omega (arith, wrote .mark-is)) (omega (arith, wrote .mark-is, node .rests .leaves .grows, opening .part)) rests (node .held l (fresh .seeded)) (node .rests .leaves .kept)

@@ -24,7 +24,7 @@ use Rattle.walk.specs.contracts.Path.{Room, nextAt, markAt, Passed, siteAt, alt
 use Rattle.walk.specs.contracts.Place.{Parted, Finding, Making}
 use Rattle.walk.specs.declared.answer.Found.{Found as Told}
 use Rattle.walk.proofs.PathLaws.{path-deep, path-entered}
-use Rattle.walk.proofs.PlaceLaws.{entered-kept, place-made}
+use Rattle.walk.proofs.PlaceLaws.{named-entered, entered-kept, place-made}
 use Rattle.magic_walk.specs.contracts.Place.{ruleSite, RestedAtSplit, magicWalker, HeldFresh}
 use Rattle.magic_walk.proofs.SoundLaws.{sound}
 
@@ -103,7 +103,12 @@ module _ (bs : List ℕ) (h : Ruled bs) (facts path : List ℕ) (depth : ℕ) (n
       added-room size = record { size = size; deep = path-deep w (sound bs h) went (depth + 1) kept }
 
       pub added-fresh : HeldFresh bs left went (depth + 1) n
-      added-fresh = record { kept = kept; seeded = subst (λ (b : List (Branch Instance)). HeldSeeded bs (entered b) left n) (sym (path-entered w path went depth p)) added-seeded }
+      added-fresh =
+          record {
+            kept = kept;
+            named = named-entered w facts path depth went p node;
+            seeded = subst (λ (b : List (Branch Instance)). HeldSeeded bs (entered b) left n) (sym (path-entered w path went depth p)) added-seeded;
+          }
 
       pub added-made : (count : ℕ) (x : Told) (last-facts last : List ℕ) → Finding (magicWalker bs) left went (depth + 1) n own x last-facts last
           → Making (magicWalker bs) facts path depth count x last-facts last
@@ -129,6 +134,7 @@ module _ (bs : List ℕ) (left path : List ℕ) (n : ℕ) (started : HeldStarted
   root-fresh =
       record {
         kept = tt;
+        named = λ i l. absurd (omega arith);
         seeded =
             record {
               small = tt;

@@ -17,6 +17,7 @@ use Rattle.magic_node.specs.contracts.Watch.{sitePlace, Rested}
 use Rattle.magic_node.specs.contracts.Node.{HeldStands, Following, HeldSeeded}
 use Rattle.walk.specs.contracts.Walker.{Site, Walker}
 use Rattle.walk.specs.contracts.Path.{markAt, pathIn}
+use Rattle.walk.specs.contracts.Place.{NodesNamed}
 use Rattle.walk.specs.declared.answer.Found.{Found as Told}
 use Rattle.walk.specs.declared.answer.Found.the-variants.{Closed, Open, Split}
 
@@ -57,6 +58,7 @@ magicWalker bs =
 -- a node just entered: the n facts follow from the path's atoms
 pub record HeldFresh (bs facts path : List ℕ) (depth n : ℕ) : Type 0 where
   pub kept : (magicWalker bs) .Kept (pathIn (magicWalker bs) path depth)
+  pub named : NodesNamed (magicWalker bs) path depth
   pub seeded : HeldSeeded bs (entered (pathIn (magicWalker bs) path depth)) facts n
 
 -- all facts at a split place are its node's own
