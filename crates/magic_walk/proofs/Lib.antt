@@ -2,3 +2,4 @@ pub mod AltLaws
 pub mod SoundLaws
 pub mod FreshLaws
 pub mod FindLaws
+pub mod TiedLaws
