@@ -1,20 +1,20 @@
 -- What a walk leaves: its path in steps, node by node, and the session that the end of a run stands for.
 use Prim.Native.Nat.{ℕ, zero, suc, _+_, _-_, _≤_, _<_}
-use mathlib.Core.List.{List, [], _∷_}
+use mathlib.Core.List.{List, [], _∷_, _++_}
 use mathlib.Core.Logic.{inl, inr}
 use mathlib.Core.Option.{some}
-use mathlib.Core.Path.{_≡_, refl, sym, ap, _∙_}
+use mathlib.Core.Path.{_≡_, refl, sym, ap, subst, _∙_}
 use native.Mathlib.Numerals.{add-one}
 use native.Mathlib.Omega.{arith}
 use denote.Enum.Declared.{tagOf}
 use types.Run.{OneOf}
-use lib.ListN.{length, drop, getD, set, replicate, length-drop}
+use lib.ListN.{length, drop, getD, set, replicate, length-append, length-drop}
 use lib.Seq.{getD-set-same, getD-set-other}
 use Rattle.search.specs.Ground.{Found}
-use Rattle.search.specs.Machine.{Place, Outcome, Satisfied, Refuted, Exhausted, nextPath, last, entries, proceed}
+use Rattle.search.specs.Machine.{Branch, Place, Outcome, Satisfied, Refuted, Exhausted, nextPath, last, entries, proceed, Genuine}
 use Rattle.search.specs.Session.{satisfied, exhausted, altsFound, stepsOf, dueAt, leftBy, sessionAfter}
 use Rattle.walk.specs.contracts.Walker.{Walker, Run}
-use Rattle.walk.specs.contracts.Path.{nextAt, siteAt, altsAt, entryAt, pathIn}
+use Rattle.walk.specs.contracts.Path.{nextAt, siteAt, altsAt, entryAt, entryBefore, pathIn}
 use Rattle.walk.specs.contracts.Place.{bitsIn, placeIn, Beginning}
 use Rattle.walk.specs.contracts.Walk.{OneDue, Walks}
 use Rattle.walk.specs.contracts.Resume.{stepsIn}
@@ -86,6 +86,41 @@ module _ {I : Type 0} (w : Walker I) (path : List ℕ) where
         atoms-end = λ j l. getD-set-other atoms i j a 0 (λ e. omega arith) ∙ was .atoms-end j (omega arith);
         nexts-end = λ j l. getD-set-other nexts i j n 0 (λ e. omega arith) ∙ was .nexts-end j (omega arith);
       }
+
+-- ---- a node that a path of the walk has gone on from
+
+module _ {I : Type 0} (w : Walker I) (path : List ℕ) where
+  genuine-on : (i : ℕ) → Genuine (w .find) (pathIn w path (i + 1)) → Genuine (w .find) (entryBefore w (siteAt w path i) (nextAt path i) ∷ pathIn w path i)
+  unfolding pathIn
+  genuine-on i g = subst (λ (n : ℕ). Genuine (w .find) (pathIn w path n)) (add-one i) g
+
+  -- the nodes before a depth
+  pub genuine-below : (depth i : ℕ) → i ≤ depth → Genuine (w .find) (pathIn w path depth) → Genuine (w .find) (pathIn w path i)
+  genuine-below depth i l g = down (depth - i) (subst (λ (n : ℕ). Genuine (w .find) (pathIn w path n)) (omega arith) g)
+    where
+      down : (k : ℕ) → Genuine (w .find) (pathIn w path (i + k)) → Genuine (w .find) (pathIn w path i)
+      down zero g = subst (λ (n : ℕ). Genuine (w .find) (pathIn w path n)) (omega arith) g
+      down (suc k) g = down k (genuine-on (i + k) (subst (λ (n : ℕ). Genuine (w .find) (pathIn w path n)) (omega arith) g) .1)
+
+  -- the walk keeps to such paths
+  module _ (tied : Tied w) (keeps : (bs : List (Branch I)) → Genuine (w .find) bs → w .Kept bs)
+      (i : ℕ) (named : w .Named (siteAt w path i)) (g : Genuine (w .find) (pathIn w path (i + 1))) where
+    abbrev entry : Branch I
+    entry = entryBefore w (siteAt w path i) (nextAt path i)
+
+    pub split-here : SplitHere w path i
+    split-here =
+        record {
+          listed = named;
+          found = tied (siteAt w path i) (entry .atom) (entry .rest) (pathIn w path i) named (keeps (entry ∷ pathIn w path i) (genuine-on i g));
+        }
+
+    -- an alternative has been taken
+    pub gone-on : 0 < nextAt path i
+    gone-on =
+        let here = genuine-on i g .0 in
+        let whole : here .0 ++ (entry .atom ∷ entry .rest) ≡ altsAt w path i = ap altsFound (sym (here .1) ∙ split-here .found) in
+        omega (arith, length-append (here .0) (entry .atom ∷ entry .rest), ap length whole, length-drop (nextAt path i) (altsAt w path i))
 
 -- ---- the end of a run
 

@@ -5,4 +5,5 @@ pub mod PlaceLaws
 pub mod WalkLaws
 pub mod TriedLaws
 pub mod ResumeLaws
+pub mod AlternativesLaws
 pub mod LeftLaws

@@ -85,6 +85,14 @@ module _ (ds : List ℕ) (standing depth next : ℕ) where
   pub split-exhausted : 1 < standing → leb next (length ds) ≡ splitStands (standingOf standing) depth ds next
   split-exhausted l = rw (standing-exhausted standing l)
 
+  pub split-past : leb next (length ds) ≡ false → false ≡ splitStands (standingOf standing) depth ds next
+  split-past e = go (standingOf standing)
+    where
+      go : (s : Standing) → false ≡ splitStands s depth ds next
+      go refuted = rw e
+      go satisfied = refl
+      go exhausted = sym e
+
   module _ (unlike : standing ≡ 1 → ⊥) (few : standing ≤ 1) where
     pub split-short : leb next (length ds) ≡ false → false ≡ splitStands (standingOf standing) depth ds next
     split-short e = rw (standing-refuted standing unlike few, e)
@@ -92,6 +100,9 @@ module _ (ds : List ℕ) (standing depth next : ℕ) where
     module _ (reached : leb next (length ds) ≡ true) where
       pub split-deep : 0 < depth → false ≡ splitStands (standingOf standing) depth ds next
       split-deep l = rw (standing-refuted standing unlike few, reached, ne-eqb depth 0 (λ e. omega (arith, e)))
+
+      pub split-root : depth ≡ 0 → leb (length ds) next ≡ splitStands (standingOf standing) depth ds next
+      split-root e = rw (standing-refuted standing unlike few, reached, eq-eqb depth 0 e)
 
       pub split-over : depth ≡ 0 → length ds ≤ next → true ≡ splitStands (standingOf standing) depth ds next
       split-over e l = rw (standing-refuted standing unlike few, reached, eq-eqb depth 0 e) (sym (le-leb (length ds) next l))

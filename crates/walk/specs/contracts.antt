@@ -4,5 +4,6 @@ pub mod Walker
 pub mod Path
 pub mod Place
 pub mod Walk
+pub mod Alternatives
 pub mod Resume
 pub mod Left
