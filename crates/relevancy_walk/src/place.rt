@@ -5,6 +5,7 @@ use relevancy_node::close::start;
 use relevancy_node::node::Node;
 use relevancy_node::node::settle;
 use store::add;
+use walk::alternatives::Alternatives;
 use walk::answer::Found;
 use walk::node::mark;
 use walk::node::next;
@@ -13,12 +14,14 @@ use walk::node::number;
 use walk::node::pass;
 use walk::node::values;
 ghost use mathlib.Core.Bool.{true, false};
+ghost use mathlib.Core.Path.{_≡_};
 ghost use Prim.Native.Nat.{ℕ, _<_};
 ghost use Rattle.store.specs.contracts.Store.{Store};
 ghost use Rattle.problem.specs.Table.{Lawful};
 ghost use Rattle.relevancy_node.specs.contracts.Index.{ClausesIndexed};
 ghost use Rattle.ground.specs.contracts.Branching.{NextOf};
 ghost use Rattle.ground.specs.declared.branch.NextBranch.the-variants.{Atom};
+ghost use Rattle.walk.specs.contracts.Alternatives.{listed, Listing};
 ghost use Rattle.walk.specs.contracts.Path.{Room, nextAt, siteAt, altsAt};
 ghost use Rattle.walk.specs.contracts.Place.{Parted, Finding, Making, Beginning};
 ghost use Rattle.relevancy_walk.specs.contracts.Place.{relevancyWalker, TrueFresh};
@@ -33,6 +36,25 @@ pub fn alternative_at(table: &[u8], path: &[u8], depth: usize, j: u8) -> NextBra
     let record = 144 + 56 * number(path, depth);
     let count = table[record + 1] as usize;
     branch_after(table, record + 32, 6, count, &four, j as usize)
+}
+
+// All alternatives of the split node at `depth`.
+pub fn alternatives_at(table: &[u8], path: &[u8], depth: usize) -> Alternatives
+    requires { ⌜ Lawful (now table) ⌝ }
+    requires { ⌜ Room (now path) depth × (relevancyWalker (now table)) .Named (siteAt (relevancyWalker (now table)) (now path) depth) ⌝ }
+    ensures { λ r. ⌜ Listing r × (listed r ≡ altsAt (relevancyWalker (now (table .entry))) (now (path .entry)) depth) ⌝ }
+{
+    let mut atoms = [0u16; 4];
+    let mut n: u8 = 0;
+    while n < 4 {
+        let there = alternative_at(table, path, depth, n);
+        let NextBranch::Atom(a) = there else {
+            return Alternatives { count: n, atoms };
+        };
+        atoms[n as usize] = a as u16;
+        n += 1;
+    }
+    Alternatives { count: n, atoms }
 }
 
 // The alternative that the split node at `depth` enters next.

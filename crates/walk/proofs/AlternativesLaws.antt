@@ -61,5 +61,5 @@ module _ (ds atoms : List ℕ) where
         }
 
     -- there are no more
-    pub listed-all : length ds ≤ n → take n atoms ≡ ds
-    listed-all l = h .are ∙ take-all n ds l
+    pub listed-all : length ds ≤ n → Listing (record { count = n; atoms = atoms }) × (take n atoms ≡ ds)
+    listed-all l = (record { few = h .within; four = h .four }, h .are ∙ take-all n ds l)
