@@ -3,7 +3,7 @@ use Prim.Native.Nat.{ℕ, zero, suc, _+_, _-_, _≤_, _<_}
 use mathlib.Core.List.{List, [], _∷_, _++_}
 use mathlib.Core.Logic.{inl, inr}
 use mathlib.Core.Option.{some}
-use mathlib.Core.Path.{_≡_, refl, sym, ap, subst, _∙_}
+use mathlib.Core.Path.{_≡_, refl, sym, ap, ap₂, subst, _∙_}
 use native.Mathlib.Numerals.{add-one}
 use native.Mathlib.Omega.{arith}
 use denote.Enum.Declared.{tagOf}
@@ -65,12 +65,15 @@ module _ {I : Type 0} (w : Walker I) (path : List ℕ) where
       (λ (f : Found I). record { atom = getD (altsAt w path i) (nextAt path i - 1) 0; next = length (altsFound f) - length (drop (nextAt path i) (altsAt w path i)) } ∷ stepsOf (w .find) (pathIn w path i))
       (here .found)
 
-  -- one more node is written down
-  pub left-more : (i : ℕ) (atoms nexts : List ℕ) → StepsLeft w path i atoms nexts → SplitHere w path i → i < length atoms → i < length nexts → (a n : ℕ)
-      → a ≡ getD (altsAt w path i) (nextAt path i - 1) 0 → n ≡ length (altsAt w path i) - length (drop (nextAt path i) (altsAt w path i))
+  -- one more node is written down, by its alternatives and its next one
+  pub left-more : (i : ℕ) (atoms nexts : List ℕ) → StepsLeft w path i atoms nexts → SplitHere w path i → i < length atoms → i < length nexts
+      → (ds : List ℕ) → ds ≡ altsAt w path i → (next : ℕ) → next ≡ nextAt path i → (a n : ℕ) → a ≡ getD ds (next - 1) 0 → n ≡ length ds - length (drop next ds)
       → StepsLeft w path (i + 1) (set atoms i a) (set nexts i n)
   unfolding stepsIn
-  left-more i atoms nexts was here room-a room-n a n ea en =
+  left-more i atoms nexts was here room-a room-n ds ds-are next next-is a n ea en =
+      let atom-is : a ≡ getD (altsAt w path i) (nextAt path i - 1) 0 = ea ∙ ap₂ (λ (xs : List ℕ) (j : ℕ). getD xs (j - 1) 0) ds-are next-is in
+      let next-are : n ≡ length (altsAt w path i) - length (drop (nextAt path i) (altsAt w path i)) =
+      en ∙ ap₂ (λ (xs : List ℕ) (j : ℕ). length xs - length (drop j xs)) ds-are next-is in
       record {
         steps =
             rw (
@@ -79,8 +82,8 @@ module _ {I : Type 0} (w : Walker I) (path : List ℕ) where
               getD-set-same nexts i n 0 room-n,
               steps-before atoms nexts i a n i (omega arith),
               was .steps,
-              ea,
-              en,
+              atom-is,
+              next-are,
               step-of i here,
             );
         atoms-end = λ j l. getD-set-other atoms i j a 0 (λ e. omega arith) ∙ was .atoms-end j (omega arith);

@@ -1,13 +1,10 @@
 -- `relevancy_walk::left::root_alternatives` meets its contract.
-use Prim.Native.Nat.{_≤_}
-use mathlib.Core.Path.{ap}
-use native.Mathlib.Omega.{arith}
+use mathlib.Core.Path.{sym, ap, _∙_}
 use borrow.Author.Needs.{needs}
-use lib.ListN.{length, length-drop}
-use Rattle.walk.specs.contracts.Path.{siteAt, altsAt}
+use lib.ListN.{length}
+use Rattle.walk.proofs.AlternativesLaws.{listed-many}
 use Rattle.walk.proofs.LeftLaws.{root-split, root-unsplit}
 use Rattle.relevancy_walk.specs.contracts.Place.{relevancyWalker}
-use Rattle.relevancy_walk.proofs.SoundLaws.{sound}
 use Rattle.relevancy_walk.proofs.left.root_alternatives.Statement.{statement}
 use Rattle.relevancy_walk.proofs.left.root_alternatives.Tie as tie
 
@@ -22,11 +19,9 @@ root-alternatives-spec =
     (λ c κs.
     let s = c .before .before .before .before in
     let at = root-split (relevancyWalker (s .args .table .now)) (s .pre .1 .0) (s .args .path .now) (s .args .found) (c .before .match .keys1) (s .pre .1 .1) in
-    (s .pre .0, (s .pre .1 .1 .reached .room, at .0)))  -- taken-requires
+    (s .pre .0, (s .pre .1 .1 .reached .room, at .0)))  -- alternatives-at-requires
     (λ c.
     let s = c .before .before .before .before .before in
-    let w = relevancyWalker (s .args .table .now) in
-    let path = s .args .path .now in
-    let at = root-split (relevancyWalker (s .args .table .now)) (s .pre .1 .0) path (s .args .found) (c .before .before .match .keys1) (s .pre .1 .1) in
-    let few : length (altsAt w path 0) ≤ 4 = sound (s .args .table .now) (s .pre .0) .four (siteAt w path 0) (at .0) in
-    omega (arith, c .taken .ensures, length-drop 4 (altsAt w path 0), few, ap length (at .1))))  -- returns-2
+    let at = root-split (relevancyWalker (s .args .table .now)) (s .pre .1 .0) (s .args .path .now) (s .args .found) (c .before .before .match .keys1) (s .pre .1 .1) in
+    let all = c .alternatives-at in
+    sym (listed-many (all .result) (all .ensures .0)) ∙ ap length (all .ensures .1 ∙ sym (at .1))))  -- returns-2
