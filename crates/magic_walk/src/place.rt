@@ -6,6 +6,7 @@ use magic_node::fact::place_at;
 use magic_node::node::Node;
 use magic_node::node::settle;
 use store::add;
+use walk::alternatives::Alternatives;
 use walk::answer::Found;
 use walk::node::mark;
 use walk::node::next;
@@ -22,6 +23,7 @@ ghost use Rattle.magic_node.specs.contracts.Watch.{sitePlace};
 ghost use Rattle.magic_node.specs.contracts.Node.{HeldOpening};
 ghost use Rattle.ground.specs.contracts.Branching.{NextOf};
 ghost use Rattle.ground.specs.declared.branch.NextBranch.the-variants.{Atom};
+ghost use Rattle.walk.specs.contracts.Alternatives.{listed, Listing};
 ghost use Rattle.walk.specs.contracts.Path.{Room, nextAt, siteAt, altsAt};
 ghost use Rattle.walk.specs.contracts.Place.{Parted, Finding, Making, Beginning};
 ghost use Rattle.magic_walk.specs.contracts.Place.{ruleSite, magicWalker, HeldFresh, OwnFacts};
@@ -36,6 +38,25 @@ pub fn alternative_at(rules: &[u8], path: &[u8], depth: usize, j: u8) -> NextBra
     let record = 144 + 42 * number(path, depth);
     let count = rules[record + 5] as usize;
     branch_after(rules, record + 26, 4, count, &four, j as usize)
+}
+
+// All alternatives of the split node at `depth`.
+pub fn alternatives_at(rules: &[u8], path: &[u8], depth: usize) -> Alternatives
+    requires { ⌜ Ruled (now rules) ⌝ }
+    requires { ⌜ Room (now path) depth × (magicWalker (now rules)) .Named (siteAt (magicWalker (now rules)) (now path) depth) ⌝ }
+    ensures { λ r. ⌜ Listing r × (listed r ≡ altsAt (magicWalker (now (rules .entry))) (now (path .entry)) depth) ⌝ }
+{
+    let mut atoms = [0u16; 4];
+    let mut n: u8 = 0;
+    while n < 4 {
+        let there = alternative_at(rules, path, depth, n);
+        let NextBranch::Atom(a) = there else {
+            return Alternatives { count: n, atoms };
+        };
+        atoms[n as usize] = a as u16;
+        n += 1;
+    }
+    Alternatives { count: n, atoms }
 }
 
 // The alternative that the split node at `depth` enters next.

@@ -1,11 +1,12 @@
 // Going on with a session: its path is entered again without being counted, and the walk goes on from its last node.
-use crate::place::alternative_at;
+use crate::place::alternatives_at;
 use crate::place::enter;
 use crate::place::root;
 use crate::trail::try_next;
-use ground::branch::NextBranch;
 use magic_node::index::build;
 use store::undo;
+use walk::alternatives::is_taken;
+use walk::alternatives::split_stands;
 use walk::answer::Found;
 use walk::answer::Resumed;
 use walk::answer::Walked;
@@ -16,7 +17,6 @@ use walk::standing::rewind;
 ghost use mathlib.Core.Option.{some};
 ghost use mathlib.Core.Path.{_≡_};
 ghost use Prim.Native.Nat.{_≤_};
-ghost use lib.Dec.{leb};
 ghost use lib.ListN.{length};
 ghost use Rattle.store.specs.contracts.Store.{Store};
 ghost use Rattle.rewriting.specs.contracts.Ruled.{Ruled};
@@ -24,69 +24,11 @@ ghost use Rattle.magic_node.specs.contracts.Index.{RulesIndexed};
 ghost use Rattle.ground.specs.Instance.{Instance};
 ghost use Rattle.search.specs.Session.{pathOf, placeOf};
 ghost use Rattle.walk.specs.contracts.Walker.{Run};
-ghost use Rattle.walk.specs.contracts.Path.{Room, markAt, siteAt, altsAt, pathIn};
+ghost use Rattle.walk.specs.contracts.Path.{Room, markAt, pathIn};
 ghost use Rattle.walk.specs.contracts.Place.{Parted, Reached, Trying};
 ghost use Rattle.walk.specs.contracts.Walk.{Leaves, Ended};
-ghost use Rattle.walk.specs.contracts.Resume.{standingOf, stepsIn, sessionOf, isTaken, splitStands, lastIn, Resumes, GoesOn, ResumeMade};
+ghost use Rattle.walk.specs.contracts.Resume.{stepsIn, sessionOf, lastIn, Resumes, GoesOn, ResumeMade};
 ghost use Rattle.magic_walk.specs.contracts.Place.{magicWalker};
-
-// Whether an atom is the alternative of the split node at `depth` just before the next one.
-fn is_taken(rules: &[u8], path: &[u8], depth: usize, next: u8, atom: usize) -> bool
-    requires { ⌜ Ruled (now rules) ⌝ }
-    requires { ⌜ Room (now path) depth × (magicWalker (now rules)) .Named (siteAt (magicWalker (now rules)) (now path) depth) ⌝ }
-    ensures { λ r. ⌜ r ≡ isTaken (altsAt (magicWalker (now (rules .entry))) (now (path .entry)) depth) next atom ⌝ }
-{
-    if next == 0 {
-        return false;
-    }
-    let before = alternative_at(rules, path, depth, next - 1);
-    let NextBranch::Atom(a) = before else {
-        return false;
-    };
-    a == atom
-}
-
-// Whether the next alternative is at most the number of those of the split node at `depth`.
-fn reaches(rules: &[u8], path: &[u8], depth: usize, next: u8) -> bool
-    requires { ⌜ Ruled (now rules) ⌝ }
-    requires { ⌜ Room (now path) depth × (magicWalker (now rules)) .Named (siteAt (magicWalker (now rules)) (now path) depth) ⌝ }
-    ensures { λ r. ⌜ r ≡ leb next (length (altsAt (magicWalker (now (rules .entry))) (now (path .entry)) depth)) ⌝ }
-{
-    if next == 0 {
-        return true;
-    }
-    let before = alternative_at(rules, path, depth, next - 1);
-    let NextBranch::Atom(_) = before else {
-        return false;
-    };
-    true
-}
-
-// Whether a session may stand at the split node at `depth`.
-fn split_stands(rules: &[u8], path: &[u8], depth: usize, standing: u8, next: u8) -> bool
-    requires { ⌜ Ruled (now rules) ⌝ }
-    requires { ⌜ Room (now path) depth × (magicWalker (now rules)) .Named (siteAt (magicWalker (now rules)) (now path) depth) ⌝ }
-    ensures { λ r. ⌜ r ≡ splitStands (standingOf standing) depth (altsAt (magicWalker (now (rules .entry))) (now (path .entry)) depth) next ⌝ }
-{
-    if standing == 1 {
-        return false;
-    }
-    let reached = reaches(rules, path, depth, next);
-    if standing > 1 {
-        return reached;
-    }
-    if !reached {
-        return false;
-    }
-    if depth > 0 {
-        return false;
-    }
-    let due = alternative_at(rules, path, depth, next);
-    let NextBranch::Atom(_) = due else {
-        return true;
-    };
-    false
-}
 
 // Tries the alternatives left at the split node at `depth`, and takes its facts back to the first `done` where all is closed.
 fn work_off(
@@ -139,7 +81,8 @@ fn stand(
 {
     match found {
         Found::Split(n) => {
-            if !split_stands(rules, path, depth, standing, next) {
+            let all = alternatives_at(rules, path, depth);
+            if !split_stands(all, depth, standing, next) {
                 return Resumed::Foreign;
             }
             rewind(facts, path, 18434, depth, n, next);
@@ -206,7 +149,8 @@ fn resume(
     };
     let a = atoms[depth] as usize;
     let j = nexts[depth];
-    if !is_taken(rules, path, depth, j, a) {
+    let all = alternatives_at(rules, path, depth);
+    if !is_taken(all, j, a) {
         return Resumed::Foreign;
     }
     rewind(facts, path, 18434, depth, n, j - 1);

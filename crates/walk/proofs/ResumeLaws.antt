@@ -46,10 +46,6 @@ standing-refuted zero ne l = refl
 standing-refuted (suc zero) ne l = absurd (ne refl)
 standing-refuted (suc (suc n)) ne l = absurd (omega arith)
 
-last-false : (b : Bool) → false ≡ (b && false)
-last-false true = refl
-last-false false = refl
-
 -- ---- whether a session may stand there, test by test
 
 module _ (standing depth next : ℕ) where
@@ -93,22 +89,12 @@ module _ (ds : List ℕ) (standing depth next : ℕ) where
       go satisfied = refl
       go exhausted = sym e
 
-  module _ (unlike : standing ≡ 1 → ⊥) (few : standing ≤ 1) where
-    pub split-short : leb next (length ds) ≡ false → false ≡ splitStands (standingOf standing) depth ds next
-    split-short e = rw (standing-refuted standing unlike few, e)
+  module _ (unlike : standing ≡ 1 → ⊥) (few : standing ≤ 1) (reached : leb next (length ds) ≡ true) where
+    pub split-deep : 0 < depth → false ≡ splitStands (standingOf standing) depth ds next
+    split-deep l = rw (standing-refuted standing unlike few, reached, ne-eqb depth 0 (λ e. omega (arith, e)))
 
-    module _ (reached : leb next (length ds) ≡ true) where
-      pub split-deep : 0 < depth → false ≡ splitStands (standingOf standing) depth ds next
-      split-deep l = rw (standing-refuted standing unlike few, reached, ne-eqb depth 0 (λ e. omega (arith, e)))
-
-      pub split-root : depth ≡ 0 → leb (length ds) next ≡ splitStands (standingOf standing) depth ds next
-      split-root e = rw (standing-refuted standing unlike few, reached, eq-eqb depth 0 e)
-
-      pub split-over : depth ≡ 0 → length ds ≤ next → true ≡ splitStands (standingOf standing) depth ds next
-      split-over e l = rw (standing-refuted standing unlike few, reached, eq-eqb depth 0 e) (sym (le-leb (length ds) next l))
-
-      pub split-due : next < length ds → false ≡ splitStands (standingOf standing) depth ds next
-      split-due l = rw (standing-refuted standing unlike few, reached, lt-leb (length ds) next l) (last-false (eqb depth 0))
+    pub split-root : depth ≡ 0 → leb (length ds) next ≡ splitStands (standingOf standing) depth ds next
+    split-root e = rw (standing-refuted standing unlike few, reached, eq-eqb depth 0 e)
 
 -- ---- an entry by its number
 

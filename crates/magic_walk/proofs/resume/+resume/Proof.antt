@@ -1,6 +1,7 @@
 -- `magic_walk::resume::resume` meets its contract. It goes down the session's steps, and there are fewer left each time.
 use Prim.Native.Nat.{ℕ, _+_, _-_, _<_}
-use mathlib.Core.Path.{_≡_, refl, sym, subst, _∙_}
+use mathlib.Core.List.{List}
+use mathlib.Core.Path.{_≡_, refl, sym, ap, subst, _∙_}
 use native.Mathlib.Omega.{arith}
 use lib.ListN.{length, getD}
 use borrow.Author.Needs.{needs}
@@ -11,7 +12,7 @@ use Rattle.ground.specs.Instance.{Instance}
 use Rattle.search.specs.Session.{placeOf}
 use Rattle.walk.specs.contracts.Path.{Turned, siteAt, altsAt, pathIn}
 use Rattle.walk.specs.contracts.Place.{Reached}
-use Rattle.walk.specs.contracts.Resume.{sessionOf}
+use Rattle.walk.specs.contracts.Resume.{sessionOf, isTaken}
 use Rattle.walk.specs.declared.answer.Found.the-variants.{Split}
 use Rattle.walk.proofs.PathLaws.{turned}
 use Rattle.walk.proofs.PlaceLaws.{reached-as}
@@ -20,10 +21,11 @@ use Rattle.magic_walk.specs.contracts.Place.{magicWalker}
 use Rattle.magic_walk.proofs.resume.resume.Reads as resume
 use Rattle.magic_walk.proofs.resume.resume.Kinds as resume-kinds
 use Rattle.magic_walk.proofs.resume.+resume.Lts-resume as resume-lts
+use Rattle.magic_walk.proofs.place.alternatives_at.Reads as alternatives-at-reads
 use Rattle.magic_walk.proofs.place.enter.Reads as enter-reads
-use Rattle.magic_walk.proofs.resume.is_taken.Reads as is-taken-reads
 use Rattle.magic_walk.proofs.resume.stand.Reads as stand-reads
 use Rattle.magic_walk.proofs.resume.work_off.Reads as work-off-reads
+use Rattle.walk.proofs.alternatives.is_taken.Reads as is-taken-reads
 use Rattle.walk.proofs.node.mark.Reads as mark-reads
 use Rattle.walk.proofs.standing.rewind.Reads as rewind-reads
 use Rattle.magic_walk.proofs.resume.+resume.{statement}
@@ -44,6 +46,8 @@ abbrev claims : ℕ → resume-lts.Claims
 claims t = (
   stand-reads.Asked,
   stand-reads.Learnt,
+  alternatives-at-reads.Asked,
+  alternatives-at-reads.Learnt,
   is-taken-reads.Asked,
   is-taken-reads.Learnt,
   rewind-reads.Asked,
@@ -57,6 +61,14 @@ claims t = (
   work-off-reads.Asked,
   work-off-reads.Learnt,
 )
+
+-- what is told of the alternatives listed is told of the node's
+taken-here : (t : ℕ) (c : resume-lts.After-is-taken (claims t) (resume-at t) resume.Post)
+    → (let s = c .before .before .before .before .before .before .before .before .before .before .before .before .before .before in
+    c .is-taken .result ≡ isTaken (altsAt (magicWalker (s .args .rules .now)) (s .args .path .now) (s .args .depth)) (getD (s .args .nexts .now) (s .args .depth) 0) (getD (s .args .atoms .now) (s .args .depth) 0))
+taken-here t c =
+    let s = c .before .before .before .before .before .before .before .before .before .before .before .before .before .before in
+    c .is-taken .ensures ∙ ap (λ (ds : List ℕ). isTaken ds (getD (s .args .nexts .now) (s .args .depth) 0) (getD (s .args .atoms .now) (s .args .depth) 0)) (c .before .alternatives-at .ensures .1)
 
 pub +resume-spec : {M : Type 1} → statement M
 +resume-spec =
@@ -100,67 +112,68 @@ pub +resume-spec : {M : Type 1} → statement M
     let w = magicWalker (s .args .rules .now) in
     let g = c .before .before .before .before .found .given in
     let at = reached-as w (s .args .facts .now) (s .args .path .now) (s .args .depth) (s .args .done) (s .args .found) (Split (g .0 .0)) (g .1) (s .pre .1 .1 .1 .0) in
-    (s .pre .1 .0, (at .room, at .ready .3 .listed)))  -- is-taken-requires
+    (s .pre .1 .0, (at .room, at .ready .3 .listed)))  -- alternatives-at-requires
+    (λ c κs. c .alternatives-at .ensures .0)  -- is-taken-requires
     (λ c. search needs)  -- same-length-3
     (λ c.
-    let s = c .before .before .before .before .before .before .before .before .before .before .before .before .before .before in
+    let s = c .before .before .before .before .before .before .before .before .before .before .before .before .before .before .before in
     let w = magicWalker (s .args .rules .now) in
-    let g = c .before .before .before .before .before .before .found .given in
+    let g = c .before .before .before .before .before .before .before .found .given in
     let at = reached-as w (s .args .facts .now) (s .args .path .now) (s .args .depth) (s .args .done) (s .args .found) (Split (g .0 .0)) (g .1) (s .pre .1 .1 .1 .0) in
     let b = c .before .is-taken in
-    foreign-entry (w .find) (s .args .atoms .now) (s .args .nexts .now) (s .args .standing) (s .args .count) (s .args .steps) (s .args .next) (s .args .depth) (pathIn w (s .args .path .now) (s .args .depth)) (s .pre .1 .1 .1 .1 .0) (omega (arith, s .pre .1 .1 .1 .1 .1 .0 .0, c .before .before .before .before .before .before .before .before .if1 .left)) (w .instance (siteAt w (s .args .path .now) (s .args .depth))) (altsAt w (s .args .path .now) (s .args .depth)) (split-found w (s .args .facts .now) (s .args .path .now) (s .args .depth) (s .args .done) (g .0 .0) at)
-    (sym (b .ensures) ∙ not-true (b .result) (c .if2 .taken)))  -- returns-3
+    foreign-entry (w .find) (s .args .atoms .now) (s .args .nexts .now) (s .args .standing) (s .args .count) (s .args .steps) (s .args .next) (s .args .depth) (pathIn w (s .args .path .now) (s .args .depth)) (s .pre .1 .1 .1 .1 .0) (omega (arith, s .pre .1 .1 .1 .1 .1 .0 .0, c .before .before .before .before .before .before .before .before .before .if1 .left)) (w .instance (siteAt w (s .args .path .now) (s .args .depth))) (altsAt w (s .args .path .now) (s .args .depth)) (split-found w (s .args .facts .now) (s .args .path .now) (s .args .depth) (s .args .done) (g .0 .0) at)
+    (sym (taken-here bound (c .before)) ∙ not-true (b .result) (c .if2 .taken)))  -- returns-3
     (λ c.
-    let s = c .before .before .before .before .before .before .before .before .before .before .before .before .before .before .before .before in
+    let s = c .before .before .before .before .before .before .before .before .before .before .before .before .before .before .before .before .before in
     let w = magicWalker (s .args .rules .now) in
-    let g = c .before .before .before .before .before .before .before .before .found .given in
+    let g = c .before .before .before .before .before .before .before .before .before .found .given in
     let at = reached-as w (s .args .facts .now) (s .args .path .now) (s .args .depth) (s .args .done) (s .args .found) (Split (g .0 .0)) (g .1) (s .pre .1 .1 .1 .0) in
     let b = c .before .before .before .is-taken in
-    let here = sym (b .ensures) ∙ not-false (b .result) (c .before .before .if2 .left) in
+    let here = sym (taken-here bound (c .before .before .before)) ∙ not-false (b .result) (c .before .before .if2 .left) in
     omega (arith, taken-some (altsAt w (s .args .path .now) (s .args .depth)) (getD (s .args .nexts .now) (s .args .depth) 0) (getD (s .args .atoms .now) (s .args .depth) 0) here))  -- sub-rewind
     (λ c κs.
-    let s = c .before .before .before .before .before .before .before .before .before .before .before .before .before .before .before .before in
+    let s = c .before .before .before .before .before .before .before .before .before .before .before .before .before .before .before .before .before in
     let w = magicWalker (s .args .rules .now) in
-    let g = c .before .before .before .before .before .before .before .before .found .given in
+    let g = c .before .before .before .before .before .before .before .before .before .found .given in
     let at = reached-as w (s .args .facts .now) (s .args .path .now) (s .args .depth) (s .args .done) (s .args .found) (Split (g .0 .0)) (g .1) (s .pre .1 .1 .1 .0) in
     ((at .store, omega arith), (at .room, at .ready .1)))  -- rewind-requires
     (λ c κs.
-    let s = c .before .before .before .before .before .before .before .before .before .before .before .before .before .before .before .before .before .before .before .before .before .before in
+    let s = c .before .before .before .before .before .before .before .before .before .before .before .before .before .before .before .before .before .before .before .before .before .before .before in
     let w = magicWalker (s .args .rules .now) in
-    let g = c .before .before .before .before .before .before .before .before .before .before .before .before .before .before .found .given in
+    let g = c .before .before .before .before .before .before .before .before .before .before .before .before .before .before .before .found .given in
     let at = reached-as w (s .args .facts .now) (s .args .path .now) (s .args .depth) (s .args .done) (s .args .found) (Split (g .0 .0)) (g .1) (s .pre .1 .1 .1 .0) in
     let b = c .before .before .before .before .before .before .before .before .before .is-taken in
-    let here = sym (b .ensures) ∙ not-false (b .result) (c .before .before .before .before .before .before .before .before .if2 .left) in
+    let here = sym (taken-here bound (c .before .before .before .before .before .before .before .before .before)) ∙ not-false (b .result) (c .before .before .before .before .before .before .before .before .if2 .left) in
     let u = c .before .before .before .before .before .rewind in
     let j : ℕ = getD (s .args .nexts .now) (s .args .depth) 0 in
     let t : Turned (s .args .path .now) (s .args .depth) (j - 1) (u .last .1 .0) = subst (Turned (s .args .path .now) (s .args .depth) (j - 1)) (sym (u .ensures .1)) (turned (s .args .path .now) (s .args .depth) (at .room) (j - 1)) in
     let long : length (u .last .1 .0) ≡ 9225 = u .kept .1 .0 ∙ at .room .size in
     (again-parted w (s .args .facts .now) (s .args .path .now) (s .args .depth) (s .args .done) (g .0 .0) at (u .last .0) (u .ensures .0) j (u .last .1 .0) t long) .room)  -- mark-requires
     (λ c κs.
-    let s = c .before .before .before .before .before .before .before .before .before .before .before .before .before .before .before .before .before .before .before .before .before .before .before .before .before in
+    let s = c .before .before .before .before .before .before .before .before .before .before .before .before .before .before .before .before .before .before .before .before .before .before .before .before .before .before in
     let w = magicWalker (s .args .rules .now) in
-    let g = c .before .before .before .before .before .before .before .before .before .before .before .before .before .before .before .before .before .found .given in
+    let g = c .before .before .before .before .before .before .before .before .before .before .before .before .before .before .before .before .before .before .found .given in
     let at = reached-as w (s .args .facts .now) (s .args .path .now) (s .args .depth) (s .args .done) (s .args .found) (Split (g .0 .0)) (g .1) (s .pre .1 .1 .1 .0) in
     let b = c .before .before .before .before .before .before .before .before .before .before .before .before .is-taken in
-    let here = sym (b .ensures) ∙ not-false (b .result) (c .before .before .before .before .before .before .before .before .before .before .before .if2 .left) in
+    let here = sym (taken-here bound (c .before .before .before .before .before .before .before .before .before .before .before .before)) ∙ not-false (b .result) (c .before .before .before .before .before .before .before .before .before .before .before .if2 .left) in
     let u = c .before .before .before .before .before .before .before .before .rewind in
     let j : ℕ = getD (s .args .nexts .now) (s .args .depth) 0 in
     let t : Turned (s .args .path .now) (s .args .depth) (j - 1) (u .last .1 .0) = subst (Turned (s .args .path .now) (s .args .depth) (j - 1)) (sym (u .ensures .1)) (turned (s .args .path .now) (s .args .depth) (at .room) (j - 1)) in
     let long : length (u .last .1 .0) ≡ 9225 = u .kept .1 .0 ∙ at .room .size in
     (s .pre .1 .0, (s .pre .1 .1 .0, (again-parted w (s .args .facts .now) (s .args .path .now) (s .args .depth) (s .args .done) (g .0 .0) at (u .last .0) (u .ensures .0) j (u .last .1 .0) t long, again-next w (s .args .facts .now) (s .args .path .now) (s .args .depth) (s .args .done) (g .0 .0) at (u .last .0) (u .ensures .0) j (u .last .1 .0) t long (getD (s .args .atoms .now) (s .args .depth) 0) here))))  -- enter-requires
     (λ c.
-    let s = c .before .before .before .before .before .before .before .before .before .before .before .before .before .before .before .before .before .before .before .before .before .before .before .before .before .before .before .before .before .before .before .before in
+    let s = c .before .before .before .before .before .before .before .before .before .before .before .before .before .before .before .before .before .before .before .before .before .before .before .before .before .before .before .before .before .before .before .before .before in
     let w = magicWalker (s .args .rules .now) in
-    let g = c .before .before .before .before .before .before .before .before .before .before .before .before .before .before .before .before .before .before .before .before .before .before .before .before .found .given in
+    let g = c .before .before .before .before .before .before .before .before .before .before .before .before .before .before .before .before .before .before .before .before .before .before .before .before .before .found .given in
     let at = reached-as w (s .args .facts .now) (s .args .path .now) (s .args .depth) (s .args .done) (s .args .found) (Split (g .0 .0)) (g .1) (s .pre .1 .1 .1 .0) in
     omega (arith, at .room .deep))  -- add-resume
     (λ c κs.
-    let s = c .before .before .before .before .before .before .before .before .before .before .before .before .before .before .before .before .before .before .before .before .before .before .before .before .before .before .before .before .before .before .before .before in
+    let s = c .before .before .before .before .before .before .before .before .before .before .before .before .before .before .before .before .before .before .before .before .before .before .before .before .before .before .before .before .before .before .before .before .before in
     let w = magicWalker (s .args .rules .now) in
-    let g = c .before .before .before .before .before .before .before .before .before .before .before .before .before .before .before .before .before .before .before .before .before .before .before .before .found .given in
+    let g = c .before .before .before .before .before .before .before .before .before .before .before .before .before .before .before .before .before .before .before .before .before .before .before .before .before .found .given in
     let at = reached-as w (s .args .facts .now) (s .args .path .now) (s .args .depth) (s .args .done) (s .args .found) (Split (g .0 .0)) (g .1) (s .pre .1 .1 .1 .0) in
     let b = c .before .before .before .before .before .before .before .before .before .before .before .before .before .before .before .before .before .before .before .is-taken in
-    let here = sym (b .ensures) ∙ not-false (b .result) (c .before .before .before .before .before .before .before .before .before .before .before .before .before .before .before .before .before .before .if2 .left) in
+    let here = sym (taken-here bound (c .before .before .before .before .before .before .before .before .before .before .before .before .before .before .before .before .before .before .before)) ∙ not-false (b .result) (c .before .before .before .before .before .before .before .before .before .before .before .before .before .before .before .before .before .before .if2 .left) in
     let u = c .before .before .before .before .before .before .before .before .before .before .before .before .before .before .before .rewind in
     let j : ℕ = getD (s .args .nexts .now) (s .args .depth) 0 in
     let t : Turned (s .args .path .now) (s .args .depth) (j - 1) (u .last .1 .0) = subst (Turned (s .args .path .now) (s .args .depth) (j - 1)) (sym (u .ensures .1)) (turned (s .args .path .now) (s .args .depth) (at .room) (j - 1)) in
@@ -168,7 +181,7 @@ pub +resume-spec : {M : Type 1} → statement M
     let m = c .before .before .before .before .before .before .before .before .before .mark in
     let e = c .before .before .before .before .before .before .enter in
     let from : s .args .steps - s .args .depth ≡ bound = s .pre .0 in
-    let more : s .args .depth < s .args .steps = omega (arith, s .pre .1 .1 .1 .1 .1 .0 .0, c .before .before .before .before .before .before .before .before .before .before .before .before .before .before .before .before .before .before .before .before .before .before .before .before .before .before .if1 .left) in
+    let more : s .args .depth < s .args .steps = omega (arith, s .pre .1 .1 .1 .1 .1 .0 .0, c .before .before .before .before .before .before .before .before .before .before .before .before .before .before .before .before .before .before .before .before .before .before .before .before .before .before .before .if1 .left) in
     let less : s .args .steps - (s .args .depth + 1) < bound = omega (arith, from, more) in (
       less,
       (
@@ -190,12 +203,12 @@ pub +resume-spec : {M : Type 1} → statement M
     (λ c. search needs)  -- same-length-4
     (λ c. search needs)  -- same-length-5
     (λ c.
-    let s = c .before .before .before .before .before .before .before .before .before .before .before .before .before .before .before .before .before .before .before .before .before .before .before .before .before .before .before .before .before .before .before .before .before .before .before .before .before .before .before in
+    let s = c .before .before .before .before .before .before .before .before .before .before .before .before .before .before .before .before .before .before .before .before .before .before .before .before .before .before .before .before .before .before .before .before .before .before .before .before .before .before .before .before in
     let w = magicWalker (s .args .rules .now) in
-    let g = c .before .before .before .before .before .before .before .before .before .before .before .before .before .before .before .before .before .before .before .before .before .before .before .before .before .before .before .before .before .before .before .found .given in
+    let g = c .before .before .before .before .before .before .before .before .before .before .before .before .before .before .before .before .before .before .before .before .before .before .before .before .before .before .before .before .before .before .before .before .found .given in
     let at = reached-as w (s .args .facts .now) (s .args .path .now) (s .args .depth) (s .args .done) (s .args .found) (Split (g .0 .0)) (g .1) (s .pre .1 .1 .1 .0) in
     let b = c .before .before .before .before .before .before .before .before .before .before .before .before .before .before .before .before .before .before .before .before .before .before .before .before .before .before .is-taken in
-    let here = sym (b .ensures) ∙ not-false (b .result) (c .before .before .before .before .before .before .before .before .before .before .before .before .before .before .before .before .before .before .before .before .before .before .before .before .before .if2 .left) in
+    let here = sym (taken-here bound (c .before .before .before .before .before .before .before .before .before .before .before .before .before .before .before .before .before .before .before .before .before .before .before .before .before .before)) ∙ not-false (b .result) (c .before .before .before .before .before .before .before .before .before .before .before .before .before .before .before .before .before .before .before .before .before .before .before .before .before .if2 .left) in
     let u = c .before .before .before .before .before .before .before .before .before .before .before .before .before .before .before .before .before .before .before .before .before .before .rewind in
     let j : ℕ = getD (s .args .nexts .now) (s .args .depth) 0 in
     let t : Turned (s .args .path .now) (s .args .depth) (j - 1) (u .last .1 .0) = subst (Turned (s .args .path .now) (s .args .depth) (j - 1)) (sym (u .ensures .1)) (turned (s .args .path .now) (s .args .depth) (at .room) (j - 1)) in
@@ -209,12 +222,12 @@ pub +resume-spec : {M : Type 1} → statement M
     (λ c. search needs)  -- same-length-6
     (λ c. search needs)  -- same-length-7
     (λ c.
-    let s = c .before .before .before .before .before .before .before .before .before .before .before .before .before .before .before .before .before .before .before .before .before .before .before .before .before .before .before .before .before .before .before .before .before .before .before .before .before .before .before .before .before in
+    let s = c .before .before .before .before .before .before .before .before .before .before .before .before .before .before .before .before .before .before .before .before .before .before .before .before .before .before .before .before .before .before .before .before .before .before .before .before .before .before .before .before .before .before in
     let w = magicWalker (s .args .rules .now) in
-    let g = c .before .before .before .before .before .before .before .before .before .before .before .before .before .before .before .before .before .before .before .before .before .before .before .before .before .before .before .before .before .before .before .before .before .found .given in
+    let g = c .before .before .before .before .before .before .before .before .before .before .before .before .before .before .before .before .before .before .before .before .before .before .before .before .before .before .before .before .before .before .before .before .before .before .found .given in
     let at = reached-as w (s .args .facts .now) (s .args .path .now) (s .args .depth) (s .args .done) (s .args .found) (Split (g .0 .0)) (g .1) (s .pre .1 .1 .1 .0) in
     let b = c .before .before .before .before .before .before .before .before .before .before .before .before .before .before .before .before .before .before .before .before .before .before .before .before .before .before .before .before .is-taken in
-    let here = sym (b .ensures) ∙ not-false (b .result) (c .before .before .before .before .before .before .before .before .before .before .before .before .before .before .before .before .before .before .before .before .before .before .before .before .before .before .before .if2 .left) in
+    let here = sym (taken-here bound (c .before .before .before .before .before .before .before .before .before .before .before .before .before .before .before .before .before .before .before .before .before .before .before .before .before .before .before .before)) ∙ not-false (b .result) (c .before .before .before .before .before .before .before .before .before .before .before .before .before .before .before .before .before .before .before .before .before .before .before .before .before .before .before .if2 .left) in
     let u = c .before .before .before .before .before .before .before .before .before .before .before .before .before .before .before .before .before .before .before .before .before .before .before .before .rewind in
     let j : ℕ = getD (s .args .nexts .now) (s .args .depth) 0 in
     let t : Turned (s .args .path .now) (s .args .depth) (j - 1) (u .last .1 .0) = subst (Turned (s .args .path .now) (s .args .depth) (j - 1)) (sym (u .ensures .1)) (turned (s .args .path .now) (s .args .depth) (at .room) (j - 1)) in
@@ -227,12 +240,12 @@ pub +resume-spec : {M : Type 1} → statement M
     let below = resumes-on w place (e .last .1 .1 .0) (e .last .1 .1 .1 .0) (s .args .depth + 1) (m .result) (s .args .count) (s .args .limit) (q .last .1 .1 .0) (q .last .1 .1 .1 .0) (q .result) (h .0 .0) (h .1) (q .ensures) in
     again-passes w (s .args .facts .now) (s .args .path .now) (s .args .depth) (s .args .done) (g .0 .0) at (u .last .0) (u .ensures .0) j (u .last .1 .0) t long (e .result) (e .last .1 .1 .0) (e .last .1 .1 .1 .0) (e .ensures .0 0) place (m .result) (s .args .count) (s .args .limit) (m .ensures) (h .0 .0) (q .last .1 .1 .0) (q .last .1 .1 .1 .0) below (c .match3 .keys2))  -- returns-5
     (λ c κs.
-    let s = c .before .before .before .before .before .before .before .before .before .before .before .before .before .before .before .before .before .before .before .before .before .before .before .before .before .before .before .before .before .before .before .before .before .before .before .before .before .before .before .before .before .before .before .before .before in
+    let s = c .before .before .before .before .before .before .before .before .before .before .before .before .before .before .before .before .before .before .before .before .before .before .before .before .before .before .before .before .before .before .before .before .before .before .before .before .before .before .before .before .before .before .before .before .before .before in
     let w = magicWalker (s .args .rules .now) in
-    let g = c .before .before .before .before .before .before .before .before .before .before .before .before .before .before .before .before .before .before .before .before .before .before .before .before .before .before .before .before .before .before .before .before .before .before .before .before .before .found .given in
+    let g = c .before .before .before .before .before .before .before .before .before .before .before .before .before .before .before .before .before .before .before .before .before .before .before .before .before .before .before .before .before .before .before .before .before .before .before .before .before .before .found .given in
     let at = reached-as w (s .args .facts .now) (s .args .path .now) (s .args .depth) (s .args .done) (s .args .found) (Split (g .0 .0)) (g .1) (s .pre .1 .1 .1 .0) in
     let b = c .before .before .before .before .before .before .before .before .before .before .before .before .before .before .before .before .before .before .before .before .before .before .before .before .before .before .before .before .before .before .before .before .is-taken in
-    let here = sym (b .ensures) ∙ not-false (b .result) (c .before .before .before .before .before .before .before .before .before .before .before .before .before .before .before .before .before .before .before .before .before .before .before .before .before .before .before .before .before .before .before .if2 .left) in
+    let here = sym (taken-here bound (c .before .before .before .before .before .before .before .before .before .before .before .before .before .before .before .before .before .before .before .before .before .before .before .before .before .before .before .before .before .before .before .before)) ∙ not-false (b .result) (c .before .before .before .before .before .before .before .before .before .before .before .before .before .before .before .before .before .before .before .before .before .before .before .before .before .before .before .before .before .before .before .if2 .left) in
     let u = c .before .before .before .before .before .before .before .before .before .before .before .before .before .before .before .before .before .before .before .before .before .before .before .before .before .before .before .before .rewind in
     let j : ℕ = getD (s .args .nexts .now) (s .args .depth) 0 in
     let t : Turned (s .args .path .now) (s .args .depth) (j - 1) (u .last .1 .0) = subst (Turned (s .args .path .now) (s .args .depth) (j - 1)) (sym (u .ensures .1)) (turned (s .args .path .now) (s .args .depth) (at .room) (j - 1)) in
@@ -248,12 +261,12 @@ pub +resume-spec : {M : Type 1} → statement M
     (λ c. c .before .before .before .before .work-off .kept .1 .1 .0 ∙ c .before .before .before .before .before .before .before .before .before .before .before .before .before .before .before .before .before .resume .kept .1 .1 .0 ∙ c .before .before .before .before .before .before .before .before .before .before .before .before .before .before .before .before .before .before .before .before .before .before .before .before .enter .kept .1 .1 .0 ∙ c .before .before .before .before .before .before .before .before .before .before .before .before .before .before .before .before .before .before .before .before .before .before .before .before .before .before .before .before .before .before .before .before .before .rewind .kept .0)  -- same-length-8
     (λ c. c .before .before .before .before .work-off .kept .1 .1 .1 .0 ∙ c .before .before .before .before .before .before .before .before .before .before .before .before .before .before .before .before .before .resume .kept .1 .1 .1 .0 ∙ c .before .before .before .before .before .before .before .before .before .before .before .before .before .before .before .before .before .before .before .before .before .before .before .before .enter .kept .1 .1 .1 .0 ∙ c .before .before .before .before .before .before .before .before .before .before .before .before .before .before .before .before .before .before .before .before .before .before .before .before .before .before .before .before .before .before .before .before .before .rewind .kept .1 .0)  -- same-length-9
     (λ c.
-    let s = c .before .before .before .before .before .before .before .before .before .before .before .before .before .before .before .before .before .before .before .before .before .before .before .before .before .before .before .before .before .before .before .before .before .before .before .before .before .before .before .before .before .before .before .before .before .before .before .before .before .before in
+    let s = c .before .before .before .before .before .before .before .before .before .before .before .before .before .before .before .before .before .before .before .before .before .before .before .before .before .before .before .before .before .before .before .before .before .before .before .before .before .before .before .before .before .before .before .before .before .before .before .before .before .before .before in
     let w = magicWalker (s .args .rules .now) in
-    let g = c .before .before .before .before .before .before .before .before .before .before .before .before .before .before .before .before .before .before .before .before .before .before .before .before .before .before .before .before .before .before .before .before .before .before .before .before .before .before .before .before .before .before .found .given in
+    let g = c .before .before .before .before .before .before .before .before .before .before .before .before .before .before .before .before .before .before .before .before .before .before .before .before .before .before .before .before .before .before .before .before .before .before .before .before .before .before .before .before .before .before .before .found .given in
     let at = reached-as w (s .args .facts .now) (s .args .path .now) (s .args .depth) (s .args .done) (s .args .found) (Split (g .0 .0)) (g .1) (s .pre .1 .1 .1 .0) in
     let b = c .before .before .before .before .before .before .before .before .before .before .before .before .before .before .before .before .before .before .before .before .before .before .before .before .before .before .before .before .before .before .before .before .before .before .before .before .before .is-taken in
-    let here = sym (b .ensures) ∙ not-false (b .result) (c .before .before .before .before .before .before .before .before .before .before .before .before .before .before .before .before .before .before .before .before .before .before .before .before .before .before .before .before .before .before .before .before .before .before .before .before .if2 .left) in
+    let here = sym (taken-here bound (c .before .before .before .before .before .before .before .before .before .before .before .before .before .before .before .before .before .before .before .before .before .before .before .before .before .before .before .before .before .before .before .before .before .before .before .before .before)) ∙ not-false (b .result) (c .before .before .before .before .before .before .before .before .before .before .before .before .before .before .before .before .before .before .before .before .before .before .before .before .before .before .before .before .before .before .before .before .before .before .before .before .if2 .left) in
     let u = c .before .before .before .before .before .before .before .before .before .before .before .before .before .before .before .before .before .before .before .before .before .before .before .before .before .before .before .before .before .before .before .before .before .rewind in
     let j : ℕ = getD (s .args .nexts .now) (s .args .depth) 0 in
     let t : Turned (s .args .path .now) (s .args .depth) (j - 1) (u .last .1 .0) = subst (Turned (s .args .path .now) (s .args .depth) (j - 1)) (sym (u .ensures .1)) (turned (s .args .path .now) (s .args .depth) (at .room) (j - 1)) in

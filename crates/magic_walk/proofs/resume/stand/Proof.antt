@@ -1,9 +1,12 @@
 -- `magic_walk::resume::stand` meets its contract.
-use mathlib.Core.Path.{sym, subst, _∙_}
+use Prim.Native.Nat.{ℕ}
+use mathlib.Core.List.{List}
+use mathlib.Core.Path.{sym, ap, subst, _∙_}
 use native.Mathlib.Omega.{arith}
 use borrow.Author.Needs.{needs}
 use borrow.Author.Tests.{not-true, not-false}
 use Rattle.walk.specs.contracts.Path.{Turned}
+use Rattle.walk.specs.contracts.Resume.{standingOf, splitStands}
 use Rattle.walk.specs.declared.answer.Found.the-variants.{Closed, Open, Split}
 use Rattle.walk.proofs.PathLaws.{turned}
 use Rattle.walk.proofs.PlaceLaws.{split-parted, reached-as}
@@ -23,26 +26,28 @@ stand-spec =
     let w = magicWalker (s .args .rules .now) in
     let g = c .before .before .found .given in
     let at = reached-as w (s .args .facts .now) (s .args .path .now) (s .args .depth) (s .args .done) (s .args .found) (Split (g .0 .0)) (g .1) (s .pre .1 .1 .0) in
-    (s .pre .0, (at .room, at .ready .3 .listed)))  -- split-stands-requires
+    (s .pre .0, (at .room, at .ready .3 .listed)))  -- alternatives-at-requires
+    (λ c κs. c .alternatives-at .ensures .0)  -- split-stands-requires
     (λ c. search needs)  -- same-length
     (λ c.
-    let s = c .before .before .before .before .before .before .before .before .before in
+    let s = c .before .before .before .before .before .before .before .before .before .before in
     let w = magicWalker (s .args .rules .now) in
-    let g = c .before .before .before .before .found .given in
+    let g = c .before .before .before .before .before .found .given in
     let at = reached-as w (s .args .facts .now) (s .args .path .now) (s .args .depth) (s .args .done) (s .args .found) (Split (g .0 .0)) (g .1) (s .pre .1 .1 .0) in
     let b = c .before .split-stands in
     split-foreign w (s .args .facts .now) (s .args .path .now) (s .args .depth) (s .args .done) (s .args .count) (s .args .limit) (s .args .standing) (s .args .next) (g .0 .0) at
-    (sym (not-true (b .result) (c .if1 .taken)) ∙ b .ensures))  -- returns
+    (sym (not-true (b .result) (c .if1 .taken)) ∙ b .ensures
+    ∙ ap (λ (ds : List ℕ). splitStands (standingOf (s .args .standing)) (s .args .depth) ds (s .args .next)) (c .before .before .alternatives-at .ensures .1)))  -- returns
     (λ c κs.
-    let s = c .before .before .before .before .before .before .before .before .before .before .before in
+    let s = c .before .before .before .before .before .before .before .before .before .before .before .before in
     let w = magicWalker (s .args .rules .now) in
-    let g = c .before .before .before .before .before .before .found .given in
+    let g = c .before .before .before .before .before .before .before .found .given in
     let at = reached-as w (s .args .facts .now) (s .args .path .now) (s .args .depth) (s .args .done) (s .args .found) (Split (g .0 .0)) (g .1) (s .pre .1 .1 .0) in
     ((at .store, omega arith), (at .room, at .ready .1)))  -- rewind-requires
     (λ c κs.
-    let s = c .before .before .before .before .before .before .before .before .before .before .before .before .before .before .before .before .before .before in
+    let s = c .before .before .before .before .before .before .before .before .before .before .before .before .before .before .before .before .before .before .before in
     let w = magicWalker (s .args .rules .now) in
-    let g = c .before .before .before .before .before .before .before .before .before .before .before .before .before .found .given in
+    let g = c .before .before .before .before .before .before .before .before .before .before .before .before .before .before .found .given in
     let at = reached-as w (s .args .facts .now) (s .args .path .now) (s .args .depth) (s .args .done) (s .args .found) (Split (g .0 .0)) (g .1) (s .pre .1 .1 .0) in
     let u = c .before .before .before .before .before .before .rewind in
     let t : Turned (s .args .path .now) (s .args .depth) (s .args .next) (u .last .1 .0) = subst (Turned (s .args .path .now) (s .args .depth) (s .args .next)) (sym (u .ensures .1)) (turned (s .args .path .now) (s .args .depth) (at .room) (s .args .next)) in
@@ -52,16 +57,17 @@ stand-spec =
     (λ c. search needs)  -- same-length-2
     (λ c. search needs)  -- same-length-3
     (λ c.
-    let s = c .before .before .before .before .before .before .before .before .before .before .before .before .before .before .before .before .before .before .before .before .before .before .before in
+    let s = c .before .before .before .before .before .before .before .before .before .before .before .before .before .before .before .before .before .before .before .before .before .before .before .before in
     let w = magicWalker (s .args .rules .now) in
-    let g = c .before .before .before .before .before .before .before .before .before .before .before .before .before .before .before .before .before .before .found .given in
+    let g = c .before .before .before .before .before .before .before .before .before .before .before .before .before .before .before .before .before .before .before .found .given in
     let at = reached-as w (s .args .facts .now) (s .args .path .now) (s .args .depth) (s .args .done) (s .args .found) (Split (g .0 .0)) (g .1) (s .pre .1 .1 .0) in
     let b = c .before .before .before .before .before .before .before .before .before .before .before .before .before .before .before .split-stands in
     let u = c .before .before .before .before .before .before .before .before .before .before .before .rewind in
     let t : Turned (s .args .path .now) (s .args .depth) (s .args .next) (u .last .1 .0) = subst (Turned (s .args .path .now) (s .args .depth) (s .args .next)) (sym (u .ensures .1)) (turned (s .args .path .now) (s .args .depth) (at .room) (s .args .next)) in
     let y = c .before .before .before .before .work-off in
     split-goes w (s .args .facts .now) (s .args .path .now) (s .args .depth) (s .args .done) (s .args .count) (s .args .limit) (s .args .standing) (s .args .next) (g .0 .0) at
-    (sym (not-false (b .result) (c .before .before .before .before .before .before .before .before .before .before .before .before .before .before .if1 .left)) ∙ b .ensures) (u .last .0) (u .ensures .0) (u .last .1 .0) t (y .result) (y .last .1 .1 .0) (y .last .1 .1 .1 .0) (y .ensures .0) (y .ensures .1))  -- returns-2
+    (sym (not-false (b .result) (c .before .before .before .before .before .before .before .before .before .before .before .before .before .before .if1 .left)) ∙ b .ensures
+    ∙ ap (λ (ds : List ℕ). splitStands (standingOf (s .args .standing)) (s .args .depth) ds (s .args .next)) (c .before .before .before .before .before .before .before .before .before .before .before .before .before .before .before .before .alternatives-at .ensures .1)) (u .last .0) (u .ensures .0) (u .last .1 .0) t (y .result) (y .last .1 .1 .0) (y .last .1 .1 .1 .0) (y .ensures .0) (y .ensures .1))  -- returns-2
     (λ c. search needs)  -- enum-known-found-2
     (λ c κs. search needs)  -- closed-stands-requires
     (λ c.
