@@ -1,12 +1,11 @@
--- The ways out of the magic engine's operation, and what is told of its walk.
-use Prim.Native.Nat.{ℕ, _-_, _≤_, _<_}
+-- The ways out of the magic engine's operation, and what is told of its first run.
+use Prim.Native.Nat.{ℕ, _≤_, _<_}
 use mathlib.Core.Bool.{true, false}
 use mathlib.Core.List.{List, _++_}
-use mathlib.Core.Path.{_≡_, refl, sym, ap, subst, _∙_}
-use native.Mathlib.Omega.{arith}
+use mathlib.Core.Path.{_≡_, refl, ap, _∙_}
 use lib.ListN.{length, take, drop, replicate}
 use borrow.Author.Tests.{lt-ltb, le-ltb}
-use Rattle.search.specs.Machine.{Satisfied, Refuted, Exhausted, outcome}
+use Rattle.search.specs.Session.{firstSession}
 use Rattle.problem.specs.Layout.{problemIn}
 use Rattle.problem.specs.Table.{Lawful, isValid}
 use Rattle.ground.specs.declared.verdict.Verdict.{Verdict}
@@ -17,10 +16,10 @@ use Rattle.rewriting.specs.Facts.{findIn}
 use Rattle.rewriting.specs.contracts.Ruled.{Ruled}
 use Rattle.rewriting.specs.Rewrite.{rulesOver}
 use Rattle.walk.specs.contracts.Walker.{fromRoot}
-use Rattle.walk.specs.contracts.Place.{bitsIn}
-use Rattle.walk.specs.contracts.Walk.{Tells}
-use Rattle.walk.specs.declared.answer.Walked.{Walked}
-use Rattle.walk.specs.declared.answer.Walked.the-variants.{Shut, Opened, Exhausted as LimitMet}
+use Rattle.session.specs.declared.record.Moved.{Moved}
+use Rattle.session.specs.Record.{laid}
+use Rattle.session.specs.contracts.End.{Concluded}
+use Rattle.session.proofs.EndLaws.{first-concluded}
 use Rattle.magic_walk.specs.contracts.Place.{magicWalker}
 use Rattle.magic.specs.Engine.{rulesOutcome, magicTooShort, magicOutcome, magicResult, magicRules, magicAnswer, magicWork}
 
@@ -74,21 +73,9 @@ module _ (tb rules answer work : List ℕ) where
   fit-runs e v r rs left part o q a z =
       (o ∙ rw (e, v), ap (λ (l : List ℕ). l ++ drop 16384 rules) q ∙ rw (e, v), a ∙ rw (e, v), ap (λ (l : List ℕ). l ++ drop 65536 work) z ∙ rw (e, v))
 
--- ---- what the walk's answer says of the outcome
+-- ---- what the end of a first run says of the outcome
 
-module _ (bs : List ℕ) (limit : ℕ) (x : Walked) (facts : List ℕ) (tells : Tells (magicWalker bs) (fromRoot (magicWalker bs) limit) x facts) where
-  outcome-is : rulesOutcome bs limit ≡ outcome (findIn bs) (limit - 0)
-  unfolding rulesOutcome
-  outcome-is = let all : limit - 0 ≡ limit = omega arith in ap (outcome (findIn bs)) (sym all)
-
-  told : (y : Walked) → x ≡ y → Tells (magicWalker bs) (fromRoot (magicWalker bs) limit) y facts
-  told y e = subst (λ (z : Walked). Tells (magicWalker bs) (fromRoot (magicWalker bs) limit) z facts) e tells
-
-  pub tells-open : (c d : ℕ) → x ≡ Opened c d → rulesOutcome bs limit ≡ Satisfied c (bitsIn (magicWalker bs) facts)
-  tells-open c d e = outcome-is ∙ told (Opened c d) e
-
-  pub tells-shut : (c : ℕ) → x ≡ Shut c → rulesOutcome bs limit ≡ Refuted c
-  tells-shut c e = outcome-is ∙ told (Shut c) e
-
-  pub tells-due : (d : ℕ) → x ≡ LimitMet d → rulesOutcome bs limit ≡ Exhausted limit
-  tells-due d e = outcome-is ∙ told (LimitMet d) e
+pub first-run : (bs : List ℕ) (limit : ℕ) (answer : List ℕ) (m : Moved) (left : List ℕ) → Concluded (magicWalker bs) (fromRoot (magicWalker bs) limit) answer m left
+    → (m .verdict ≡ verdictOf (rulesOutcome bs limit)) × (m .session ≡ laid (firstSession (findIn bs) limit)) × (left ≡ answerOf (rulesOutcome bs limit) answer)
+unfolding rulesOutcome
+first-run bs limit answer m left h = first-concluded (magicWalker bs) limit limit refl answer m left h

@@ -1,2 +1,5 @@
 pub mod EngineLaws
+pub mod SessionLaws
+pub mod FurtherLaws
+pub mod OperationLaws
 pub mod Theorems

@@ -10,6 +10,7 @@ use Rattle.lists.proofs.Test.{T-true, lt-or-le}
 use Rattle.search.specs.Ground.{Found}
 use Rattle.search.specs.Magic.{Magic, rewriting, holds, findM}
 use Rattle.search.specs.Machine.{Outcome, outcome}
+use Rattle.search.specs.Session.{Session, firstSession, declined, told}
 use Rattle.search.specs.Sound.{SoundFind}
 use Rattle.problem.specs.Problem.{Problem, Fits}
 use Rattle.problem.specs.Layout.{problemIn}
@@ -24,10 +25,15 @@ use Rattle.judging.specs.Demand2.{groundLent, limitLent, Demand2}
 use Rattle.judging.proofs.Theorems.{theorems as judgings}
 use Rattle.rewriting.specs.RulesLayout.{rulesLayout}
 use Rattle.rewriting.specs.Facts.{falseIn, magicIn, findIn}
+use Rattle.rewriting.specs.Rewrite.{rulesOver}
 use Rattle.rewriting.proofs.RegroupLaws.{find-by, rules-sound, holds-by}
+use Rattle.session.specs.declared.record.Session.{Session as Record}
+use Rattle.session.specs.Calls.{begunBy}
 use Rattle.magic.specs.Engine.{rulesOutcome, magicTooShort, magicOutcome, magicResult, magicRules, magicAnswer}
+use Rattle.magic.specs.Sessions.{magicBegun, magicResumed, rulesLeft}
 use Rattle.magic.specs.Claims.{MagicTaken, Theorems}
 use Rattle.magic.proofs.EngineLaws.{short-table, short-rules, short-answer, short-work, long-enough, fit-short, fit-invalid}
+use Rattle.magic.proofs.SessionLaws.{begun-runs, begun-fits, resumed-first}
 
 -- ---- a call that is taken
 
@@ -70,9 +76,13 @@ module _ (tb rules answer work : List ℕ) (taken : MagicTaken tb rules answer w
   holds-is l f = ap (λ (xs : List ℕ). holds instanceKey (falseIn xs) (magicIn xs) l f) rules-are ∙ holds-by q fits rest l f
 
   -- the walk by the part of the buffer is that by the whole
+  part-find : findIn (rulesOver t (take 16384 rules)) ≡ findIn bs
+  unfolding magic
+  part-find = find-by q fits part ∙ sym find-is
+
   outcome-is : magicOutcome t (take 16384 rules) ≡ outcome (findIn bs) (limitLent tb)
-  unfolding rulesOutcome magic
-  outcome-is = ap (λ (f : List ℕ → Found Instance). outcome f (limitLent tb)) (find-by q fits part ∙ sym find-is)
+  unfolding rulesOutcome
+  outcome-is = ap (λ (f : List ℕ → Found Instance). outcome f (limitLent tb)) part-find
 
   -- its verdict and its answer are those of that walk
   pub verdict-is : magicResult tb rules answer work ≡ verdictOf (outcome (findIn bs) (limitLent tb))
@@ -88,6 +98,15 @@ module _ (tb rules answer work : List ℕ) (taken : MagicTaken tb rules answer w
       let sound : SoundFind (groundLent tb) (findIn bs) = subst (λ (xs : List ℕ). SoundFind (groundLent tb) (findIn xs)) (sym rules-are) (rules-sound q fits rest) in
       rw (verdict-is, answer-is)
       (judgings .demand-2 (findIn bs) (limitLent tb) tb answer (taken .table-long) (taken .answer-long) (taken .valid) sound)
+
+  -- with a session it tells the same, and leaves that walk's
+  begun-told : magicBegun tb rules answer work ≡ told (outcome (findIn bs) (limitLent tb)) (firstSession (findIn bs) (limitLent tb))
+  begun-told = begun-runs tb rules answer work long good ∙ ap (λ (f : List ℕ → Found Instance). begunBy f (limitLent tb)) part-find
+
+  -- whatever it tells, it leaves these rules
+  rules-left : (o : Outcome) (s : Session) → rulesLeft (told o s) tb rules ≡ bs
+  unfolding magicRules
+  rules-left o s = rw (long, good)
 
 -- ---- every other call
 
@@ -114,5 +133,27 @@ module _ (tb rules answer work : List ℕ) where
       go (inr h) (inr k) (inr l) (inl m) = too-short (short-work tb rules answer work h k l m)
       go (inr h) (inr k) (inr l) (inr m) = by-table h k l m (isValid (take 4096 tb)) refl
 
+module _ (r : Record) (further : ℕ) (tb rules answer work : List ℕ) where
+  first : (e : ℕ) → magicResult tb rules answer work ≡ Refused e → magicResumed r further tb rules answer work ≡ declined e
+  first e f = resumed-first tb rules answer work r further e f
+
+  resumed-or-refused : MagicTaken tb rules answer work ⊎ (magicResumed r further tb rules answer work ≡ declined 11) ⊎ (magicResumed r further tb rules answer work ≡ declined 31)
+  resumed-or-refused = go (taken-or-refused tb rules answer work)
+    where
+      go : Either tb rules answer work
+          → MagicTaken tb rules answer work ⊎ (magicResumed r further tb rules answer work ≡ declined 11) ⊎ (magicResumed r further tb rules answer work ≡ declined 31)
+      go (inl t) = inl t
+      go (inr (inl f)) = inr (inl (first 11 f))
+      go (inr (inr f)) = inr (inr (first 31 f))
+
 pub theorems : Theorems
-theorems = record { demand-2 = demand-2; taken-or-refused = taken-or-refused }
+theorems =
+    record {
+      demand-2 = demand-2;
+      taken-or-refused = taken-or-refused;
+      begun-fits = begun-fits;
+      begun-told = begun-told;
+      resumed-or-refused = resumed-or-refused;
+      resumed-first = first;
+      rules-left = rules-left;
+    }

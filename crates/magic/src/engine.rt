@@ -1,73 +1,128 @@
-// The magic engine's operation.
+// The magic engine's operations: a first run, and going on with a session.
+use crate::end::conclude;
+use crate::further::run_on;
 use ground::verdict::Verdict;
-use ground::verdict::give;
 use ground::verdict::limit_in;
-use lists::pair;
-use magic_walk::trail::whole_walk;
+use magic_node::index::build;
+use magic_walk::trail::from_root;
 use rewriting::rewrite::write_rules;
-use walk::answer::Walked;
+use session::record::Moved;
+use session::record::Session;
+use session::record::blank;
+use session::record::refused;
 use writing::write::valid;
 ghost use mathlib.Core.Path.{_≡_};
 ghost use Prim.Native.Nat.{_≤_};
 ghost use lib.ListN.{length, replicate};
+ghost use Rattle.search.specs.Session.{firstSession};
+ghost use Rattle.problem.specs.Problem.{limitOf};
+ghost use Rattle.problem.specs.Layout.{problemIn};
 ghost use Rattle.problem.specs.Table.{Lawful};
 ghost use Rattle.ground.specs.Verdict.{verdictOf, answerOf};
 ghost use Rattle.rewriting.specs.contracts.Ruled.{Ruled};
+ghost use Rattle.rewriting.specs.Facts.{findIn};
 ghost use Rattle.rewriting.specs.Rewrite.{rulesOver};
+ghost use Rattle.session.specs.Record.{laid};
+ghost use Rattle.session.specs.Calls.{verdictTold, recordLeft, answerLeft, workLeft};
 ghost use Rattle.magic.specs.Engine.{rulesOutcome, magicOutcome, magicResult, magicRules, magicAnswer, magicWork};
+ghost use Rattle.magic.specs.Sessions.{magicBegun, magicResumed, rulesLeft};
 
-// The magic walk by the rules of a buffer under a limit, in a buffer for its facts.
-fn decide(rules: &[u8], limit: u32, answer: &mut [u8], facts: &mut [u8]) -> Verdict
+// The magic walk by the rules of a buffer from the root on, under a limit, in a buffer for its facts.
+fn decide(rules: &[u8], limit: u32, answer: &mut [u8], facts: &mut [u8]) -> Moved
     requires { ⌜ Ruled (now rules) ⌝ }
     requires { ⌜ (1024 ≤ length (now answer)) × (length (now facts) ≡ 55302) ⌝ }
-    ensures { λ r. ⌜ (r ≡ verdictOf (rulesOutcome (now (rules .entry)) limit)) × (now (answer .exit) ≡ answerOf (rulesOutcome (now (rules .entry)) limit) (now (answer .entry))) ⌝ }
+    ensures { λ r. ⌜ (r .verdict ≡ verdictOf (rulesOutcome (now (rules .entry)) limit)) × (r .session ≡ laid (firstSession (findIn (now (rules .entry))) limit)) × (now (answer .exit) ≡ answerOf (rulesOutcome (now (rules .entry)) limit) (now (answer .entry))) ⌝ }
 {
-    let walked = whole_walk(rules, facts, limit);
-    match walked {
-        Walked::Opened(count, _depth) => {
-            give(facts, answer, pair(rules[8], rules[9]));
-            return Verdict::Satisfied(count);
-        }
-        Walked::Shut(count) => {
-            return Verdict::Refuted(count);
-        }
-        _ => {}
-    }
-    Verdict::Exhausted(limit)
+    let index = build(rules);
+    lists::zero(facts);
+    let mut path = [0u8; 9225];
+    let walked = from_root(rules, &index, facts, &mut path, limit);
+    conclude(rules, &index, facts, &mut path, answer, walked, limit)
 }
 
 // Rewrites a valid table, walks by the rules alone in the first part of the work buffer, and leaves it zero.
-fn run(table: &[u8], rules: &mut [u8], answer: &mut [u8], work: &mut [u8]) -> Verdict
+fn run(table: &[u8], rules: &mut [u8], answer: &mut [u8], work: &mut [u8]) -> Moved
     requires { ⌜ Lawful (now table) ⌝ }
     requires { ⌜ (length (now rules) ≡ 16384) × (1024 ≤ length (now answer)) × (length (now work) ≡ 65536) ⌝ }
-    ensures { λ r. ⌜ (r ≡ verdictOf (magicOutcome (now (table .entry)) (now (rules .entry)))) × (now (rules .exit) ≡ rulesOver (now (table .entry)) (now (rules .entry))) × (now (answer .exit) ≡ answerOf (magicOutcome (now (table .entry)) (now (rules .entry))) (now (answer .entry))) × (now (work .exit) ≡ replicate 65536 0) ⌝ }
+    ensures { λ r. ⌜ (r .verdict ≡ verdictOf (magicOutcome (now (table .entry)) (now (rules .entry)))) × (r .session ≡ laid (firstSession (findIn (rulesOver (now (table .entry)) (now (rules .entry)))) (limitOf ((problemIn (now (table .entry))) .limit)))) × (now (rules .exit) ≡ rulesOver (now (table .entry)) (now (rules .entry))) × (now (answer .exit) ≡ answerOf (magicOutcome (now (table .entry)) (now (rules .entry))) (now (answer .entry))) × (now (work .exit) ≡ replicate 65536 0) ⌝ }
 {
     write_rules(table, rules);
     let limit = limit_in(table);
-    let verdict = decide(rules, limit, answer, &mut work[0..55302]);
+    let moved = decide(rules, limit, answer, &mut work[0..55302]);
     lists::zero(work);
-    verdict
+    moved
 }
 
-// Fits a lent table: the magic walk under the table's own limit.
-pub fn fit(table: &[u8], rules: &mut [u8], answer: &mut [u8], work: &mut [u8]) -> Verdict
-    ensures { λ r. ⌜ (r ≡ magicResult (now (table .entry)) (now (rules .entry)) (now (answer .entry)) (now (work .entry))) × (now (rules .exit) ≡ magicRules (now (table .entry)) (now (rules .entry)) (now (answer .entry)) (now (work .entry))) × (now (answer .exit) ≡ magicAnswer (now (table .entry)) (now (rules .entry)) (now (answer .entry)) (now (work .entry))) × (now (work .exit) ≡ magicWork (now (table .entry)) (now (rules .entry)) (now (answer .entry)) (now (work .entry))) ⌝ }
+// Fits a lent table: the magic walk under the table's own limit, which leaves a session.
+pub fn begin(
+    session: Session,
+    table: &[u8],
+    rules: &mut [u8],
+    answer: &mut [u8],
+    work: &mut [u8],
+) -> Moved
+    ensures { λ r. ⌜ (r .verdict ≡ magicResult (now (table .entry)) (now (rules .entry)) (now (answer .entry)) (now (work .entry))) × (r .session ≡ recordLeft (magicBegun (now (table .entry)) (now (rules .entry)) (now (answer .entry)) (now (work .entry))) session) × (now (rules .exit) ≡ magicRules (now (table .entry)) (now (rules .entry)) (now (answer .entry)) (now (work .entry))) × (now (answer .exit) ≡ magicAnswer (now (table .entry)) (now (rules .entry)) (now (answer .entry)) (now (work .entry))) × (now (work .exit) ≡ magicWork (now (table .entry)) (now (rules .entry)) (now (answer .entry)) (now (work .entry))) ⌝ }
 {
     if table.len() < 4096 {
-        return Verdict::Refused(11);
+        return refused(session, 11);
     }
     if rules.len() < 16384 {
-        return Verdict::Refused(11);
+        return refused(session, 11);
     }
     if answer.len() < 1024 {
-        return Verdict::Refused(11);
+        return refused(session, 11);
     }
     if work.len() < 65536 {
-        return Verdict::Refused(11);
+        return refused(session, 11);
     }
     let own = &table[..4096];
     if !valid(own) {
-        return Verdict::Refused(31);
+        return refused(session, 31);
     }
     run(own, &mut rules[..16384], answer, &mut work[..65536])
+}
+
+// The same, without a session.
+pub fn fit(table: &[u8], rules: &mut [u8], answer: &mut [u8], work: &mut [u8]) -> Verdict
+    ensures { λ r. ⌜ (r ≡ magicResult (now (table .entry)) (now (rules .entry)) (now (answer .entry)) (now (work .entry))) × (now (rules .exit) ≡ magicRules (now (table .entry)) (now (rules .entry)) (now (answer .entry)) (now (work .entry))) × (now (answer .exit) ≡ magicAnswer (now (table .entry)) (now (rules .entry)) (now (answer .entry)) (now (work .entry))) × (now (work .exit) ≡ magicWork (now (table .entry)) (now (rules .entry)) (now (answer .entry)) (now (work .entry))) ⌝ }
+{
+    let moved = begin(blank(), table, rules, answer, work);
+    moved.verdict
+}
+
+// Goes on with a session on a lent table, under a further limit.
+pub fn resume(
+    session: Session,
+    further: u32,
+    table: &[u8],
+    rules: &mut [u8],
+    answer: &mut [u8],
+    work: &mut [u8],
+) -> Moved
+    ensures { λ r. ⌜ (r .verdict ≡ verdictTold (magicResumed session further (now (table .entry)) (now (rules .entry)) (now (answer .entry)) (now (work .entry)))) × (r .session ≡ recordLeft (magicResumed session further (now (table .entry)) (now (rules .entry)) (now (answer .entry)) (now (work .entry))) session) × (now (rules .exit) ≡ rulesLeft (magicResumed session further (now (table .entry)) (now (rules .entry)) (now (answer .entry)) (now (work .entry))) (now (table .entry)) (now (rules .entry))) × (now (answer .exit) ≡ answerLeft (magicResumed session further (now (table .entry)) (now (rules .entry)) (now (answer .entry)) (now (work .entry))) (now (answer .entry))) × (now (work .exit) ≡ workLeft (magicResumed session further (now (table .entry)) (now (rules .entry)) (now (answer .entry)) (now (work .entry))) (now (work .entry))) ⌝ }
+{
+    if table.len() < 4096 {
+        return refused(session, 11);
+    }
+    if rules.len() < 16384 {
+        return refused(session, 11);
+    }
+    if answer.len() < 1024 {
+        return refused(session, 11);
+    }
+    if work.len() < 65536 {
+        return refused(session, 11);
+    }
+    let own = &table[..4096];
+    if !valid(own) {
+        return refused(session, 31);
+    }
+    run_on(
+        session,
+        further,
+        own,
+        &mut rules[..16384],
+        answer,
+        &mut work[..65536],
+    )
 }

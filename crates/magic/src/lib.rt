@@ -1,2 +1,4 @@
-// The magic engine's operation over lent buffers.
+// The magic engine's operations.
+pub mod end;
 pub mod engine;
+pub mod further;

@@ -3,14 +3,12 @@ use crate::place::alternative;
 use crate::place::place;
 use crate::place::root;
 use ground::branch::NextBranch;
-use magic_node::index::build;
 use store::undo;
 use walk::answer::Found;
 use walk::answer::Walked;
 use walk::node::mark;
 ghost use mathlib.Core.Path.{_≡_};
 ghost use Prim.Native.Nat.{_≤_};
-ghost use lib.ListN.{length};
 ghost use Rattle.store.specs.contracts.Store.{Store};
 ghost use Rattle.rewriting.specs.contracts.Ruled.{Ruled};
 ghost use Rattle.magic_node.specs.contracts.Index.{RulesIndexed};
@@ -18,7 +16,7 @@ ghost use Rattle.ground.specs.Instance.{Instance};
 ghost use Rattle.walk.specs.contracts.Walker.{Run, fromRoot};
 ghost use Rattle.walk.specs.contracts.Path.{Room, markAt};
 ghost use Rattle.walk.specs.contracts.Place.{Parted, Reached, Visiting, Trying};
-ghost use Rattle.walk.specs.contracts.Walk.{Leaves, Ended, Walks, WalkMade};
+ghost use Rattle.walk.specs.contracts.Walk.{Leaves, Ended, Walks};
 ghost use Rattle.magic_walk.specs.contracts.Place.{magicWalker, OwnFacts};
 
 // Visits the node at `depth`, which is entry `count` and found so; its facts are taken back to the first `done` where all is closed.
@@ -120,16 +118,4 @@ pub fn from_root(
 {
     let found = root(rules, index, facts, path);
     visit(rules, index, facts, path, 0, 0, found, 0, limit)
-}
-
-// Walks by the rules of a buffer under a limit, in a buffer for facts with any bytes.
-pub fn whole_walk(rules: &[u8], facts: &mut [u8], limit: u32) -> Walked
-    requires { ⌜ Ruled (now rules) ⌝ }
-    requires { ⌜ length (now facts) ≡ 55302 ⌝ }
-    ensures { λ x. ⌜ WalkMade (magicWalker (now (rules .entry))) (fromRoot (magicWalker (now (rules .entry))) limit) x (now (facts .exit)) ⌝ }
-{
-    let index = build(rules);
-    lists::zero(facts);
-    let mut path = [0u8; 9225];
-    from_root(rules, &index, facts, &mut path, limit)
 }

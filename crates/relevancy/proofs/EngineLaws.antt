@@ -1,13 +1,12 @@
 -- The ways out of the operation, and what is told of its walk.
-use Prim.Native.Nat.{ℕ, _-_, _≤_, _<_}
+use Prim.Native.Nat.{ℕ, _≤_, _<_}
 use mathlib.Core.Bool.{true, false}
 use mathlib.Core.List.{List, _++_}
-use mathlib.Core.Path.{_≡_, ap, sym, subst, _∙_}
-use native.Mathlib.Omega.{arith}
+use mathlib.Core.Path.{_≡_, ap, _∙_}
 use lib.ListN.{length, take, drop, replicate}
 use borrow.Author.Tests.{lt-ltb, le-ltb}
 use Rattle.search.specs.Relevancy.{findR}
-use Rattle.search.specs.Machine.{Satisfied, Refuted, Exhausted, outcome}
+use Rattle.search.specs.Session.{firstSession}
 use Rattle.problem.specs.Problem.{limitOf}
 use Rattle.problem.specs.Layout.{problemIn}
 use Rattle.problem.specs.Table.{isValid}
@@ -16,10 +15,10 @@ use Rattle.ground.specs.declared.verdict.Verdict.the-variants.{Refused}
 use Rattle.ground.specs.Verdict.{verdictOf, answerOf}
 use Rattle.ground.specs.Instance.{groundIn}
 use Rattle.walk.specs.contracts.Walker.{fromRoot}
-use Rattle.walk.specs.contracts.Place.{bitsIn}
-use Rattle.walk.specs.contracts.Walk.{Tells}
-use Rattle.walk.specs.declared.answer.Walked.{Walked}
-use Rattle.walk.specs.declared.answer.Walked.the-variants.{Shut, Opened, Exhausted as LimitMet}
+use Rattle.session.specs.declared.record.Moved.{Moved}
+use Rattle.session.specs.Record.{laid}
+use Rattle.session.specs.contracts.End.{Concluded}
+use Rattle.session.proofs.EndLaws.{first-concluded}
 use Rattle.relevancy_walk.specs.contracts.Place.{relevancyWalker}
 use Rattle.relevancy.specs.Engine.{outcomeIn, tooShort, fitResult, fitAnswer, fitWork}
 
@@ -56,21 +55,10 @@ module _ (tb answer work : List ℕ) where
   unfolding fitResult fitAnswer fitWork
   fit-runs e v r left part o a z = (o ∙ rw (e, v), a ∙ rw (e, v), ap (λ (l : List ℕ). l ++ drop 65536 work) z ∙ rw (e, v))
 
--- ---- what the walk's answer says of the outcome
+-- ---- the end of a first run under the table's own limit
 
-module _ (tb : List ℕ) (limit : ℕ) (limit-is : limit ≡ limitOf ((problemIn tb) .limit)) (x : Walked) (facts : List ℕ) (tells : Tells (relevancyWalker tb) (fromRoot (relevancyWalker tb) limit) x facts) where
-  outcome-is : outcomeIn tb ≡ outcome (findR (groundIn tb)) (limit - 0)
-  unfolding outcomeIn
-  outcome-is = let all : limit - 0 ≡ limitOf ((problemIn tb) .limit) = omega (arith, limit-is) in ap (outcome (findR (groundIn tb))) (sym all)
-
-  told : (y : Walked) → x ≡ y → Tells (relevancyWalker tb) (fromRoot (relevancyWalker tb) limit) y facts
-  told y e = subst (λ (z : Walked). Tells (relevancyWalker tb) (fromRoot (relevancyWalker tb) limit) z facts) e tells
-
-  pub tells-open : (c d : ℕ) → x ≡ Opened c d → outcomeIn tb ≡ Satisfied c (bitsIn (relevancyWalker tb) facts)
-  tells-open c d e = outcome-is ∙ told (Opened c d) e
-
-  pub tells-shut : (c : ℕ) → x ≡ Shut c → outcomeIn tb ≡ Refuted c
-  tells-shut c e = outcome-is ∙ told (Shut c) e
-
-  pub tells-due : (d : ℕ) → x ≡ LimitMet d → outcomeIn tb ≡ Exhausted limit
-  tells-due d e = outcome-is ∙ told (LimitMet d) e
+pub first-run : (tb : List ℕ) (limit : ℕ) → limit ≡ limitOf ((problemIn tb) .limit) → (answer : List ℕ) (m : Moved) (left : List ℕ)
+    → Concluded (relevancyWalker tb) (fromRoot (relevancyWalker tb) limit) answer m left
+    → (m .verdict ≡ verdictOf (outcomeIn tb)) × (m .session ≡ laid (firstSession (findR (groundIn tb)) (limitOf ((problemIn tb) .limit)))) × (left ≡ answerOf (outcomeIn tb) answer)
+unfolding outcomeIn
+first-run tb limit e answer m left h = first-concluded (relevancyWalker tb) limit (limitOf ((problemIn tb) .limit)) e answer m left h

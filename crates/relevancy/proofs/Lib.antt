@@ -1,2 +1,4 @@
+pub mod OperationLaws
 pub mod EngineLaws
+pub mod SessionLaws
 pub mod Theorems

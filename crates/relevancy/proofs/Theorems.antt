@@ -9,6 +9,7 @@ use lib.ListN.{length, take}
 use Rattle.lists.proofs.Test.{T-true, lt-or-le}
 use Rattle.search.specs.Relevancy.{findR}
 use Rattle.search.specs.Machine.{outcome}
+use Rattle.search.specs.Session.{firstSession, declined, told}
 use Rattle.search.proofs.Theorems.{theorems as walks}
 use Rattle.problem.specs.Layout.{problemIn}
 use Rattle.problem.specs.Table.{isValid}
@@ -18,9 +19,12 @@ use Rattle.ground.specs.Verdict.{verdictOf, answerOf}
 use Rattle.ground.proofs.Instances.{ground-proper}
 use Rattle.judging.specs.Demand2.{groundLent, limitLent, Demand2}
 use Rattle.judging.proofs.Theorems.{theorems as judgings}
+use Rattle.session.specs.declared.record.Session.{Session as Record}
 use Rattle.relevancy.specs.Engine.{outcomeIn, fitResult, fitAnswer}
+use Rattle.relevancy.specs.Sessions.{begun, resumed}
 use Rattle.relevancy.specs.Claims.{Taken, Theorems}
 use Rattle.relevancy.proofs.EngineLaws.{short-table, short-answer, short-work, long-enough, fit-short, fit-invalid}
+use Rattle.relevancy.proofs.SessionLaws.{begun-runs, begun-fits, resumed-first}
 
 -- ---- a call that is taken
 
@@ -46,6 +50,10 @@ module _ (tb answer work : List ℕ) (taken : Taken tb answer work) where
       rw (verdict-is, answer-is)
       (judgings .demand-2 (findR (groundLent tb)) (limitLent tb) tb answer (taken .table-long) (taken .answer-long) (taken .valid) sound)
 
+  -- with a session it tells the same, and leaves that walk's
+  begun-told : begun tb answer work ≡ told (outcome (findR (groundLent tb)) (limitLent tb)) (firstSession (findR (groundLent tb)) (limitLent tb))
+  begun-told = begun-runs tb answer work (long-enough tb answer work (taken .table-long) (taken .answer-long) (taken .work-long)) good
+
 -- ---- every other call
 
 taken-or-refused : (tb answer work : List ℕ) → Taken tb answer work ⊎ (fitResult tb answer work ≡ Refused 11) ⊎ (fitResult tb answer work ≡ Refused 31)
@@ -64,5 +72,26 @@ taken-or-refused tb answer work = go (lt-or-le (length tb) 4096) (lt-or-le (leng
     go (inr h) (inr l) (inl m) = inr (inl (sym (fit-short tb answer work (short-work tb answer work h l m) .0)))
     go (inr h) (inr l) (inr m) = by-table h l m (isValid (take 4096 tb)) refl
 
+module _ (r : Record) (further : ℕ) (tb answer work : List ℕ) where
+  first : (e : ℕ) → fitResult tb answer work ≡ Refused e → resumed r further tb answer work ≡ declined e
+  first e f = resumed-first tb answer work r further e f
+
+  resumed-or-refused : Taken tb answer work ⊎ (resumed r further tb answer work ≡ declined 11) ⊎ (resumed r further tb answer work ≡ declined 31)
+  resumed-or-refused = go (taken-or-refused tb answer work)
+    where
+      go : Taken tb answer work ⊎ (fitResult tb answer work ≡ Refused 11) ⊎ (fitResult tb answer work ≡ Refused 31)
+          → Taken tb answer work ⊎ (resumed r further tb answer work ≡ declined 11) ⊎ (resumed r further tb answer work ≡ declined 31)
+      go (inl t) = inl t
+      go (inr (inl f)) = inr (inl (first 11 f))
+      go (inr (inr f)) = inr (inr (first 31 f))
+
 pub theorems : Theorems
-theorems = record { demand-2 = demand-2; taken-or-refused = taken-or-refused }
+theorems =
+    record {
+      demand-2 = demand-2;
+      taken-or-refused = taken-or-refused;
+      begun-fits = begun-fits;
+      begun-told = begun-told;
+      resumed-or-refused = resumed-or-refused;
+      resumed-first = first;
+    }

@@ -1,66 +1,115 @@
-// The relevancy engine's operation.
+// The relevancy engine's operations: a first run, and going on with a session.
+use crate::end::conclude;
+use crate::further::go_further;
 use ground::verdict::Verdict;
-use ground::verdict::give;
 use ground::verdict::limit_in;
-use lists::pair;
-use relevancy_walk::trail::whole_walk;
-use walk::answer::Walked;
+use relevancy_node::index::build;
+use relevancy_walk::trail::from_root;
+use session::record::Moved;
+use session::record::Session;
+use session::record::blank;
+use session::record::refused;
 use writing::write::valid;
 ghost use mathlib.Core.Path.{_≡_};
 ghost use Prim.Native.Nat.{_≤_};
 ghost use lib.ListN.{length, replicate};
+ghost use Rattle.search.specs.Relevancy.{findR};
+ghost use Rattle.search.specs.Session.{firstSession};
+ghost use Rattle.problem.specs.Problem.{limitOf};
+ghost use Rattle.problem.specs.Layout.{problemIn};
 ghost use Rattle.problem.specs.Table.{Lawful};
 ghost use Rattle.ground.specs.Verdict.{verdictOf, answerOf};
+ghost use Rattle.ground.specs.Instance.{groundIn};
+ghost use Rattle.session.specs.Record.{laid};
+ghost use Rattle.session.specs.Calls.{verdictTold, recordLeft, answerLeft, workLeft};
 ghost use Rattle.relevancy.specs.Engine.{outcomeIn, fitResult, fitAnswer, fitWork};
+ghost use Rattle.relevancy.specs.Sessions.{begun, resumed};
 
-// The relevancy walk of a valid table, in a buffer for its facts.
-fn decide(table: &[u8], answer: &mut [u8], facts: &mut [u8]) -> Verdict
+// The walk of a valid table from the root on, under its own limit, in a buffer for its facts.
+fn decide(table: &[u8], answer: &mut [u8], facts: &mut [u8]) -> Moved
     requires { ⌜ Lawful (now table) ⌝ }
     requires { ⌜ (1024 ≤ length (now answer)) × (length (now facts) ≡ 6150) ⌝ }
-    ensures { λ r. ⌜ (r ≡ verdictOf (outcomeIn (now (table .entry)))) × (now (answer .exit) ≡ answerOf (outcomeIn (now (table .entry))) (now (answer .entry))) ⌝ }
+    ensures { λ r. ⌜ (r .verdict ≡ verdictOf (outcomeIn (now (table .entry)))) × (r .session ≡ laid (firstSession (findR (groundIn (now (table .entry)))) (limitOf ((problemIn (now (table .entry))) .limit)))) × (now (answer .exit) ≡ answerOf (outcomeIn (now (table .entry))) (now (answer .entry))) ⌝ }
 {
+    let conds = build(table, false);
+    let alts = build(table, true);
+    lists::zero(facts);
+    let mut path = [0u8; 9225];
     let limit = limit_in(table);
-    let walked = whole_walk(table, facts, limit);
-    match walked {
-        Walked::Opened(count, _depth) => {
-            give(facts, answer, pair(table[8], table[9]));
-            return Verdict::Satisfied(count);
-        }
-        Walked::Shut(count) => {
-            return Verdict::Refuted(count);
-        }
-        _ => {}
-    }
-    Verdict::Exhausted(limit)
+    let walked = from_root(table, &conds, &alts, facts, &mut path, limit);
+    conclude(
+        table,
+        &conds,
+        &alts,
+        facts,
+        &mut path,
+        answer,
+        walked,
+        limit,
+    )
 }
 
 // The same, in the first part of the work buffer, which is left zero.
-fn run(table: &[u8], answer: &mut [u8], work: &mut [u8]) -> Verdict
+fn run(table: &[u8], answer: &mut [u8], work: &mut [u8]) -> Moved
     requires { ⌜ Lawful (now table) ⌝ }
     requires { ⌜ (1024 ≤ length (now answer)) × (length (now work) ≡ 65536) ⌝ }
-    ensures { λ r. ⌜ (r ≡ verdictOf (outcomeIn (now (table .entry)))) × (now (answer .exit) ≡ answerOf (outcomeIn (now (table .entry))) (now (answer .entry))) × (now (work .exit) ≡ replicate 65536 0) ⌝ }
+    ensures { λ r. ⌜ (r .verdict ≡ verdictOf (outcomeIn (now (table .entry)))) × (r .session ≡ laid (firstSession (findR (groundIn (now (table .entry)))) (limitOf ((problemIn (now (table .entry))) .limit)))) × (now (answer .exit) ≡ answerOf (outcomeIn (now (table .entry))) (now (answer .entry))) × (now (work .exit) ≡ replicate 65536 0) ⌝ }
 {
-    let verdict = decide(table, answer, &mut work[0..6150]);
+    let moved = decide(table, answer, &mut work[0..6150]);
     lists::zero(work);
-    verdict
+    moved
 }
 
-// Fits a lent table: the relevancy walk under the table's own limit.
-pub fn fit(table: &[u8], answer: &mut [u8], work: &mut [u8]) -> Verdict
-    ensures { λ r. ⌜ (r ≡ fitResult (now (table .entry)) (now (answer .entry)) (now (work .entry))) × (now (answer .exit) ≡ fitAnswer (now (table .entry)) (now (answer .entry)) (now (work .entry))) × (now (work .exit) ≡ fitWork (now (table .entry)) (now (answer .entry)) (now (work .entry))) ⌝ }
+// Fits a lent table: the relevancy walk under the table's own limit, which leaves a session.
+pub fn begin(session: Session, table: &[u8], answer: &mut [u8], work: &mut [u8]) -> Moved
+    ensures { λ r. ⌜ (r .verdict ≡ fitResult (now (table .entry)) (now (answer .entry)) (now (work .entry))) × (r .session ≡ recordLeft (begun (now (table .entry)) (now (answer .entry)) (now (work .entry))) session) × (now (answer .exit) ≡ fitAnswer (now (table .entry)) (now (answer .entry)) (now (work .entry))) × (now (work .exit) ≡ fitWork (now (table .entry)) (now (answer .entry)) (now (work .entry))) ⌝ }
 {
     if table.len() < 4096 {
-        return Verdict::Refused(11);
+        return refused(session, 11);
     }
     if answer.len() < 1024 {
-        return Verdict::Refused(11);
+        return refused(session, 11);
     }
     if work.len() < 65536 {
-        return Verdict::Refused(11);
+        return refused(session, 11);
     }
     let own = &table[..4096];
     if !valid(own) {
-        return Verdict::Refused(31);
+        return refused(session, 31);
     }
     run(own, answer, &mut work[..65536])
+}
+
+// The same, without a session.
+pub fn fit(table: &[u8], answer: &mut [u8], work: &mut [u8]) -> Verdict
+    ensures { λ r. ⌜ (r ≡ fitResult (now (table .entry)) (now (answer .entry)) (now (work .entry))) × (now (answer .exit) ≡ fitAnswer (now (table .entry)) (now (answer .entry)) (now (work .entry))) × (now (work .exit) ≡ fitWork (now (table .entry)) (now (answer .entry)) (now (work .entry))) ⌝ }
+{
+    let moved = begin(blank(), table, answer, work);
+    moved.verdict
+}
+
+// Goes on with a session on a lent table, under a further limit.
+pub fn resume(
+    session: Session,
+    further: u32,
+    table: &[u8],
+    answer: &mut [u8],
+    work: &mut [u8],
+) -> Moved
+    ensures { λ r. ⌜ (r .verdict ≡ verdictTold (resumed session further (now (table .entry)) (now (answer .entry)) (now (work .entry)))) × (r .session ≡ recordLeft (resumed session further (now (table .entry)) (now (answer .entry)) (now (work .entry))) session) × (now (answer .exit) ≡ answerLeft (resumed session further (now (table .entry)) (now (answer .entry)) (now (work .entry))) (now (answer .entry))) × (now (work .exit) ≡ workLeft (resumed session further (now (table .entry)) (now (answer .entry)) (now (work .entry))) (now (work .entry))) ⌝ }
+{
+    if table.len() < 4096 {
+        return refused(session, 11);
+    }
+    if answer.len() < 1024 {
+        return refused(session, 11);
+    }
+    if work.len() < 65536 {
+        return refused(session, 11);
+    }
+    let own = &table[..4096];
+    if !valid(own) {
+        return refused(session, 31);
+    }
+    go_further(session, further, own, answer, &mut work[..65536])
 }

@@ -1,2 +1,4 @@
-// The relevancy engine's operation over lent buffers.
+// The relevancy engine's operations.
+pub mod end;
 pub mod engine;
+pub mod further;

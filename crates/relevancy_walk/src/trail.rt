@@ -3,7 +3,6 @@ use crate::place::alternative;
 use crate::place::place;
 use crate::place::root;
 use ground::branch::NextBranch;
-use relevancy_node::index::build;
 use store::undo;
 use walk::answer::Found;
 use walk::answer::Walked;
@@ -11,7 +10,6 @@ use walk::node::mark;
 ghost use mathlib.Core.Bool.{true, false};
 ghost use mathlib.Core.Path.{_≡_};
 ghost use Prim.Native.Nat.{_≤_};
-ghost use lib.ListN.{length};
 ghost use Rattle.store.specs.contracts.Store.{Store};
 ghost use Rattle.problem.specs.Table.{Lawful};
 ghost use Rattle.relevancy_node.specs.contracts.Index.{ClausesIndexed};
@@ -19,7 +17,7 @@ ghost use Rattle.ground.specs.Instance.{Instance};
 ghost use Rattle.walk.specs.contracts.Walker.{Run, fromRoot};
 ghost use Rattle.walk.specs.contracts.Path.{Room, markAt};
 ghost use Rattle.walk.specs.contracts.Place.{Parted, Reached, Visiting, Trying};
-ghost use Rattle.walk.specs.contracts.Walk.{Leaves, Ended, Walks, WalkMade};
+ghost use Rattle.walk.specs.contracts.Walk.{Leaves, Ended, Walks};
 ghost use Rattle.relevancy_walk.specs.contracts.Place.{relevancyWalker};
 
 // Visits the node at `depth`, which is entry `count` and found so; its facts are taken back to the first `done` where all is closed.
@@ -127,17 +125,4 @@ pub fn from_root(
 {
     let found = root(table, conds, alts, facts, path);
     visit(table, conds, alts, facts, path, 0, 0, found, 0, limit)
-}
-
-// Walks a table under a limit, in a buffer for facts with any bytes.
-pub fn whole_walk(table: &[u8], facts: &mut [u8], limit: u32) -> Walked
-    requires { ⌜ Lawful (now table) ⌝ }
-    requires { ⌜ length (now facts) ≡ 6150 ⌝ }
-    ensures { λ x. ⌜ WalkMade (relevancyWalker (now (table .entry))) (fromRoot (relevancyWalker (now (table .entry))) limit) x (now (facts .exit)) ⌝ }
-{
-    let conds = build(table, false);
-    let alts = build(table, true);
-    lists::zero(facts);
-    let mut path = [0u8; 9225];
-    from_root(table, &conds, &alts, facts, &mut path, limit)
 }

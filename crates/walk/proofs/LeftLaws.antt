@@ -17,7 +17,7 @@ use Rattle.walk.specs.contracts.Walker.{Walker, Run}
 use Rattle.walk.specs.contracts.Path.{nextAt, siteAt, altsAt, entryAt, entryBefore, pathIn}
 use Rattle.walk.specs.contracts.Place.{bitsIn, placeIn, Beginning}
 use Rattle.walk.specs.contracts.Walk.{OneDue, Walks}
-use Rattle.walk.specs.contracts.Resume.{stepsIn}
+use Rattle.walk.specs.Numbers.{stepsIn}
 use Rattle.walk.specs.contracts.Left.{Tied, SplitHere, StepsLeft, sessionLeft}
 use Rattle.walk.specs.declared.answer.Found.{Found as Told}
 use Rattle.walk.specs.declared.answer.Found.the-variants.{Closed as ToldClosed, Open as ToldOpen, Split as ToldSplit}

@@ -19,7 +19,8 @@ use Rattle.walk.specs.contracts.Walker.{Walker, Run}
 use Rattle.walk.specs.contracts.Path.{nextAt, markAt, PathKept, Passed, Turned, siteAt, altsAt, entryAt, pathIn, nextIn}
 use Rattle.walk.specs.contracts.Place.{bitsIn, placeIn, Parted, Reached, Trying, Making}
 use Rattle.walk.specs.contracts.Walk.{AllShut, Leaves, Ended}
-use Rattle.walk.specs.contracts.Resume.{standingOf, stepsIn, sessionOf, isTaken, closedStands, openStands, splitStands, lastFrom, lastOf, lastIn, GoneOn, Resumes, GoesOn, ResumeMade}
+use Rattle.walk.specs.Numbers.{standingBy, stepsIn, sessionOf}
+use Rattle.walk.specs.contracts.Resume.{isTaken, closedStands, openStands, splitStands, lastFrom, lastOf, lastIn, GoneOn, Resumes, GoesOn}
 use Rattle.walk.specs.declared.answer.Found.{Found as Told}
 use Rattle.walk.specs.declared.answer.Found.the-variants.{Closed as ToldClosed, Open as ToldOpen, Split as ToldSplit}
 use Rattle.walk.specs.declared.answer.Resumed.{Resumed}
@@ -32,16 +33,16 @@ use Rattle.walk.proofs.PlaceLaws.{named-kept, split-same, split-parted}
 use Rattle.walk.proofs.answer.Found.{the-type as found-type}
 use Rattle.walk.proofs.answer.Resumed.{the-type as resumed-type}
 use Rattle.walk.proofs.answer.Walked.{the-type as walked-type}
-use Rattle.walk.proofs.WalkLaws.{split-unopened, visit-open, visit-closed, closed-ended, passes, passes-ended, leaves-as, ended-as, after-passed, after-logs, after-parted, after-tries, root-walks, walks-tell}
+use Rattle.walk.proofs.WalkLaws.{split-unopened, visit-open, visit-closed, closed-ended, passes, passes-ended, leaves-as, ended-as, after-passed, after-logs, after-parted, after-tries, root-walks}
 
 -- ---- the verdict by its number
 
-pub standing-exhausted : (n : ℕ) → 1 < n → standingOf n ≡ exhausted
+pub standing-exhausted : (n : ℕ) → 1 < n → standingBy n ≡ exhausted
 standing-exhausted zero l = absurd (omega arith)
 standing-exhausted (suc zero) l = absurd (omega arith)
 standing-exhausted (suc (suc n)) l = refl
 
-pub standing-refuted : (n : ℕ) → (n ≡ 1 → ⊥) → n ≤ 1 → standingOf n ≡ refuted
+pub standing-refuted : (n : ℕ) → (n ≡ 1 → ⊥) → n ≤ 1 → standingBy n ≡ refuted
 standing-refuted zero ne l = refl
 standing-refuted (suc zero) ne l = absurd (ne refl)
 standing-refuted (suc (suc n)) ne l = absurd (omega arith)
@@ -49,40 +50,40 @@ standing-refuted (suc (suc n)) ne l = absurd (omega arith)
 -- ---- whether a session may stand there, test by test
 
 module _ (standing depth next : ℕ) where
-  pub closed-satisfied : standing ≡ 1 → false ≡ closedStands (standingOf standing) depth next
+  pub closed-satisfied : standing ≡ 1 → false ≡ closedStands (standingBy standing) depth next
   closed-satisfied e = rw e
 
-  pub closed-tried : 0 < next → false ≡ closedStands (standingOf standing) depth next
-  closed-tried l = go (standingOf standing)
+  pub closed-tried : 0 < next → false ≡ closedStands (standingBy standing) depth next
+  closed-tried l = go (standingBy standing)
     where
       go : (s : Standing) → false ≡ closedStands s depth next
       go refuted = rw (ne-eqb next 0 (λ e. omega (arith, e)))
       go satisfied = refl
       go exhausted = sym (ne-eqb next 0 (λ e. omega (arith, e)))
 
-  pub closed-exhausted : next ≡ 0 → 1 < standing → true ≡ closedStands (standingOf standing) depth next
+  pub closed-exhausted : next ≡ 0 → 1 < standing → true ≡ closedStands (standingBy standing) depth next
   closed-exhausted e l = rw (standing-exhausted standing l) (sym (eq-eqb next 0 e))
 
-  pub closed-refuted : (standing ≡ 1 → ⊥) → standing ≤ 1 → next ≡ 0 → eqb depth 0 ≡ closedStands (standingOf standing) depth next
+  pub closed-refuted : (standing ≡ 1 → ⊥) → standing ≤ 1 → next ≡ 0 → eqb depth 0 ≡ closedStands (standingBy standing) depth next
   closed-refuted ne l e = rw (standing-refuted standing ne l, eq-eqb next 0 e)
 
-pub open-refuted : (standing next : ℕ) → standing ≡ 0 → false ≡ openStands (standingOf standing) next
+pub open-refuted : (standing next : ℕ) → standing ≡ 0 → false ≡ openStands (standingBy standing) next
 open-refuted standing next e = rw e
 
-pub open-on : (standing next : ℕ) → (standing ≡ 0 → ⊥) → eqb next 0 ≡ openStands (standingOf standing) next
+pub open-on : (standing next : ℕ) → (standing ≡ 0 → ⊥) → eqb next 0 ≡ openStands (standingBy standing) next
 open-on zero next ne = absurd (ne refl)
 open-on (suc zero) next ne = refl
 open-on (suc (suc n)) next ne = refl
 
 module _ (ds : List ℕ) (standing depth next : ℕ) where
-  pub split-satisfied : standing ≡ 1 → false ≡ splitStands (standingOf standing) depth ds next
+  pub split-satisfied : standing ≡ 1 → false ≡ splitStands (standingBy standing) depth ds next
   split-satisfied e = rw e
 
-  pub split-exhausted : 1 < standing → leb next (length ds) ≡ splitStands (standingOf standing) depth ds next
+  pub split-exhausted : 1 < standing → leb next (length ds) ≡ splitStands (standingBy standing) depth ds next
   split-exhausted l = rw (standing-exhausted standing l)
 
-  pub split-past : leb next (length ds) ≡ false → false ≡ splitStands (standingOf standing) depth ds next
-  split-past e = go (standingOf standing)
+  pub split-past : leb next (length ds) ≡ false → false ≡ splitStands (standingBy standing) depth ds next
+  split-past e = go (standingBy standing)
     where
       go : (s : Standing) → false ≡ splitStands s depth ds next
       go refuted = rw e
@@ -90,10 +91,10 @@ module _ (ds : List ℕ) (standing depth next : ℕ) where
       go exhausted = sym e
 
   module _ (unlike : standing ≡ 1 → ⊥) (few : standing ≤ 1) (reached : leb next (length ds) ≡ true) where
-    pub split-deep : 0 < depth → false ≡ splitStands (standingOf standing) depth ds next
+    pub split-deep : 0 < depth → false ≡ splitStands (standingBy standing) depth ds next
     split-deep l = rw (standing-refuted standing unlike few, reached, ne-eqb depth 0 (λ e. omega (arith, e)))
 
-    pub split-root : depth ≡ 0 → leb (length ds) next ≡ splitStands (standingOf standing) depth ds next
+    pub split-root : depth ≡ 0 → leb (length ds) next ≡ splitStands (standingBy standing) depth ds next
     split-root e = rw (standing-refuted standing unlike few, reached, eq-eqb depth 0 e)
 
 -- ---- an entry by its number
@@ -333,19 +334,19 @@ pub split-found : {I : Type 0} (w : Walker I) (facts path : List ℕ) (depth don
 split-found w facts path depth done n at = at .found ∙ ap (λ (j : ℕ). split (w .instance (siteAt w path depth)) (drop j (altsAt w path depth))) (at .ready .2)
 
 module _ {I : Type 0} (w : Walker I) (facts path : List ℕ) (depth done count limit standing next : ℕ) where
-  as-told : (f : Found I) → w .find (entered (pathIn w path depth)) ≡ f → (p : Option (Place I)) → lastOf (pathIn w path depth) f (standingOf standing) next ≡ p → lastIn w path depth standing next ≡ p
-  as-told f found p e = ap (λ (g : Found I). lastOf (pathIn w path depth) g (standingOf standing) next) found ∙ e
+  as-told : (f : Found I) → w .find (entered (pathIn w path depth)) ≡ f → (p : Option (Place I)) → lastOf (pathIn w path depth) f (standingBy standing) next ≡ p → lastIn w path depth standing next ≡ p
+  as-told f found p e = ap (λ (g : Found I). lastOf (pathIn w path depth) g (standingBy standing) next) found ∙ e
 
-  closed-as : (n : ℕ) → Reached w facts path depth done (ToldClosed n) → (b : Bool) → b ≡ closedStands (standingOf standing) depth next
+  closed-as : (n : ℕ) → Reached w facts path depth done (ToldClosed n) → (b : Bool) → b ≡ closedStands (standingBy standing) depth next
       → lastIn w path depth standing next ≡ cond {A = Option (Place I)} b (some (placeIn w facts path depth (ToldClosed n))) none
   closed-as n at b e =
       as-told closed (at .found) (cond {A = Option (Place I)} b (some (placeIn w facts path depth (ToldClosed n))) none)
-      (last-closed (pathIn w path depth) depth (root-at w path depth) (standingOf standing) next ∙ ap (λ (t : Bool). cond {A = Option (Place I)} t (some (placeIn w facts path depth (ToldClosed n))) none) (sym e))
+      (last-closed (pathIn w path depth) depth (root-at w path depth) (standingBy standing) next ∙ ap (λ (t : Bool). cond {A = Option (Place I)} t (some (placeIn w facts path depth (ToldClosed n))) none) (sym e))
 
-  pub closed-foreign : (n : ℕ) → Reached w facts path depth done (ToldClosed n) → false ≡ closedStands (standingOf standing) depth next → lastIn w path depth standing next ≡ none
+  pub closed-foreign : (n : ℕ) → Reached w facts path depth done (ToldClosed n) → false ≡ closedStands (standingBy standing) depth next → lastIn w path depth standing next ≡ none
   closed-foreign n at e = closed-as n at false e
 
-  pub closed-goes : (n : ℕ) → Reached w facts path depth done (ToldClosed n) → true ≡ closedStands (standingOf standing) depth next → count ≤ limit
+  pub closed-goes : (n : ℕ) → Reached w facts path depth done (ToldClosed n) → true ≡ closedStands (standingBy standing) depth next → count ≤ limit
       → (left : List ℕ) → Undone (w .capacity) facts done left → GoneOn w (lastIn w path depth standing next) facts path depth done count limit (Shut count) left path
   closed-goes n at e within left undone =
       let t : Place I = placeIn w facts path depth (ToldClosed n) in
@@ -356,36 +357,36 @@ module _ {I : Type 0} (w : Walker I) (facts path : List ℕ) (depth done count l
         ended = closed-ended w (record { start = t; base = count; limit = limit }) facts path depth count n (at-start (w .find) t count) left;
       }
 
-  open-as : (n : ℕ) → Reached w facts path depth done (ToldOpen n) → (b : Bool) → b ≡ openStands (standingOf standing) next
+  open-as : (n : ℕ) → Reached w facts path depth done (ToldOpen n) → (b : Bool) → b ≡ openStands (standingBy standing) next
       → lastIn w path depth standing next ≡ cond {A = Option (Place I)} b (some (placeIn w facts path depth (ToldOpen n))) none
   open-as n at b e =
       as-told (opened (bitsIn w facts)) (at .found) (cond {A = Option (Place I)} b (some (placeIn w facts path depth (ToldOpen n))) none)
-      (last-open (pathIn w path depth) depth (root-at w path depth) (bitsIn w facts) (standingOf standing) next
+      (last-open (pathIn w path depth) depth (root-at w path depth) (bitsIn w facts) (standingBy standing) next
       ∙ ap (λ (t : Bool). cond {A = Option (Place I)} t (some (placeIn w facts path depth (ToldOpen n))) none) (sym e))
 
-  pub open-foreign : (n : ℕ) → Reached w facts path depth done (ToldOpen n) → false ≡ openStands (standingOf standing) next → lastIn w path depth standing next ≡ none
+  pub open-foreign : (n : ℕ) → Reached w facts path depth done (ToldOpen n) → false ≡ openStands (standingBy standing) next → lastIn w path depth standing next ≡ none
   open-foreign n at e = open-as n at false e
 
-  pub open-goes : (n : ℕ) → Reached w facts path depth done (ToldOpen n) → true ≡ openStands (standingOf standing) next → count ≤ limit
+  pub open-goes : (n : ℕ) → Reached w facts path depth done (ToldOpen n) → true ≡ openStands (standingBy standing) next → count ≤ limit
       → GoneOn w (lastIn w path depth standing next) facts path depth done count limit (Opened count depth) facts path
   open-goes n at e within =
       let t : Place I = placeIn w facts path depth (ToldOpen n) in
       record { start = t; stands = open-as n at true e; leaves = visit-open w facts path depth done count limit within n at; ended = at-start (w .find) t count }
 
   module _ (n : ℕ) (at : Reached w facts path depth done (ToldSplit n)) where
-    split-as : (b : Bool) → b ≡ splitStands (standingOf standing) depth (altsAt w path depth) next
+    split-as : (b : Bool) → b ≡ splitStands (standingBy standing) depth (altsAt w path depth) next
         → lastIn w path depth standing next
         ≡ cond {A = Option (Place I)} b (some (record { path = pathIn w path depth; found = split (w .instance (siteAt w path depth)) (drop next (altsAt w path depth)) })) none
     split-as b e =
         let there : Option (Place I) = some (record { path = pathIn w path depth; found = split (w .instance (siteAt w path depth)) (drop next (altsAt w path depth)) }) in
         as-told (split (w .instance (siteAt w path depth)) (altsAt w path depth)) (split-found w facts path depth done n at) (cond {A = Option (Place I)} b there none)
-        (last-split (pathIn w path depth) depth (root-at w path depth) (w .instance (siteAt w path depth)) (altsAt w path depth) (standingOf standing) next
+        (last-split (pathIn w path depth) depth (root-at w path depth) (w .instance (siteAt w path depth)) (altsAt w path depth) (standingBy standing) next
         ∙ ap (λ (t : Bool). cond {A = Option (Place I)} t there none) (sym e))
 
-    pub split-foreign : false ≡ splitStands (standingOf standing) depth (altsAt w path depth) next → lastIn w path depth standing next ≡ none
+    pub split-foreign : false ≡ splitStands (standingBy standing) depth (altsAt w path depth) next → lastIn w path depth standing next ≡ none
     split-foreign e = split-as false e
 
-    pub split-goes : true ≡ splitStands (standingOf standing) depth (altsAt w path depth) next
+    pub split-goes : true ≡ splitStands (standingBy standing) depth (altsAt w path depth) next
         → (own : List ℕ) → Undone (w .capacity) facts (markAt path depth) own → (put : List ℕ) → Turned path depth next put
         → (y : Walked) (last-facts last : List ℕ) → Leaves w own put depth done count limit y last-facts last
         → ((r : Run I) → r .limit ≡ limit → Trying w r put depth count → Ended w r put depth y last-facts last)
@@ -531,13 +532,4 @@ module _ {I : Type 0} (w : Walker I) (o : Option (Place I)) (count limit : ℕ) 
         start = h .start;
         stands = h .stands;
         walks = root-walks w (record { start = h .start; base = count; limit = limit }) facts path done count y left-facts left (h .leaves) (h .ended);
-      }
-
-  pub resume-made : (x : Resumed) (facts path : List ℕ) → GoesOn w o count limit x facts path → ResumeMade w o count limit x facts
-  resume-made Foreign facts path h = h
-  resume-made (On y) facts path h =
-      record {
-        start = h .start;
-        stands = h .stands;
-        made = record { path = path; walks = h .walks; tells = walks-tell w (record { start = h .start; base = count; limit = limit }) y facts path (h .walks) };
       }

@@ -2,7 +2,8 @@
 ghost use mathlib.Core.Path.{_≡_};
 ghost use Prim.Native.Nat.{_-_, _<_};
 ghost use lib.ListN.{length, drop, getD};
-ghost use Rattle.walk.specs.contracts.Resume.{standingOf, isTaken, splitStands};
+ghost use Rattle.walk.specs.Numbers.{standingBy};
+ghost use Rattle.walk.specs.contracts.Resume.{isTaken, splitStands};
 ghost use Rattle.walk.specs.contracts.Alternatives.{listed, Listing};
 
 // In order: the first `count` of these atoms, four at most.
@@ -53,7 +54,7 @@ pub fn is_taken(alts: Alternatives, next: u8, atom: usize) -> bool
 // Whether a session may stand at a node of this depth that is split into them.
 pub fn split_stands(alts: Alternatives, depth: usize, standing: u8, next: u8) -> bool
     requires { ⌜ Listing alts ⌝ }
-    ensures { λ r. ⌜ r ≡ splitStands (standingOf standing) depth (listed alts) next ⌝ }
+    ensures { λ r. ⌜ r ≡ splitStands (standingBy standing) depth (listed alts) next ⌝ }
 {
     if standing == 1 {
         return false;

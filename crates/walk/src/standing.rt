@@ -7,11 +7,12 @@ ghost use Prim.Native.Nat.{_+_, _≤_};
 ghost use lib.ListN.{set};
 ghost use Rattle.store.specs.contracts.Store.{Store, Undone};
 ghost use Rattle.walk.specs.contracts.Path.{Room, nodeAt, markAt};
-ghost use Rattle.walk.specs.contracts.Resume.{standingOf, closedStands, openStands};
+ghost use Rattle.walk.specs.Numbers.{standingBy};
+ghost use Rattle.walk.specs.contracts.Resume.{closedStands, openStands};
 
 // Whether a session may stand at a closed node at `depth`.
 pub fn closed_stands(depth: usize, standing: u8, next: u8) -> bool
-    ensures { λ r. ⌜ r ≡ closedStands (standingOf standing) depth next ⌝ }
+    ensures { λ r. ⌜ r ≡ closedStands (standingBy standing) depth next ⌝ }
 {
     if standing == 1 {
         return false;
@@ -27,7 +28,7 @@ pub fn closed_stands(depth: usize, standing: u8, next: u8) -> bool
 
 // Whether a session may stand at an open node.
 pub fn open_stands(standing: u8, next: u8) -> bool
-    ensures { λ r. ⌜ r ≡ openStands (standingOf standing) next ⌝ }
+    ensures { λ r. ⌜ r ≡ openStands (standingBy standing) next ⌝ }
 {
     if standing == 0 {
         return false;

@@ -8,7 +8,7 @@ use Rattle.search.specs.Machine.{Branch, entered}
 use Rattle.search.specs.Session.{refuted, satisfied, exhausted, Session, altsFound, stepsOf}
 use Rattle.walk.specs.contracts.Walker.{Site, Walker, Run}
 use Rattle.walk.specs.contracts.Path.{nextAt, siteAt, altsAt, pathIn}
-use Rattle.walk.specs.contracts.Resume.{stepsIn}
+use Rattle.walk.specs.Numbers.{stepsIn}
 use Rattle.walk.specs.declared.answer.Walked.{Walked}
 use Rattle.walk.specs.declared.answer.Walked.the-variants.{Shut, Opened, Exhausted as LimitMet}
 

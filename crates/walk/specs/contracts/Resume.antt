@@ -1,36 +1,21 @@
--- Going on with a session: what its numbers stand for, and what the functions say that go on with it.
-use Prim.Native.Nat.{ℕ, zero, suc, _-_}
+-- Going on with a session: what is asked of it, and what the functions say that go on with it.
+use Prim.Native.Nat.{ℕ, _-_}
 use mathlib.Core.Bool.{Bool, false, _&&_}
-use mathlib.Core.List.{List, [], _∷_}
+use mathlib.Core.List.{List}
 use mathlib.Core.Option.{Option, none, some}
 use mathlib.Core.Path.{_≡_}
 use lib.Dec.{eqb, ltb, leb}
 use lib.ListN.{length, getD}
 use Rattle.search.specs.Ground.{Found}
 use Rattle.search.specs.Machine.{Branch, Place, entered}
-use Rattle.search.specs.Session.{Step, Standing, refuted, satisfied, exhausted, Session, nodeTaken, whereStands}
+use Rattle.search.specs.Session.{Standing, refuted, satisfied, exhausted, nodeTaken, whereStands}
+use Rattle.walk.specs.Numbers.{standingBy}
 use Rattle.walk.specs.contracts.Walker.{Walker}
 use Rattle.walk.specs.contracts.Path.{pathIn}
-use Rattle.walk.specs.contracts.Walk.{Leaves, Ended, Walks, WalkMade}
+use Rattle.walk.specs.contracts.Walk.{Leaves, Ended, Walks}
 use Rattle.walk.specs.declared.answer.Resumed.{Resumed}
 use Rattle.walk.specs.declared.answer.Resumed.the-variants.{Foreign, On}
 use Rattle.walk.specs.declared.answer.Walked.{Walked}
-
--- ---- a session in numbers
-
--- the verdict: 0 is none, 1 fits, and else spent
-abbrev pub standingOf : ℕ → Standing
-standingOf zero = refuted
-standingOf (suc zero) = satisfied
-standingOf (suc (suc n)) = exhausted
-
--- the first n entries of the path, the latest first
-unfoldable pub stepsIn : List ℕ → List ℕ → ℕ → List Step
-stepsIn atoms nexts zero = []
-stepsIn atoms nexts (suc i) = record { atom = getD atoms i 0; next = getD nexts i 0 } ∷ stepsIn atoms nexts i
-
-abbrev pub sessionOf : ℕ → ℕ → List ℕ → List ℕ → ℕ → ℕ → Session
-sessionOf standing count atoms nexts n next = record { standing = standingOf standing; count = count; path = stepsIn atoms nexts n; next = next }
 
 -- ---- what is asked of it
 
@@ -67,7 +52,7 @@ lastOf bs f standing next = lastFrom bs standing (nodeTaken f next)
 module _ {I : Type 0} (w : Walker I) where
   -- at the node at this depth as the last one
   abbrev pub lastIn : List ℕ → ℕ → ℕ → ℕ → Option (Place I)
-  lastIn path depth standing next = lastOf (pathIn w path depth) (w .find (entered (pathIn w path depth))) (standingOf standing) next
+  lastIn path depth standing next = lastOf (pathIn w path depth) (w .find (entered (pathIn w path depth))) (standingBy standing) next
 
   -- it has gone on from the node at this depth on, whose place was the run's start or comes before it
   pub record GoneOn (o : Option (Place I)) (facts path : List ℕ) (depth done count limit : ℕ) (x : Walked) (left-facts left : List ℕ) : Type 0 where
@@ -90,13 +75,3 @@ module _ {I : Type 0} (w : Walker I) where
   abbrev pub GoesOn : Option (Place I) → ℕ → ℕ → Resumed → List ℕ → List ℕ → Type 0
   GoesOn o count limit Foreign facts path = o ≡ none
   GoesOn o count limit (On x) facts path = WalksOn o count limit x facts path
-
-  -- the run has been made, in some buffer for its path, and its answer tells the outcome
-  pub record WalkMadeOn (o : Option (Place I)) (count limit : ℕ) (x : Walked) (facts : List ℕ) : Type 0 where
-    pub start : Place I
-    pub stands : o ≡ some start
-    pub made : WalkMade w (record { start = start; base = count; limit = limit }) x facts
-
-  abbrev pub ResumeMade : Option (Place I) → ℕ → ℕ → Resumed → List ℕ → Type 0
-  ResumeMade o count limit Foreign facts = o ≡ none
-  ResumeMade o count limit (On x) facts = WalkMadeOn o count limit x facts

@@ -86,9 +86,3 @@ module _ {I : Type 0} (w : Walker I) where
     Tells (Shut c) facts = proceed (w .find) (r .limit - r .base) (r .base) (r .start) ≡ Refuted c
     Tells (Opened c e) facts = proceed (w .find) (r .limit - r .base) (r .base) (r .start) ≡ Satisfied c (bitsIn w facts)
     Tells (LimitMet e) facts = proceed (w .find) (r .limit - r .base) (r .base) (r .start) ≡ Exhausted (r .limit)
-
-    -- the run has been made, in some buffer for its path, and its answer tells the outcome
-    pub record WalkMade (x : Walked) (facts : List ℕ) : Type 0 where
-      pub path : List ℕ
-      pub walks : Walks x facts path
-      pub tells : Tells x facts

@@ -1,18 +1,23 @@
 -- `magic::engine::run` meets its contract.
 use Prim.Native.Nat.{ℕ}
 use mathlib.Core.List.{List, _++_}
-use mathlib.Core.Path.{_≡_, sym, ap, subst, _∙_}
+use mathlib.Core.Path.{_≡_, sym, ap, ap₂, subst, _∙_}
 use native.Mathlib.Omega.{arith}
 use lib.ListN.{length, take, drop, replicate}
 use lib.Seq.{length-take-le}
 use borrow.Author.Needs.{needs}
 use Rattle.search.specs.Machine.{Outcome}
+use Rattle.search.specs.Session.{Session, firstSession}
 use Rattle.store.proofs.Lent.{put-size}
+use Rattle.problem.specs.Problem.{limitOf}
+use Rattle.problem.specs.Layout.{problemIn}
 use Rattle.ground.specs.Verdict.{verdictOf, answerOf}
 use Rattle.ground.proofs.AtomLaws.{table-size}
 use Rattle.ground.proofs.VerdictLaws.{limit-of}
 use Rattle.rewriting.specs.contracts.Ruled.{Ruled}
+use Rattle.rewriting.specs.Facts.{findIn}
 use Rattle.rewriting.specs.Rewrite.{rulesOver}
+use Rattle.session.specs.Record.{laid}
 use Rattle.magic.specs.Engine.{rulesOutcome, magicOutcome}
 use Rattle.magic.proofs.EngineLaws.{ruled}
 use Rattle.magic.proofs.engine.run.Statement.{statement}
@@ -32,12 +37,9 @@ part s = length-take-le 55302 (s .args .work .now) (omega (arith, s .pre .1 .2))
 whole : (d : tie.After-decide) → let s = begun (d .before .before .before .before) in length (d .decide .last .1 .1 .1 .0 ++ drop 55302 (s .args .work .now)) ≡ 65536
 whole d = let s = begun (d .before .before .before .before) in put-size 55302 65536 (omega arith) (s .args .work .now) (s .pre .1 .2) (d .decide .last .1 .1 .1 .0) (d .decide .kept .1 .1 .1 .0 ∙ part s)
 
--- the outcome is that of the rules written, under the table's limit
-same : (l : tie.After-limit-in) → rulesOutcome (wrote l .write-rules .last .1 .0) (l .limit-in .result) ≡ magicOutcome (begun l .args .table .now) (begun l .args .rules .now)
-same l =
-    let s = begun l in
-    ap (λ (bs : List ℕ). rulesOutcome bs (l .limit-in .result)) (wrote l .write-rules .ensures .1)
-    ∙ ap (rulesOutcome (rulesOver (s .args .table .now) (s .args .rules .now))) (l .limit-in .ensures ∙ limit-of (s .args .table .now))
+-- it walks by the rules written, under the table's limit
+same : (l : tie.After-limit-in) (X : Type 0) (f : List ℕ → ℕ → X) → let s = begun l in f (wrote l .write-rules .last .1 .0) (l .limit-in .result) ≡ f (rulesOver (s .args .table .now) (s .args .rules .now)) (limitOf ((problemIn (s .args .table .now)) .limit))
+same l X f = ap₂ f (wrote l .write-rules .ensures .1) (l .limit-in .ensures ∙ limit-of (begun l .args .table .now))
 
 pub run-spec : {M : Type 1} → statement M
 run-spec =
@@ -47,7 +49,7 @@ run-spec =
     (λ c κs. let s = c .before .before .before .before .before .before .before .before in table-size (s .args .table .now) (s .pre .0))  -- limit-in-requires
     (λ c. search needs)  -- sub-decide
     (λ c. search needs)  -- part-decide-start
-    (λ c. omega (arith, begun (c .before .before) .pre .1 .2))  -- part-decide-end
+    (λ c. search needs)  -- part-decide-end
     (λ c κs.
     let l = c .before .before .before in
     let s = begun l in
@@ -56,13 +58,14 @@ run-spec =
     (λ c κs. search needs)  -- zero-requires
     (λ c. search needs)  -- same-length
     (λ c. search needs)  -- same-length-2
-    (λ c. let z = c .before .before .zero in z .kept .0 ∙ whole (c .before .before .before .before .before .before .before .before) ∙ sym ((c .before .before .before .before .before .before .before .before .before .before .before .before .before .before .before .before .before .before .before .before .before) .pre .1 .2))  -- same-length-3
+    (λ c. (c .before .before) .zero .kept .0 ∙ whole ((c .before .before .before .before .before .before .before .before)) ∙ sym ((c .before .before .before .before .before .before .before .before .before .before .before .before .before .before .before .before .before .before .before .before .before) .pre .1 .2))  -- same-length-3
     (λ c.
     let d = c .before .before .before .before .before .before .before .before in
     let l = d .before .before .before .before in
     let s = begun l in (
-      d .decide .ensures .0 ∙ ap verdictOf (same l),
+      d .decide .ensures .0 ∙ ap verdictOf (same l Outcome rulesOutcome),
+      d .decide .ensures .1 ∙ ap laid (same l Session (λ bs. firstSession (findIn bs))),
       wrote l .write-rules .ensures .1,
-      d .decide .ensures .1 ∙ ap (λ (o : Outcome). answerOf o (s .args .answer .now)) (same l),
+      d .decide .ensures .2 ∙ ap (λ (o : Outcome). answerOf o (s .args .answer .now)) (same l Outcome rulesOutcome),
       (c .before .before) .zero .ensures ∙ ap (λ (m : ℕ). replicate m 0) (whole d),
     )))  -- returns

@@ -29,4 +29,4 @@ run-spec =
     let d = c .before .before .before .before .before .before .before .before .decide in
     let z = c .before .before .zero in
     let size = put-size 6150 65536 (omega arith) (s .args .work .now) (s .pre .1 .1) (d .last .1 .1 .0) (d .kept .1 .1 .0 ∙ part s) in
-    (d .ensures .0, d .ensures .1, z .ensures ∙ ap (λ (m : ℕ). replicate m 0) size)))  -- returns
+    (d .ensures .0, d .ensures .1, d .ensures .2, z .ensures ∙ ap (λ (m : ℕ). replicate m 0) size)))  -- returns

@@ -1,0 +1,94 @@
+-- `relevancy::further::further_run` meets its contract.
+use Prim.Native.Nat.{ℕ, _+_}
+use mathlib.Core.Bool.{true}
+use mathlib.Core.List.{List}
+use mathlib.Core.Path.{_≡_, refl, _∙_}
+use native.Mathlib.Omega.{arith}
+use borrow.Author.Needs.{needs}
+use lib.ListN.{length, replicate, length-replicate}
+use Rattle.search.specs.Relevancy.{findR}
+use Rattle.ground.specs.Instance.{groundIn}
+use Rattle.walk.proofs.WalkLaws.{blank-store}
+use Rattle.session.specs.Record.{isKept}
+use Rattle.session.specs.Calls.{calledIn}
+use Rattle.session.proofs.CallLaws.{is-kept}
+use Rattle.session.proofs.EndLaws.{left-refused, further-foreign, further-walks, further-concluded}
+use Rattle.relevancy_walk.specs.contracts.Place.{relevancyWalker}
+use Rattle.relevancy.proofs.further.further_run.Statement.{statement}
+use Rattle.relevancy.proofs.further.further_run.Tie as tie
+
+kept : (s : tie.Start) → isKept (s .args .session) ≡ true
+kept s = is-kept (s .args .session) (s .pre .1 .1 .0) (s .pre .1 .1 .1)
+
+zeros-long : (xs : List ℕ) (n : ℕ) → length xs ≡ length {A = ℕ} (replicate n 0) → length xs ≡ n
+zeros-long xs n e = e ∙ length-replicate n 0
+
+-- there are as many slots
+long-atoms : (c : tie.After-nexts2) → length (c .before .before .before .before .before .before .before .before .before .before .before .before .before .before .before .args .session .atoms) ≡ 1024
+long-atoms c = search needs
+
+long-nexts : (c : tie.After-nexts2) → length (c .before .before .before .before .before .before .before .before .before .before .before .before .before .before .before .args .session .nexts) ≡ 1024
+long-nexts c = search needs
+
+pub further-run-spec : {M : Type 1} → statement M
+further-run-spec =
+    tie.close
+    (tie.spec
+    (λ c κs. search needs)  -- build-requires
+    (λ c κs. search needs)  -- build-requires-2
+    (λ c. search needs)  -- cast-steps
+    (λ c. search needs)  -- add-limit
+    (λ c. search needs)  -- slice-aggregate-go-on
+    (λ c. search needs)  -- slice-aggregate-go-on-2
+    (λ c. search needs)  -- slice-aggregate-go-on-3
+    (λ c. search needs)  -- slice-aggregate-go-on-4
+    (λ c κs.
+    let s = c .before .before .before .before .before .before .before .before .before .before .before .before .before .before .before in
+    let few = s .pre .1 .1 .1 in (
+      s .pre .0,
+      (
+        ((c .before .before .before .before .before .before .before .before .before .before .before) .build .ensures, (c .before .before .before .before .before .before .before .before .before .before) .build2 .ensures),
+        (
+          (blank-store 2050 (replicate 6150 0) 6150 (omega arith) refl, record { size = length-replicate {A = ℕ} 9225 0; deep = omega arith }),
+          ((omega (arith, few, long-atoms c), omega (arith, few, long-nexts c)), omega arith),
+        ),
+      ),
+    ))  -- go-on-requires
+    (λ c. search needs)  -- enum-known-went
+    (λ c. search needs)  -- enum-told
+    (λ c κs. search needs)  -- refused-requires
+    (λ c.
+    let s = c .before .before .before .before .before .before .before .before .before .before .before .before .before .before .before .before .before .before .before .before .before in
+    let a = s .args in
+    let q = c .before .before .before .before .before .go-on in
+    left-refused (calledIn (findR (groundIn (a .table .now))) (a .session) (a .further)) (a .session) (a .answer .now) (a .work .now) 42
+    (further-foreign (relevancyWalker (a .table .now)) (a .session) (a .further) (kept s) (s .pre .1 .1 .2) (a .session .count + a .further) (q .result) (q .last .1 .1 .1 .0) (q .last .1 .1 .1 .1 .0) (q .ensures) ((c .before .before) .match .keys2))
+    (c .refused .result) (c .refused .ensures))  -- returns
+    (λ c κs. search needs)  -- zero-requires
+    (λ c. search needs)  -- slice-aggregate-conclude
+    (λ c. search needs)  -- slice-aggregate-conclude-2
+    (λ c κs.
+    let s = c .before .before .before .before .before .before .before .before .before .before .before .before .before .before .before .before .before .before .before .before .before .before .before .before .before .before .before .before .before .before in
+    let a = s .args in
+    let q = c .before .before .before .before .before .before .before .before .before .before .before .before .before .before .go-on in
+    let g = c .before .before .before .before .before .before .before .before .before .before .went .given in (
+      s .pre .0,
+      (
+        ((c .before .before .before .before .before .before .before .before .before .before .before .before .before .before .before .before .before .before .before .before .before .before .before .before .before .before) .build .ensures, (c .before .before .before .before .before .before .before .before .before .before .before .before .before .before .before .before .before .before .before .before .before .before .before .before .before) .build2 .ensures),
+        (
+          (s .pre .1 .0 .0, zeros-long (q .last .1 .1 .1 .0) 6150 (q .kept .1 .1 .1 .0), zeros-long (q .last .1 .1 .1 .1 .0) 9225 (q .kept .1 .1 .1 .1 .0)),
+          further-walks (relevancyWalker (a .table .now)) (a .session) (a .further) (kept s) (s .pre .1 .1 .2) (a .session .count + a .further) (q .result) (q .last .1 .1 .1 .0) (q .last .1 .1 .1 .1 .0) (q .ensures) (g .0 .0) (g .1),
+        ),
+      ),
+    ))  -- conclude-requires
+    (λ c. search needs)  -- same-length
+    (λ c. search needs)  -- same-length-2
+    (λ c.
+    let s = c .before .before .before .before .before .before .before .before .before .before .before .before .before .before .before .before .before .before .before .before .before .before .before .before .before .before .before .before .before .before .before .before .before .before .before in
+    let a = s .args in
+    let q = c .before .before .before .before .before .before .before .before .before .before .before .before .before .before .before .before .before .before .before .go-on in
+    let g = c .before .before .before .before .before .before .before .before .before .before .before .before .before .before .before .went .given in
+    let z = c .before .before .before .before .before .before .before .before .before .before .before .before .zero in
+    let d = c .before .before .before .before .conclude in
+    further-concluded (relevancyWalker (a .table .now)) (a .session) (a .further) (kept s) (s .pre .1 .1 .2) (a .session .count + a .further) (q .result) (q .last .1 .1 .1 .0) (q .last .1 .1 .1 .1 .0) (q .ensures) (g .0 .0) (g .1) refl
+    (a .answer .now) (a .work .now) (s .pre .1 .0 .1) (d .result) (d .last .1 .1 .1 .1 .1 .0) (z .last .0) (d .ensures) (z .ensures)))  -- returns-2

@@ -1,0 +1,90 @@
+// Going on with the session of a record: 41 and 42, then the run from where it stands.
+use crate::end::conclude;
+use relevancy_node::index::build;
+use relevancy_resume::resume::go_on;
+use session::record::Moved;
+use session::record::Session;
+use session::record::refused;
+use walk::answer::Resumed;
+ghost use mathlib.Core.Path.{_≡_};
+ghost use Prim.Native.Nat.{_+_, _≤_};
+ghost use lib.ListN.{length};
+ghost use Rattle.search.specs.Relevancy.{findR};
+ghost use Rattle.problem.specs.Table.{Lawful};
+ghost use Rattle.ground.specs.Instance.{groundIn};
+ghost use Rattle.session.specs.Calls.{calledIn, verdictTold, recordLeft, answerLeft, workLeft};
+
+// The run, in memory of its own: what is lent is written only where the session is one of the walk.
+fn further_run(
+    session: Session,
+    further: u32,
+    table: &[u8],
+    answer: &mut [u8],
+    work: &mut [u8],
+) -> Moved
+    requires { ⌜ Lawful (now table) ⌝ }
+    requires { ⌜ (1024 ≤ length (now answer)) × (length (now work) ≡ 65536) ⌝ }
+    requires { ⌜ (session .verdict ≤ 2) × (session .length ≤ 1024) × (session .count + further ≤ 4294967295) ⌝ }
+    ensures { λ r. ⌜ (r .verdict ≡ verdictTold (calledIn (findR (groundIn (now (table .entry)))) session further)) × (r .session ≡ recordLeft (calledIn (findR (groundIn (now (table .entry)))) session further) session) × (now (answer .exit) ≡ answerLeft (calledIn (findR (groundIn (now (table .entry)))) session further) (now (answer .entry))) × (now (work .exit) ≡ workLeft (calledIn (findR (groundIn (now (table .entry)))) session further) (now (work .entry))) ⌝ }
+{
+    let conds = build(table, false);
+    let alts = build(table, true);
+    let mut facts = [0u8; 6150];
+    let mut path = [0u8; 9225];
+    let atoms = session.atoms;
+    let nexts = session.nexts;
+    let steps = session.length as usize;
+    let limit = session.count + further;
+    let went = go_on(
+        table,
+        &conds,
+        &alts,
+        &mut facts,
+        &mut path,
+        &atoms,
+        &nexts,
+        steps,
+        session.verdict,
+        session.next,
+        session.count,
+        limit,
+    );
+    let Resumed::On(walked) = went else {
+        return refused(session, 42);
+    };
+    lists::zero(work);
+    conclude(
+        table,
+        &conds,
+        &alts,
+        &mut facts,
+        &mut path,
+        answer,
+        walked,
+        limit,
+    )
+}
+
+// 41, then 42 where the record holds no session, then the run from where it stands.
+pub fn go_further(
+    session: Session,
+    further: u32,
+    table: &[u8],
+    answer: &mut [u8],
+    work: &mut [u8],
+) -> Moved
+    requires { ⌜ Lawful (now table) ⌝ }
+    requires { ⌜ (1024 ≤ length (now answer)) × (length (now work) ≡ 65536) ⌝ }
+    ensures { λ r. ⌜ (r .verdict ≡ verdictTold (calledIn (findR (groundIn (now (table .entry)))) session further)) × (r .session ≡ recordLeft (calledIn (findR (groundIn (now (table .entry)))) session further) session) × (now (answer .exit) ≡ answerLeft (calledIn (findR (groundIn (now (table .entry)))) session further) (now (answer .entry))) × (now (work .exit) ≡ workLeft (calledIn (findR (groundIn (now (table .entry)))) session further) (now (work .entry))) ⌝ }
+{
+    if further > 4294967295 - session.count {
+        return refused(session, 41);
+    }
+    if session.verdict > 2 {
+        return refused(session, 42);
+    }
+    if session.length > 1024 {
+        return refused(session, 42);
+    }
+    further_run(session, further, table, answer, work)
+}

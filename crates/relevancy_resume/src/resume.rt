@@ -1,0 +1,231 @@
+// Going on with a session: its path is entered again without being counted, and the walk goes on from its last node.
+use relevancy_walk::place::alternatives_at;
+use relevancy_walk::place::enter;
+use relevancy_walk::place::root;
+use relevancy_walk::trail::try_next;
+use store::undo;
+use walk::alternatives::is_taken;
+use walk::alternatives::split_stands;
+use walk::answer::Found;
+use walk::answer::Resumed;
+use walk::answer::Walked;
+use walk::node::mark;
+use walk::standing::closed_stands;
+use walk::standing::open_stands;
+use walk::standing::rewind;
+ghost use mathlib.Core.Bool.{true, false};
+ghost use mathlib.Core.Option.{some};
+ghost use mathlib.Core.Path.{_≡_};
+ghost use Prim.Native.Nat.{_≤_};
+ghost use lib.ListN.{length};
+ghost use Rattle.store.specs.contracts.Store.{Store};
+ghost use Rattle.problem.specs.Table.{Lawful};
+ghost use Rattle.relevancy_node.specs.contracts.Index.{ClausesIndexed};
+ghost use Rattle.ground.specs.Instance.{Instance};
+ghost use Rattle.search.specs.Session.{pathOf, placeOf};
+ghost use Rattle.walk.specs.contracts.Walker.{Run};
+ghost use Rattle.walk.specs.contracts.Path.{Room, markAt, pathIn};
+ghost use Rattle.walk.specs.contracts.Place.{Parted, Reached, Trying};
+ghost use Rattle.walk.specs.contracts.Walk.{Leaves, Ended};
+ghost use Rattle.walk.specs.Numbers.{stepsIn, sessionOf};
+ghost use Rattle.walk.specs.contracts.Resume.{lastIn, Resumes, GoesOn};
+ghost use Rattle.relevancy_walk.specs.contracts.Place.{relevancyWalker};
+
+// Tries the alternatives left at the split node at `depth`, and takes its facts back to the first `done` where all is closed.
+fn work_off(
+    table: &[u8],
+    conds: &[u16; 384],
+    alts: &[u16; 384],
+    facts: &mut [u8],
+    path: &mut [u8],
+    depth: usize,
+    done: usize,
+    count: u32,
+    limit: u32,
+) -> Walked
+    requires { ⌜ Lawful (now table) ⌝ }
+    requires { ⌜ ClausesIndexed (now table) false (now conds) × ClausesIndexed (now table) true (now alts) ⌝ }
+    requires { ⌜ Parted (relevancyWalker (now table)) (now facts) (now path) depth ⌝ }
+    requires { ⌜ (done ≤ markAt (now path) depth) × (count ≤ limit) ⌝ }
+    ensures { λ x. ⌜ Leaves (relevancyWalker (now (table .entry))) (now (facts .entry)) (now (path .entry)) depth done count limit x (now (facts .exit)) (now (path .exit)) × ((r : Run Instance) → r .limit ≡ limit → Trying (relevancyWalker (now (table .entry))) r (now (path .entry)) depth count → Ended (relevancyWalker (now (table .entry))) r (now (path .entry)) depth x (now (facts .exit)) (now (path .exit))) ⌝ }
+{
+    let own = mark(path, depth);
+    let walked = try_next(table, conds, alts, facts, path, depth, count, limit);
+    match walked {
+        Walked::Shut(shut) => {
+            undo(facts, 2050, own, done);
+            return Walked::Shut(shut);
+        }
+        _ => {}
+    }
+    walked
+}
+
+// The last node of a session's path, at `depth`: goes on from it, where a session may stand there.
+fn stand(
+    table: &[u8],
+    conds: &[u16; 384],
+    alts: &[u16; 384],
+    facts: &mut [u8],
+    path: &mut [u8],
+    depth: usize,
+    done: usize,
+    found: Found,
+    standing: u8,
+    next: u8,
+    count: u32,
+    limit: u32,
+) -> Resumed
+    requires { ⌜ Lawful (now table) ⌝ }
+    requires { ⌜ ClausesIndexed (now table) false (now conds) × ClausesIndexed (now table) true (now alts) ⌝ }
+    requires { ⌜ Reached (relevancyWalker (now table)) (now facts) (now path) depth done found ⌝ }
+    requires { ⌜ count ≤ limit ⌝ }
+    ensures { λ x. ⌜ Resumes (relevancyWalker (now (table .entry))) (lastIn (relevancyWalker (now (table .entry))) (now (path .entry)) depth standing next) (now (facts .entry)) (now (path .entry)) depth done count limit x (now (facts .exit)) (now (path .exit)) ⌝ }
+{
+    match found {
+        Found::Split(n) => {
+            let all = alternatives_at(table, path, depth);
+            if !split_stands(all, depth, standing, next) {
+                return Resumed::Foreign;
+            }
+            rewind(facts, path, 2050, depth, n, next);
+            let walked = work_off(table, conds, alts, facts, path, depth, done, count, limit);
+            return Resumed::On(walked);
+        }
+        Found::Closed(n) => {
+            if !closed_stands(depth, standing, next) {
+                return Resumed::Foreign;
+            }
+            undo(facts, 2050, n, done);
+            return Resumed::On(Walked::Shut(count));
+        }
+        _ => {}
+    }
+    if !open_stands(standing, next) {
+        return Resumed::Foreign;
+    }
+    Resumed::On(Walked::Opened(count, depth))
+}
+
+// Goes on with a session from the node at `depth` on: the steps from there on are entered again, each as the alternative that the walk takes there.
+fn resume(
+    table: &[u8],
+    conds: &[u16; 384],
+    alts: &[u16; 384],
+    facts: &mut [u8],
+    path: &mut [u8],
+    atoms: &[u16],
+    nexts: &[u8],
+    steps: usize,
+    depth: usize,
+    done: usize,
+    found: Found,
+    standing: u8,
+    next: u8,
+    count: u32,
+    limit: u32,
+) -> Resumed
+    requires { ⌜ Lawful (now table) ⌝ }
+    requires { ⌜ ClausesIndexed (now table) false (now conds) × ClausesIndexed (now table) true (now alts) ⌝ }
+    requires { ⌜ Reached (relevancyWalker (now table)) (now facts) (now path) depth done found ⌝ }
+    requires { ⌜ pathOf ((relevancyWalker (now table)) .find) (stepsIn (now atoms) (now nexts) depth) ≡ some (pathIn (relevancyWalker (now table)) (now path) depth) ⌝ }
+    requires { ⌜ (depth ≤ steps) × (steps ≤ length (now atoms)) × (steps ≤ length (now nexts)) ⌝ }
+    requires { ⌜ count ≤ limit ⌝ }
+    ensures { λ x. ⌜ Resumes (relevancyWalker (now (table .entry))) (placeOf ((relevancyWalker (now (table .entry))) .find) (sessionOf standing count (now (atoms .entry)) (now (nexts .entry)) steps next)) (now (facts .entry)) (now (path .entry)) depth done count limit x (now (facts .exit)) (now (path .exit)) ⌝ }
+{
+    if depth == steps {
+        return stand(
+            table,
+            conds,
+            alts,
+            facts,
+            path,
+            depth,
+            done,
+            found,
+            standing,
+            next,
+            count,
+            limit,
+        );
+    }
+    let Found::Split(n) = found else {
+        return Resumed::Foreign;
+    };
+    let a = atoms[depth] as usize;
+    let j = nexts[depth];
+    let all = alternatives_at(table, path, depth);
+    if !is_taken(all, j, a) {
+        return Resumed::Foreign;
+    }
+    rewind(facts, path, 2050, depth, n, j - 1);
+    let own = mark(path, depth);
+    let made = enter(table, conds, alts, facts, path, depth, a);
+    let below = resume(
+        table,
+        conds,
+        alts,
+        facts,
+        path,
+        atoms,
+        nexts,
+        steps,
+        depth + 1,
+        own,
+        made,
+        standing,
+        next,
+        count,
+        limit,
+    );
+    let Resumed::On(walked) = below else {
+        return Resumed::Foreign;
+    };
+    let Walked::Shut(shut) = walked else {
+        return Resumed::On(walked);
+    };
+    let rest = work_off(table, conds, alts, facts, path, depth, done, shut, limit);
+    Resumed::On(rest)
+}
+
+// Goes on with a session of so many steps, in a set without facts.
+pub fn go_on(
+    table: &[u8],
+    conds: &[u16; 384],
+    alts: &[u16; 384],
+    facts: &mut [u8],
+    path: &mut [u8],
+    atoms: &[u16],
+    nexts: &[u8],
+    steps: usize,
+    standing: u8,
+    next: u8,
+    count: u32,
+    limit: u32,
+) -> Resumed
+    requires { ⌜ Lawful (now table) ⌝ }
+    requires { ⌜ ClausesIndexed (now table) false (now conds) × ClausesIndexed (now table) true (now alts) ⌝ }
+    requires { ⌜ Store 2050 (now facts) 0 × Room (now path) 0 ⌝ }
+    requires { ⌜ (steps ≤ length (now atoms)) × (steps ≤ length (now nexts)) ⌝ }
+    requires { ⌜ count ≤ limit ⌝ }
+    ensures { λ x. ⌜ GoesOn (relevancyWalker (now (table .entry))) (placeOf ((relevancyWalker (now (table .entry))) .find) (sessionOf standing count (now (atoms .entry)) (now (nexts .entry)) steps next)) count limit x (now (facts .exit)) (now (path .exit)) ⌝ }
+{
+    let found = root(table, conds, alts, facts, path);
+    resume(
+        table,
+        conds,
+        alts,
+        facts,
+        path,
+        atoms,
+        nexts,
+        steps,
+        0,
+        0,
+        found,
+        standing,
+        next,
+        count,
+        limit,
+    )
+}

@@ -1,0 +1,4 @@
+pub mod RecordLaws
+pub mod CallLaws
+pub mod EndLaws
+pub mod Theorems
