@@ -3,11 +3,12 @@ use Prim.Native.Nat.{ℕ, _≤_}
 use mathlib.Core.List.{List}
 use mathlib.Core.Path.{_≡_, sym, ap, subst, _∙_}
 use lib.ListN.{length}
+use Rattle.lists.specs.Member.{All}
 use Rattle.lists.proofs.Member.{all-map}
 use Rattle.search.specs.Ground.{Ground, Found}
 use Rattle.search.specs.Relevancy.{findR}
 use Rattle.search.specs.Magic.{tru, rel, rewriting, findM}
-use Rattle.search.specs.Machine.{Outcome, entered, trail, outcome}
+use Rattle.search.specs.Machine.{Place, Outcome, entered, trail, outcome}
 use Rattle.search.specs.Trails.{OneTrail, SameFacts as SameAt}
 use Rattle.search.proofs.Theorems.{theorems as walks}
 use Rattle.problem.specs.Problem.{Problem, limitOf}
@@ -38,8 +39,24 @@ module _ (tb rules answer work₁ work₂ : List ℕ) (taken : BothTaken tb rule
   one : OneTrail instanceKey p (limitLent tb)
   one = walks .one-trail instanceKey p (limitLent tb)
 
-  find-is : findIn bs ≡ findM instanceKey (p .atoms) (rewriting p)
+  pub find-is : findIn (magicRules tb rules answer work₂) ≡ findM instanceKey ((groundLent tb) .atoms) (rewriting (groundLent tb))
   find-is = magic.find-is tb rules answer work₂ (taken .by-magic)
+
+  -- what the rules hold where the facts of the two walks agree
+  pub facts-over : (places : List (Place Instance)) → All (λ s. (x : ℕ) → SameAt instanceKey (groundLent tb) s x) places
+      → All (λ s. (x : ℕ) → SameFacts tb (magicRules tb rules answer work₂) s x) places
+  facts-over places same =
+      let holds-is = magic.holds-is tb rules answer work₂ (taken .by-magic) in
+      all-map
+      (λ s. (x : ℕ) → SameAt instanceKey p s x)
+      (λ s. (x : ℕ) → SameFacts tb bs s x)
+      (λ s here x.
+      record {
+        relevant = holds-is (entered (s .path)) (rel x) ∙ here x .relevant;
+        true-relevant = holds-is (entered (s .path)) (tru x) ∙ here x .true-relevant;
+      })
+      places
+      same
 
   outcomes : outcome (findIn bs) (limitLent tb) ≡ outcome (findR p) (limitLent tb)
   outcomes = ap (λ (f : List ℕ → Found Instance). outcome f (limitLent tb)) find-is ∙ one .outcomes
@@ -50,20 +67,9 @@ module _ (tb rules answer work₁ work₂ : List ℕ) (taken : BothTaken tb rule
       let answer₁ = relevancy.answer-is tb answer work₁ (taken .by-relevancy) in
       let verdict₂ = magic.verdict-is tb rules answer work₂ (taken .by-magic) in
       let answer₂ = magic.answer-is tb rules answer work₂ (taken .by-magic) in
-      let holds-is = magic.holds-is tb rules answer work₂ (taken .by-magic) in
       record {
         trails = ap (λ (f : List ℕ → Found Instance). trail f (limitLent tb)) find-is ∙ one .trails;
-        facts =
-            all-map
-            (λ s. (x : ℕ) → SameAt instanceKey p s x)
-            (λ s. (x : ℕ) → SameFacts tb bs s x)
-            (λ s same x.
-            record {
-              relevant = holds-is (entered (s .path)) (rel x) ∙ same x .relevant;
-              true-relevant = holds-is (entered (s .path)) (tru x) ∙ same x .true-relevant;
-            })
-            (trail (findR p) (limitLent tb))
-            (one .facts);
+        facts = facts-over (trail (findR p) (limitLent tb)) (one .facts);
         by-relevancy = verdict₁;
         left-by-relevancy = answer₁;
         by-magic = verdict₂;
