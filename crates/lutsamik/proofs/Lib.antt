@@ -1,2 +1,4 @@
 pub mod Narrow
 pub mod Theorems
+pub mod LocalLaws
+pub mod SessionLaws

@@ -1,21 +1,26 @@
 -- What each operation answers has room in its bits, and a refusal's number is not 0.
-use Prim.Native.Nat.{ℕ, zero, suc, _^_, _≤_, _<_}
+use Prim.Native.Nat.{ℕ, zero, suc, _+_, _^_, _≤_, _<_}
 use mathlib.Core.Bool.{Bool, true, false, cond, _&&_, _||_}
 use mathlib.Core.List.{List, [], _∷_}
 use mathlib.Core.Option.{Option, none, some}
-use mathlib.Core.Path.{_≡_, refl, subst}
+use mathlib.Core.Path.{_≡_, refl, sym, subst}
 use native.Mathlib.Omega.{arith}
 use lib.Dec.{T, ltb, ltb→lt}
 use lib.ListN.{length, take, getD}
+use borrow.Author.Tests.{ltb-false}
 use Rattle.lists.specs.Key.{natKey}
 use Rattle.lists.specs.Member.{All, In, every, first}
 use Rattle.lists.specs.Test.{T-left, T-right}
 use Rattle.lists.proofs.Digits.{horner-below}
 use Rattle.lists.proofs.Member.{all-map, every-all, has-all, first-some}
 use Rattle.search.specs.Ground.{Found}
-use Rattle.search.specs.Machine.{Outcome, Satisfied, Refuted, Exhausted, outcome}
+use Rattle.search.specs.Machine.{Place, Outcome, Satisfied, Refuted, Exhausted, advance, entries, proceed, outcome}
 use Rattle.search.specs.Relevancy.{findR}
-use Rattle.search.proofs.Machine.{Counted, outcome-count}
+use Rattle.search.specs.Session.{Session, placeOf, sessionAfter, Called, declined, told, called}
+use Rattle.search.specs.SessionRight.{countOf}
+use Rattle.search.proofs.Machine.{Counted, entries-zero, entries-none, entries-some, outcome-count}
+use Rattle.search.proofs.Session.{stands-reached}
+use Rattle.search.proofs.SessionLeft.{run-left}
 use Rattle.problem.specs.Problem.{Problem, Fits, atomCount, limitOf}
 use Rattle.problem.specs.Parse.{Parsed, refused, parsed, parse}
 use Rattle.problem.specs.Layout.{problemIn}
@@ -47,7 +52,12 @@ use Rattle.judging.specs.declared.how_far.Holding.{Holding}
 use Rattle.judging.specs.declared.how_far.Holding.the-variants as holding
 use Rattle.judging.specs.Holding.{holdingOf, instanceNamed, isNamed, holdingNamed, holdingResult}
 use Rattle.judging.proofs.HoldingLaws.{holding-few}
+use Rattle.session.specs.declared.record.Session.{Session as Record}
+use Rattle.session.specs.Record.{sessionIn}
+use Rattle.session.specs.Calls.{calledIn, verdictTold}
+use Rattle.session.proofs.CallLaws.{called-held, called-none}
 use Rattle.relevancy.specs.Engine.{outcomeIn, tooShort, fitResult}
+use Rattle.relevancy.specs.Sessions.{resumed}
 use Rattle.rewriting.specs.declared.rewrite.Rewriting.{Rewriting}
 use Rattle.rewriting.specs.declared.rewrite.Rewriting.the-variants as rewriting
 use Rattle.rewriting.specs.Rules.{rewritingOf}
@@ -55,6 +65,7 @@ use Rattle.rewriting.specs.Facts.{findIn}
 use Rattle.rewriting.specs.Rewrite.{rulesOver, rewriteResult}
 use Rattle.rewriting.proofs.LayoutLaws.{rules-count}
 use Rattle.magic.specs.Engine.{rulesOutcome, magicOutcome, magicTooShort, magicResult}
+use Rattle.magic.specs.Sessions.{magicResumed}
 
 -- a refusal's number, and a value
 abbrev Number : ℕ → Type 0
@@ -230,6 +241,74 @@ narrow-magic tb rules answer work =
     let bs = rulesOver (take 4096 tb) (take 16384 rules) in
     said NarrowVerdict (magicTooShort tb rules answer work) (isValid (take 4096 tb)) (verdict.Refused 11) (verdictOf (magicOutcome (take 4096 tb) (take 16384 rules))) (verdict.Refused 31)
     number-11 (λ v. narrow-outcome (findIn bs) (problemIn (take 4096 tb)) (valid-table (take 4096 tb) v .fits)) number-31
+
+-- ---- a count after a further limit
+
+-- at most as many entries as allowed
+entries-most : {I : Type 0} (find : List ℕ → Found I) (n : ℕ) (t : Place I) → length (entries find n t) ≤ n
+entries-most find zero t = rw (entries-zero find t) (omega arith)
+entries-most {I} find (suc n) t = go (advance find t) refl (entries-most find n)
+  where
+    go : (o : Option (Place I)) → advance find t ≡ o → ((u : Place I) → length (entries find n u) ≤ n) → length (entries find (suc n) t) ≤ suc n
+    go none e h = rw (entries-none find (suc n) t e) (omega arith)
+    go (some u) e h = rw (entries-some find n t u e) (omega (arith, h u))
+
+narrow-count : (o : Outcome) → Value (countOf o) → NarrowVerdict (verdictOf o)
+narrow-count (Satisfied n bits) h = h
+narrow-count (Refuted n) h = h
+narrow-count (Exhausted n) h = h
+
+abbrev NarrowCall : Called → Type 0
+NarrowCall c = NarrowVerdict (verdictTold c)
+
+number-41 : Number 41
+number-41 = (omega arith, omega arith)
+
+number-42 : Number 42
+number-42 = (omega arith, omega arith)
+
+-- 41 is tested first, so the session's count has room with all that a run may add
+narrow-session : {I : Type 0} (find : List ℕ → Found I) (s : Session) (further : ℕ) → NarrowCall (called find s further)
+unfolding called
+narrow-session {I} find s further = over (ltb 4294967295 (s .count + further)) refl
+  where
+    goes : Option (Place I) → Called
+    goes o = elim o [ none ↦ declined 42 | some t ↦ told (proceed find further (s .count) t) (sessionAfter find further (s .count) t) ]
+
+    on : s .count + further ≤ 4294967295 → (o : Option (Place I)) → placeOf find s ≡ o → NarrowCall (goes o)
+    on within none e = number-42
+    on within (some t) e =
+        let run = run-left find t (s .count) further (stands-reached find s t e) in
+        narrow-count (proceed find further (s .count) t) (omega (arith, run .made, entries-most find further t))
+
+    over : (b : Bool) → ltb 4294967295 (s .count + further) ≡ b → NarrowCall (cond b (declined 41) (goes (placeOf find s)))
+    over true e = number-41
+    over false e = on (ltb-false 4294967295 (s .count + further) e) (placeOf find s) refl
+
+narrow-called : {I : Type 0} (find : List ℕ → Found I) (r : Record) (further : ℕ) → NarrowCall (calledIn find r further)
+narrow-called find r further = go (sessionIn r) refl
+  where
+    empty : (b : Bool) → NarrowCall (cond b (declined 41) (declined 42))
+    empty true = number-41
+    empty false = number-42
+
+    go : (o : Option Session) → sessionIn r ≡ o → NarrowCall (calledIn find r further)
+    go none e = subst NarrowCall (sym (called-none find r further e)) (empty (ltb 4294967295 (r .count + further)))
+    go (some s) e = subst NarrowCall (sym (called-held find r further s e)) (narrow-session find s further)
+
+pub narrow-resumed : (r : Record) (further : ℕ) (tb answer work : List ℕ) → NarrowCall (resumed r further tb answer work)
+unfolding resumed
+narrow-resumed r further tb answer work =
+    let find = findR (groundIn (take 4096 tb)) in
+    said NarrowCall (tooShort tb answer work) (isValid (take 4096 tb)) (declined 11) (calledIn find r further) (declined 31)
+    number-11 (λ v. narrow-called find r further) number-31
+
+pub narrow-magic-resumed : (r : Record) (further : ℕ) (tb rules answer work : List ℕ) → NarrowCall (magicResumed r further tb rules answer work)
+unfolding magicResumed
+narrow-magic-resumed r further tb rules answer work =
+    let bs = rulesOver (take 4096 tb) (take 16384 rules) in
+    said NarrowCall (magicTooShort tb rules answer work) (isValid (take 4096 tb)) (declined 11) (calledIn (findIn bs) r further) (declined 31)
+    number-11 (λ v. narrow-called (findIn bs) r further) number-31
 
 pub narrow-rewriting : (tb rules : List ℕ) → NarrowRewriting (rewriteResult tb rules)
 unfolding rewriteResult

@@ -27,11 +27,14 @@ use Rattle.judging.specs.Holding.{holdingResult}
 use Rattle.rewriting.specs.declared.rewrite.Rewriting.{Rewriting}
 use Rattle.rewriting.specs.declared.rewrite.Rewriting.the-variants as rewriting
 use Rattle.rewriting.specs.Rewrite.{rewriteResult}
+use Rattle.session.specs.Calls.{verdictTold}
 use Rattle.relevancy.specs.Engine.{fitResult}
+use Rattle.relevancy.specs.Sessions.{resumed}
 use Rattle.magic.specs.Engine.{magicResult}
+use Rattle.magic.specs.Sessions.{magicResumed}
 use Rattle.lutsamik.specs.Pack.{packed, packReading, packWriting, packOffering, packJudging, packHolding, packVerdict, packRewriting, unpacked, asReading, asWriting, asOffering, violatedBy, asJudging, asHolding, asVerdict, asRewriting}
 use Rattle.lutsamik.specs.Claims.{Narrow, Theorems}
-use Rattle.lutsamik.proofs.Narrow.{NarrowReading, NarrowWriting, NarrowOffering, NarrowJudging, NarrowHolding, NarrowVerdict, NarrowRewriting, narrow-reading, narrow-writing, narrow-offer, narrow-set, narrow-judging, narrow-holding, narrow-relevancy, narrow-magic, narrow-rewriting}
+use Rattle.lutsamik.proofs.Narrow.{NarrowReading, NarrowWriting, NarrowOffering, NarrowJudging, NarrowHolding, NarrowVerdict, NarrowRewriting, narrow-reading, narrow-writing, narrow-offer, narrow-set, narrow-judging, narrow-holding, narrow-relevancy, narrow-magic, narrow-resumed, narrow-magic-resumed, narrow-rewriting}
 
 -- a part of a number, between what stands above it and what stands below
 part : (n above w q m below : ℕ) → n ≡ (above * w + q) * m + below → q < w → below < m → n / m % w ≡ q
@@ -106,4 +109,6 @@ theorems =
       rewriting-back = λ tb rules. rewriting-back (rewriteResult tb rules) (narrow-rewriting tb rules);
       relevancy-back = λ tb answer work. verdict-back (fitResult tb answer work) (narrow-relevancy tb answer work);
       magic-back = λ tb rules answer work. verdict-back (magicResult tb rules answer work) (narrow-magic tb rules answer work);
+      relevancy-resumed-back = λ r further tb answer work. verdict-back (verdictTold (resumed r further tb answer work)) (narrow-resumed r further tb answer work);
+      magic-resumed-back = λ r further tb rules answer work. verdict-back (verdictTold (magicResumed r further tb rules answer work)) (narrow-magic-resumed r further tb rules answer work);
     }

@@ -9,8 +9,12 @@ use Rattle.offering.specs.Offer.{offerResult, setResult}
 use Rattle.judging.specs.ModelCheck.{judgeResult}
 use Rattle.judging.specs.Holding.{holdingResult}
 use Rattle.rewriting.specs.Rewrite.{rewriteResult}
+use Rattle.session.specs.declared.record.Session.{Session as Record}
+use Rattle.session.specs.Calls.{verdictTold}
 use Rattle.relevancy.specs.Engine.{fitResult}
+use Rattle.relevancy.specs.Sessions.{resumed}
 use Rattle.magic.specs.Engine.{magicResult}
+use Rattle.magic.specs.Sessions.{magicResumed}
 use Rattle.lutsamik.specs.Pack.{packed, packReading, packWriting, packOffering, packJudging, packHolding, packVerdict, packRewriting, unpacked, asReading, asWriting, asOffering, asJudging, asHolding, asVerdict, asRewriting}
 
 -- numbers that have room in their bits
@@ -31,3 +35,8 @@ pub record Theorems : Type 0 where
   pub rewriting-back : (tb rules : List ℕ) → asRewriting (unpacked (packRewriting (rewriteResult tb rules))) ≡ rewriteResult tb rules
   pub relevancy-back : (tb answer work : List ℕ) → asVerdict (unpacked (packVerdict (fitResult tb answer work))) ≡ fitResult tb answer work
   pub magic-back : (tb rules answer work : List ℕ) → asVerdict (unpacked (packVerdict (magicResult tb rules answer work))) ≡ magicResult tb rules answer work
+  -- the calls that go on with a session
+  pub relevancy-resumed-back : (r : Record) (further : ℕ) (tb answer work : List ℕ)
+      → asVerdict (unpacked (packVerdict (verdictTold (resumed r further tb answer work)))) ≡ verdictTold (resumed r further tb answer work)
+  pub magic-resumed-back : (r : Record) (further : ℕ) (tb rules answer work : List ℕ)
+      → asVerdict (unpacked (packVerdict (verdictTold (magicResumed r further tb rules answer work)))) ≡ verdictTold (magicResumed r further tb rules answer work)

@@ -1,4 +1,6 @@
 // The operations, for a host in C: numbers and byte slices go in, and one number comes back.
+pub mod calls;
+
 use ground::verdict::Verdict;
 use ground::verdict::number_of;
 use judging::how_far::Holding;

@@ -1,0 +1,19 @@
+-- `lutsamik::calls::resume_relevancy` meets its contract.
+use borrow.Author.Needs.{needs}
+use mathlib.Core.Path.{ap, _∙_}
+use Rattle.lutsamik.specs.Pack.{packVerdict}
+use Rattle.lutsamik.proofs.calls.resume_relevancy.Statement.{statement}
+use Rattle.lutsamik.proofs.calls.resume_relevancy.Tie as tie
+
+pub resume-relevancy-spec : {M : Type 1} → statement M
+resume-relevancy-spec =
+    tie.close
+    (tie.spec
+    (λ c κs. search needs)  -- resume-requires
+    (λ c κs. search needs)  -- pack-moved-requires
+    (λ c. search needs)  -- same-length
+    (λ c. search needs)  -- same-length-2
+    (λ c.
+    let resume = c .before .before .before .before .before .resume in
+    let packed = c .pack-moved .ensures in
+    (packed .0 ∙ ap packVerdict (resume .ensures .0), packed .1 ∙ resume .ensures .1, resume .ensures .2, resume .ensures .3)))  -- returns
