@@ -21,6 +21,66 @@ extern "C" {
         work: *mut u8,
         work_len: usize,
     ) -> u64;
+    fn lutsamik_begin_relevancy(
+        session: *mut Session,
+        table: *const u8,
+        table_len: usize,
+        answer: *mut u8,
+        answer_len: usize,
+        work: *mut u8,
+        work_len: usize,
+    ) -> u64;
+    fn lutsamik_begin_magic(
+        session: *mut Session,
+        table: *const u8,
+        table_len: usize,
+        rules: *mut u8,
+        rules_len: usize,
+        answer: *mut u8,
+        answer_len: usize,
+        work: *mut u8,
+        work_len: usize,
+    ) -> u64;
+    fn lutsamik_resume_relevancy(
+        session: *mut Session,
+        further: u32,
+        table: *const u8,
+        table_len: usize,
+        answer: *mut u8,
+        answer_len: usize,
+        work: *mut u8,
+        work_len: usize,
+    ) -> u64;
+    fn lutsamik_resume_magic(
+        session: *mut Session,
+        further: u32,
+        table: *const u8,
+        table_len: usize,
+        rules: *mut u8,
+        rules_len: usize,
+        answer: *mut u8,
+        answer_len: usize,
+        work: *mut u8,
+        work_len: usize,
+    ) -> u64;
+}
+
+/// Where a walk stands: `lutsamik_session` of the header. All its bytes are numbers, and there are none between them.
+#[repr(C)]
+#[derive(Clone, Copy, Debug, PartialEq, Eq)]
+pub struct Session {
+    pub count: u32,
+    pub length: u16,
+    pub verdict: u8,
+    pub next: u8,
+    pub atoms: [u16; 1024],
+    pub nexts: [u8; 1024],
+}
+
+pub const SESSION: usize = std::mem::size_of::<Session>();
+
+impl Session {
+    pub const EMPTY: Session = Session { count: 0, length: 0, verdict: 0, next: 0, atoms: [0; 1024], nexts: [0; 1024] };
 }
 
 pub fn read(text: &[u8], table: &mut [u8]) -> u64 {
@@ -62,6 +122,30 @@ pub fn fit_magic(table: &[u8], rules: &mut [u8], answer: &mut [u8], work: &mut [
     let (rules, rules_len) = (rules.as_mut_ptr(), rules.len());
     let (answer, answer_len) = (answer.as_mut_ptr(), answer.len());
     unsafe { lutsamik_fit_magic(table.as_ptr(), table.len(), rules, rules_len, answer, answer_len, work.as_mut_ptr(), work.len()) }
+}
+
+pub fn begin_relevancy(session: &mut Session, table: &[u8], answer: &mut [u8], work: &mut [u8]) -> u64 {
+    let (answer, answer_len) = (answer.as_mut_ptr(), answer.len());
+    unsafe { lutsamik_begin_relevancy(session, table.as_ptr(), table.len(), answer, answer_len, work.as_mut_ptr(), work.len()) }
+}
+
+pub fn begin_magic(session: &mut Session, table: &[u8], rules: &mut [u8], answer: &mut [u8], work: &mut [u8]) -> u64 {
+    let (rules, rules_len) = (rules.as_mut_ptr(), rules.len());
+    let (answer, answer_len) = (answer.as_mut_ptr(), answer.len());
+    unsafe { lutsamik_begin_magic(session, table.as_ptr(), table.len(), rules, rules_len, answer, answer_len, work.as_mut_ptr(), work.len()) }
+}
+
+pub fn resume_relevancy(session: &mut Session, further: u32, table: &[u8], answer: &mut [u8], work: &mut [u8]) -> u64 {
+    let (answer, answer_len) = (answer.as_mut_ptr(), answer.len());
+    unsafe { lutsamik_resume_relevancy(session, further, table.as_ptr(), table.len(), answer, answer_len, work.as_mut_ptr(), work.len()) }
+}
+
+pub fn resume_magic(session: &mut Session, further: u32, table: &[u8], rules: &mut [u8], answer: &mut [u8], work: &mut [u8]) -> u64 {
+    let (rules, rules_len) = (rules.as_mut_ptr(), rules.len());
+    let (answer, answer_len) = (answer.as_mut_ptr(), answer.len());
+    unsafe {
+        lutsamik_resume_magic(session, further, table.as_ptr(), table.len(), rules, rules_len, answer, answer_len, work.as_mut_ptr(), work.len())
+    }
 }
 
 /// An answer of reading, writing, offering, setting, rewriting or holding: the refusal number (0: none) in bits 0 to 7, the line, the length, the number
