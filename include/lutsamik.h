@@ -1,5 +1,5 @@
-/* Lutsamik: reads and writes tickets, adds rules to them, fits them by two engines, rewrites them, and judges
- * answers to them.
+/* Lutsamik: reads and writes tickets, adds rules to them, fits them by two engines, in one go or in slices, rewrites
+ * them, and judges answers to them.
  *
  * Link with liblutsamik.a, for x86-64: `make install` puts it, this header and a pkg-config file in place.
  * The library keeps no state, takes no memory and calls nothing but memcpy and memset: an operation works on the
@@ -8,37 +8,47 @@
  *
  * A byte slice is a pointer and then a length. All its bytes must be readable, and writable where the pointer is
  * not to const. The pointer must not be null, not even where the length is 0. A slice that is not const must not
- * overlap another one of the call. Nothing checks this. All else is checked: no operation relies on what the bytes
- * are, and a buffer that is too short is refused.
+ * overlap another one of the call. A session is lent by its address: it must be a whole struct lutsamik_session,
+ * writable, and overlap nothing else of the call. Nothing checks this. All else is checked: no operation relies on
+ * what the bytes are, and a buffer that is too short is refused.
  *
  * Each operation gives back one number, its result, which the functions at the end take apart. Look for a refusal
- * first. After a refusal each buffer holds what it held before the call. Otherwise:
+ * first. After a refusal each buffer, and the session too, holds what it held before the call. Otherwise:
  *
- *   operation               is lent                      refuses by     leaves
- *   lutsamik_read           text; writes table           11, 1 to 10    table: its 4,096 bytes, 0 where unused
- *   lutsamik_write          table; writes out            11, 31         out: the text
- *   lutsamik_offer          table, frame; writes slip    11, 31, and    slip: its 37 bytes, 0 where unused
- *                                                        2, 3, 5 to 8,
- *                                                        10
- *   lutsamik_set            table, slip; writes table    11, 31, 43,    table: that of the ticket with the clause of
- *                                                        and 2, 3, 5    the slip after the others
- *                                                        to 8, 10
- *   lutsamik_judge          table, answer                11, 31, 32     nothing is written
- *   lutsamik_holding        table, answer                11, 31, 32, 44 nothing is written
- *   lutsamik_rewrite        table; writes rules          11, 31         rules: the rules
- *   lutsamik_fit_relevancy  table; writes answer, work   11, 31         answer: fits alone writes it, A bytes;
- *                                                                       work: 65,536 times 0
- *   lutsamik_fit_magic      table; writes rules,         11, 31         rules: as lutsamik_rewrite does;
- *                           answer, work                                answer, work: as lutsamik_fit_relevancy does
+ *   operation                 is lent                      refuses by     leaves
+ *   lutsamik_read             text; writes table           11, 1 to 10    table: its 4,096 bytes, 0 where unused
+ *   lutsamik_write            table; writes out            11, 31         out: the text
+ *   lutsamik_offer            table, frame; writes slip    11, 31, and    slip: its 37 bytes, 0 where unused
+ *                                                          2, 3, 5 to 8,
+ *                                                          10
+ *   lutsamik_set              table, slip; writes table    11, 31, 43,    table: that of the ticket with the clause
+ *                                                          and 2, 3, 5    of the slip after the others
+ *                                                          to 8, 10
+ *   lutsamik_judge            table, answer                11, 31, 32     nothing is written
+ *   lutsamik_holding          table, answer                11, 31, 32, 44 nothing is written
+ *   lutsamik_rewrite          table; writes rules          11, 31         rules: the rules
+ *   lutsamik_fit_relevancy    table; writes answer, work   11, 31         answer: fits alone writes it, A bytes;
+ *                                                                         work: 65,536 times 0
+ *   lutsamik_fit_magic        table; writes rules,         11, 31         rules: as lutsamik_rewrite does;
+ *                             answer, work                                answer, work: as lutsamik_fit_relevancy
+ *   lutsamik_begin_relevancy  table; writes session,       11, 31         session: all its bytes, 0 past the path;
+ *                             answer, work                                answer, work: as lutsamik_fit_relevancy
+ *   lutsamik_begin_magic      table; writes session,       11, 31         session: as lutsamik_begin_relevancy does;
+ *                             rules, answer, work                         the rest: as lutsamik_fit_magic does
+ *   lutsamik_resume_relevancy table, session; writes       11, 31, 41, 42 as lutsamik_begin_relevancy does
+ *                             session, answer, work
+ *   lutsamik_resume_magic     table, session; writes       11, 31, 41, 42 as lutsamik_begin_magic does
+ *                             session, rules, answer, work
  *
  * Refusals are looked for in the order given, but 1 to 10 as reading meets them in a line: 1, 2, byte by byte 3 to
  * 7, then 3 for bytes left over, then 8, 9, 10; a 65th clause is 5 right after 2. A rule that is offered or set is
  * looked at as such a line. Bytes past those named are as they were, also those of a buffer that is longer than it
- * must be. What a written buffer held before does not matter, but for the table that a rule is set in. A is the
- * ticket's number of ground atoms, 1,024 at most.
+ * must be. What a written buffer held before does not matter, but for the table that a rule is set in and the session
+ * that a walk goes on with. A is the ticket's number of ground atoms, 1,024 at most.
  *
- * An engine runs until its walk ends or has made as many entries as the ticket allows, however long that takes. It
- * calls itself along its path of up to 1,024 entries: leave it 1 MB of stack, in which the tests walk such paths.
+ * An engine runs until its walk ends or has made as many entries as the ticket or a further limit allows, however
+ * long that takes. It calls itself along its path of up to 1,024 entries, that of a session too: leave it 1 MB of
+ * stack, in which the tests walk such paths.
  */
 #ifndef LUTSAMIK_H
 #define LUTSAMIK_H
@@ -61,35 +71,64 @@ extern "C" {
 /* Refusals. 1 to 10 come from reading, and 2, 3, 5 to 8 and 10 from offering and setting a rule too; only reading's
  * 1 to 10 name a line of the text. */
 enum {
-    LUTSAMIK_OK = 0,              /* not refused */
-    LUTSAMIK_BAD_LINE = 1,        /* no digits, an odd number, more than 70, a foreign byte, no 0A */
-    LUTSAMIK_BAD_KIND = 2,        /* kind unknown or out of place; a line after FF; FF missing */
-    LUTSAMIK_BAD_LENGTH = 3,      /* a byte is missing, or bytes are left over */
-    LUTSAMIK_BAD_VERSION = 4,     /* the version is not 01 */
-    LUTSAMIK_BAD_COUNT = 5,       /* a count or arity out of range, a wrong FF count, a 65th clause */
-    LUTSAMIK_UNKNOWN = 6,         /* an unknown predicate, constant or argument */
-    LUTSAMIK_BAD_NUMBERING = 7,   /* a variable out of the order 80, 81, 82, 83 */
-    LUTSAMIK_FREE_VARIABLE = 8,   /* a variable of an alternative that stands in no condition */
-    LUTSAMIK_TOO_MANY_ATOMS = 9,  /* more than 1,024 atoms */
-    LUTSAMIK_TOO_MANY_MARKS = 10, /* the sum of n * c^v over the clauses passes 16,384 */
-    LUTSAMIK_SHORT_BUFFER = 11,   /* a buffer is shorter than it must be */
-    LUTSAMIK_NO_TABLE = 31,       /* the first 4,096 bytes are not what some accepted text reads to */
-    LUTSAMIK_BAD_ANSWER = 32,     /* one of the answer's first A bytes is neither 0 nor 1 */
-    LUTSAMIK_STALE_SLIP = 43,     /* the slip's number of clauses is not the ticket's */
-    LUTSAMIK_NO_INSTANCE = 44     /* the ticket lacks the clause, or a value of its variables */
+    LUTSAMIK_OK = 0,                /* not refused */
+    LUTSAMIK_BAD_LINE = 1,          /* no digits, an odd number, more than 70, a foreign byte, no 0A */
+    LUTSAMIK_BAD_KIND = 2,          /* kind unknown or out of place; a line after FF; FF missing */
+    LUTSAMIK_BAD_LENGTH = 3,        /* a byte is missing, or bytes are left over */
+    LUTSAMIK_BAD_VERSION = 4,       /* the version is not 01 */
+    LUTSAMIK_BAD_COUNT = 5,         /* a count or arity out of range, a wrong FF count, a 65th clause */
+    LUTSAMIK_UNKNOWN = 6,           /* an unknown predicate, constant or argument */
+    LUTSAMIK_BAD_NUMBERING = 7,     /* a variable out of the order 80, 81, 82, 83 */
+    LUTSAMIK_FREE_VARIABLE = 8,     /* a variable of an alternative that stands in no condition */
+    LUTSAMIK_TOO_MANY_ATOMS = 9,    /* more than 1,024 atoms */
+    LUTSAMIK_TOO_MANY_MARKS = 10,   /* the sum of n * c^v over the clauses passes 16,384 */
+    LUTSAMIK_SHORT_BUFFER = 11,     /* a buffer is shorter than it must be */
+    LUTSAMIK_NO_TABLE = 31,         /* the first 4,096 bytes are not what some accepted text reads to */
+    LUTSAMIK_BAD_ANSWER = 32,       /* one of the answer's first A bytes is neither 0 nor 1 */
+    LUTSAMIK_TOO_MANY_ENTRIES = 41, /* the session's count and the further limit together pass FFFFFFFF */
+    LUTSAMIK_NO_SESSION = 42,       /* the session stands nowhere on a walk of the ticket */
+    LUTSAMIK_STALE_SLIP = 43,       /* the slip's number of clauses is not the ticket's */
+    LUTSAMIK_NO_INSTANCE = 44       /* the ticket lacks the clause, or a value of its variables */
 };
 
 /* What an engine says of a ticket, its verdict. */
 enum {
     LUTSAMIK_NONE = 0,  /* no set of atoms is a fitting */
     LUTSAMIK_FITS = 1,  /* the answer has a fitting */
-    LUTSAMIK_SPENT = 2  /* the walk would make more entries than the ticket allows */
+    LUTSAMIK_SPENT = 2  /* the walk would make more entries than the limit allows */
 };
 
 /* What judging says of an answer. */
 enum {
     LUTSAMIK_FITTING = 1,
     LUTSAMIK_VIOLATED = 2
+};
+
+/* Where a walk stands: a first run leaves it (lutsamik_begin_relevancy, lutsamik_begin_magic), and with it the ticket
+ * is brought back (lutsamik_resume_relevancy, lutsamik_resume_magic). It is the same whichever engine has moved it.
+ *
+ * A node's alternatives are counted from 0, without those that are passed over. Its next one is the first that is not
+ * yet entered; where all are, it is their number m, and it is 0 at a node that has no split. A walk that is spent
+ * stands at the node whose next alternative would be entered next, one that fits at the open node, and one that ends
+ * in none at the root.
+ *
+ * To keep a session, copy it, or write its bytes to a file and read them back: all of its 3,080 bytes are fields, the
+ * numbers have the low byte first, as x86-64 has them, and no pointer is among them. A later version of the library
+ * may add fields behind these, and moves none of them. Keep the ticket beside it: a session is to be used with the
+ * very ticket that it was begun on, and does not say which that is.
+ *
+ * A session of other origin, one that was damaged, changed, made up, or begun on another ticket, may be lent all the
+ * same. It is answered or refused, never trusted. Where it is answered, the walk has gone on from the path and the
+ * count that it held, both engines answer and leave alike, and LUTSAMIK_FITS comes with a fitting of the ticket in
+ * the table. But its LUTSAMIK_NONE, its LUTSAMIK_SPENT and its count are not claimed to be right, in this call or a
+ * later one. */
+struct lutsamik_session {
+    uint32_t count;       /* the entries made so far, in all calls since the first run */
+    uint16_t length;      /* how many entries the path has that leads to the node where the walk stands */
+    uint8_t verdict;      /* LUTSAMIK_SPENT, or LUTSAMIK_NONE or LUTSAMIK_FITS: then the session is finished */
+    uint8_t next;         /* the next alternative of that node */
+    uint16_t atoms[1024]; /* the path, from the root on: the atom of each entry; 0 past the path */
+    uint8_t nexts[1024];  /* the next alternative of the node that each entry was made from; 0 past the path */
 };
 
 /* Reads a ticket's text into a table. The result is 0, or has a refusal.
@@ -164,6 +203,46 @@ uint64_t lutsamik_fit_relevancy(const uint8_t *table, size_t table_len, uint8_t 
 uint64_t lutsamik_fit_magic(const uint8_t *table, size_t table_len, uint8_t *rules, size_t rules_len,
                             uint8_t *answer, size_t answer_len, uint8_t *work, size_t work_len);
 
+/* Fits the ticket in a table, by the relevancy engine, and leaves a session: a first run. Verdict, count, answer and
+ * work are those of lutsamik_fit_relevancy, which is a first run whose session is not kept. What the session held
+ * does not matter. */
+uint64_t lutsamik_begin_relevancy(struct lutsamik_session *session, const uint8_t *table, size_t table_len,
+                                  uint8_t *answer, size_t answer_len, uint8_t *work, size_t work_len);
+
+/* A first run by the magic engine. Verdict, count, session and answer are those of lutsamik_begin_relevancy; the
+ * rules are those of lutsamik_rewrite, whatever the verdict. */
+uint64_t lutsamik_begin_magic(struct lutsamik_session *session, const uint8_t *table, size_t table_len,
+                              uint8_t *rules, size_t rules_len, uint8_t *answer, size_t answer_len, uint8_t *work,
+                              size_t work_len);
+
+/* Goes on with a session, by the relevancy engine: from where it stands the walk makes up to so many further entries,
+ * and the session then stands where the walk has come to. The ticket's own limit is not looked at.
+ *
+ * Let the session be one that only these calls have moved since its first run, by either engine and in any order,
+ * always with the table of the same ticket. Then verdict, count, answer and session are those of a first run under
+ * the sum of the ticket's limit and the further limits of all calls that were not refused, and lutsamik_count has the
+ * entries of all these calls. A finished session answers again as before, with its fitting, whatever the further
+ * limit; a spent one with a further limit of 0 stays spent.
+ *
+ * LUTSAMIK_TOO_MANY_ENTRIES goes by the session's count and the further limit alone, for a finished session too; with
+ * a smaller limit the call goes on. LUTSAMIK_NO_SESSION comes after it. It is never met by such a session; one of
+ * other origin is refused unless each entry of its path is the alternative just before the next one of the split that
+ * the walk takes there, next is at most m, a session that fits stands at an open node, and one that ends in none at a
+ * root that is closed or has all its alternatives entered. A verdict above LUTSAMIK_SPENT or a length above 1,024 is
+ * refused; nothing past the path is looked at.
+ *
+ * The path is walked anew first, uncounted, which takes as long as so many entries do; the rest of the work so far is
+ * kept. */
+uint64_t lutsamik_resume_relevancy(struct lutsamik_session *session, uint32_t further, const uint8_t *table,
+                                   size_t table_len, uint8_t *answer, size_t answer_len, uint8_t *work,
+                                   size_t work_len);
+
+/* Goes on with a session, by the magic engine. Refusal, verdict, count, session and answer are those of
+ * lutsamik_resume_relevancy; the rules are those of lutsamik_rewrite, whatever the verdict. */
+uint64_t lutsamik_resume_magic(struct lutsamik_session *session, uint32_t further, const uint8_t *table,
+                               size_t table_len, uint8_t *rules, size_t rules_len, uint8_t *answer, size_t answer_len,
+                               uint8_t *work, size_t work_len);
+
 /* A result taken apart. Bits 0 to 7: the refusal, or LUTSAMIK_OK. Ask for it first: what the other functions say of
  * a refused result, but for lutsamik_line, means nothing (lutsamik_verdict would say LUTSAMIK_NONE). */
 static inline unsigned lutsamik_refusal(uint64_t result) { return (unsigned)(result & 0xFF); }
@@ -181,7 +260,8 @@ static inline uint32_t lutsamik_rules(uint64_t result) { return (uint32_t)(resul
 /* Bits 8 to 15 of an engine's result: LUTSAMIK_NONE, LUTSAMIK_FITS or LUTSAMIK_SPENT. */
 static inline unsigned lutsamik_verdict(uint64_t result) { return (unsigned)(result >> 8 & 0xFF); }
 
-/* Bits 32 to 63 of an engine's result: the number of search entries made, the root not among them. */
+/* Bits 32 to 63 of an engine's result: the number of search entries made, the root not among them; with a session, in
+ * all calls since the first run. */
 static inline uint32_t lutsamik_count(uint64_t result) { return (uint32_t)(result >> 32); }
 
 /* Bits 8 to 15 of a judging: LUTSAMIK_FITTING or LUTSAMIK_VIOLATED. */
