@@ -15,10 +15,13 @@ mod reference;
 mod report;
 #[allow(dead_code)] // rules are compared by their bytes, and not read back
 mod rules;
+mod session;
 mod slip;
+mod tamper;
 mod tickets;
 mod walk;
 
+use library::SESSION;
 use memory::Memory;
 use operations::Buffer::{self, *};
 use operations::Operation::{self, *};
@@ -84,10 +87,11 @@ fn days(first: u64, end: Instant) -> Result<Met, Report> {
     Ok(met)
 }
 
-/// What a host's buffers hold, from call to call: each as much as is required, text and frame as much as they have, and MORE bytes.
+/// What a host's buffers hold, from call to call: each as much as is required, text and frame as much as they have, and MORE bytes. What is
+/// past a session is not lent.
 struct Day {
     random: Random,
-    held: [Vec<u8>; 8],
+    held: [Vec<u8>; 9],
 }
 
 impl Day {
@@ -98,7 +102,7 @@ impl Day {
     }
 
     /// Each call goes by what the calls before have left, but a reading by another text, an offer mostly by another frame, and a setting by another
-    /// slip at times; now and then something else is in a buffer.
+    /// slip at times, as going on by another session; now and then something else is in a buffer.
     fn spend(&mut self, met: &mut Met) -> Result<(), Report> {
         for i in 0..CALLS_A_DAY {
             let operation = if i == 0 { Read } else { self.random.pick(&OPERATIONS) };
@@ -106,6 +110,7 @@ impl Day {
                 Read => self.put(Text),
                 Offer if self.random.below(4) > 0 => self.put(Frame),
                 Set if self.random.once_in(2) => self.put(Slip),
+                ResumeRelevancy | ResumeMagic if self.random.once_in(2) => self.put(Session),
                 _ if self.random.once_in(3) => {
                     let buffer = self.random.pick(operation.buffers());
                     self.put(buffer);
@@ -129,6 +134,7 @@ impl Day {
             Answer => arbitrary::answer(random, held),
             Frame => arbitrary::frame(random, ticket.as_ref()),
             Slip => arbitrary::slip(random, held, ticket.as_ref()),
+            Session => tamper::any(random, held),
             _ => arbitrary::bytes(random, held.len()),
         };
         held.extend(arbitrary::bytes(random, MORE));
@@ -136,7 +142,7 @@ impl Day {
 
     /// One call by the library, and what it must answer and leave.
     fn call(&mut self, operation: Operation, met: &mut Met) -> Result<(), Report> {
-        if matches!(operation, FitRelevancy | FitMagic) {
+        if matches!(operation, FitRelevancy | FitMagic | BeginRelevancy | BeginMagic) {
             self.cut_long_walk();
         }
         let lent = self.lend(operation, met);
@@ -163,6 +169,7 @@ impl Day {
         let near = self.random.once_in(3);
         let ticket = if operation == Holding { reference::ticket_in(&self.held[Table as usize][..TABLE]) } else { None };
         let (clause, values) = arbitrary::instance(&mut self.random, ticket.as_ref());
+        let further = tamper::further(&mut self.random, &self.held[Session as usize][..SESSION], LONG as u32);
         let buffers = BUFFERS.map(|buffer| {
             let held = &self.held[buffer as usize];
             let mut len = 0;
@@ -176,7 +183,7 @@ impl Day {
                 _ => Memory::random(&mut self.random, len).beginning_with(&held[..len]),
             }
         });
-        Lent { buffers, clause, values }
+        Lent { buffers, clause, values, further }
     }
 }
 
@@ -191,6 +198,7 @@ fn length(required: usize, which: usize) -> usize {
 /// Which of them: any, or one that is enough.
 fn any_length(random: &mut Random, buffer: Buffer, near: bool) -> usize {
     match buffer {
+        Session => AS_REQUIRED,
         _ if near => random.below(LENGTHS.len()),
         Text | Frame => AS_REQUIRED,
         _ => random.within(AS_REQUIRED, LENGTHS.len() - 1),
@@ -226,7 +234,7 @@ impl Met {
         for operation in OPERATIONS {
             let answers = self.answers.iter().filter(|((by, _), _)| *by == operation);
             let told: Vec<String> = answers.map(|((_, name), times)| format!(" {name}: {times}")).collect();
-            println!("{:13}{}", format!("{operation:?}"), told.join(","));
+            println!("{:15}{}", format!("{operation:?}"), told.join(","));
         }
     }
 
@@ -237,7 +245,7 @@ impl Met {
             let answers = names.chain(refusals_of(operation).iter().map(|refusal| named(*refusal)));
             let never = answers.filter(|name| !self.answers.contains_key(&(operation, name.clone())));
             missing.extend(never.map(|name| format!("{operation:?}: {name}")));
-            for buffer in operation.buffers() {
+            for buffer in operation.buffers().iter().filter(|buffer| **buffer != Session) {
                 let never = (0..LENGTHS.len()).filter(|which| !self.lengths.contains_key(&(operation, *buffer, *which)));
                 missing.extend(never.map(|which| format!("{operation:?} with {buffer:?}: {}", LENGTHS[which])));
             }
@@ -249,7 +257,7 @@ impl Met {
 /// The answers that are no refusals, by their bits 8 to 15.
 fn said_by(operation: Operation) -> &'static [&'static str] {
     match operation {
-        FitRelevancy | FitMagic => &["none", "fits", "spent"],
+        FitRelevancy | FitMagic | BeginRelevancy | BeginMagic | ResumeRelevancy | ResumeMagic => &["none", "fits", "spent"],
         Judge => &["", "fitting", "violated"],
         _ => &["done"],
     }
@@ -267,6 +275,7 @@ fn refusals_of(operation: Operation) -> &'static [u8] {
         Set => &[2, 3, 5, 6, 7, 8, 10, 11, 31, 43],
         Judge => &[11, 31, 32],
         Holding => &[11, 31, 32, 44],
+        ResumeRelevancy | ResumeMagic => &[11, 31, 41, 42],
         _ => &[11, 31],
     }
 }

@@ -1,4 +1,5 @@
 //! Large random tickets, in four families by what is large about them.
+#![allow(dead_code)] // each program uses its own part
 
 use crate::random::Random;
 use crate::reference::{Atom, Clause, Ticket};

@@ -1,6 +1,7 @@
-//! The library's nine operations: which buffers each is lent, and a call of which every lent byte is compared.
+//! The library's thirteen operations: which buffers each is lent, and a call of which every lent byte is compared.
+#![allow(dead_code)] // each program uses its own part
 
-use crate::library;
+use crate::library::{self, SESSION};
 use crate::memory::{same_bytes, Memory};
 use crate::reference::{ANSWER, RULES, SLIP, TABLE, TEXT_OUT, WORK};
 use crate::report::{dump, same_answer, Report};
@@ -18,9 +19,13 @@ pub enum Operation {
     FitMagic,
     Judge,
     Holding,
+    BeginRelevancy,
+    BeginMagic,
+    ResumeRelevancy,
+    ResumeMagic,
 }
 
-pub const OPERATIONS: [Operation; 9] = [
+pub const OPERATIONS: [Operation; 13] = [
     Operation::Read,
     Operation::Write,
     Operation::Offer,
@@ -30,6 +35,10 @@ pub const OPERATIONS: [Operation; 9] = [
     Operation::FitMagic,
     Operation::Judge,
     Operation::Holding,
+    Operation::BeginRelevancy,
+    Operation::BeginMagic,
+    Operation::ResumeRelevancy,
+    Operation::ResumeMagic,
 ];
 
 #[derive(Clone, Copy, Debug, PartialEq, Eq, PartialOrd, Ord)]
@@ -42,14 +51,15 @@ pub enum Buffer {
     Work,
     Frame,
     Slip,
+    Session,
 }
 
-pub const BUFFERS: [Buffer; 8] = [Text, Table, TextOut, Rules, Answer, Work, Frame, Slip];
+pub const BUFFERS: [Buffer; 9] = [Text, Table, TextOut, Rules, Answer, Work, Frame, Slip, Session];
 
 impl Buffer {
-    /// The bytes that it must have at least. A text and a frame may have any length.
+    /// The bytes that it must have at least. A text and a frame may have any length, and a session has no other than its own.
     pub fn required(self) -> usize {
-        [0, TABLE, TEXT_OUT, RULES, ANSWER, WORK, 0, SLIP][self as usize]
+        [0, TABLE, TEXT_OUT, RULES, ANSWER, WORK, 0, SLIP, SESSION][self as usize]
     }
 }
 
@@ -64,17 +74,24 @@ impl Operation {
             Operation::FitRelevancy => &[Table, Answer, Work],
             Operation::FitMagic => &[Table, Rules, Answer, Work],
             Operation::Judge | Operation::Holding => &[Table, Answer],
+            Operation::BeginRelevancy | Operation::ResumeRelevancy => &[Session, Table, Answer, Work],
+            Operation::BeginMagic | Operation::ResumeMagic => &[Session, Table, Rules, Answer, Work],
         }
+    }
+
+    pub fn resumes(self) -> bool {
+        matches!(self, Operation::ResumeRelevancy | Operation::ResumeMagic)
     }
 }
 
-/// What a call is given: lent buffers, of which those that its operation is not lent do not matter, and an instance by clause and the values of
-/// 80, 81, 82, 83, which is for holding alone.
+/// What a call is given: lent buffers, of which those that its operation is not lent do not matter; an instance by clause and the values of
+/// 80, 81, 82, 83, which is for holding alone; and a further limit, for going on with a session.
 #[derive(Clone)]
 pub struct Lent {
-    pub buffers: [Memory; 8],
+    pub buffers: [Memory; 9],
     pub clause: u32,
     pub values: [u32; 4],
+    pub further: u32,
 }
 
 impl Index<Buffer> for Lent {
@@ -98,7 +115,8 @@ impl Lent {
 
     /// The library's answer, and what it leaves in the buffers.
     fn call(&mut self, operation: Operation) -> u64 {
-        let [text, table, out, rules, answer, work, frame, slip] = &mut self.buffers;
+        let [text, table, out, rules, answer, work, frame, slip, session] = &mut self.buffers;
+        let further = self.further;
         match operation {
             Operation::Read => library::read(text.lent(), table.lent_mut()),
             Operation::Write => library::write(table.lent(), out.lent_mut()),
@@ -109,6 +127,12 @@ impl Lent {
             Operation::FitMagic => library::fit_magic(table.lent(), rules.lent_mut(), answer.lent_mut(), work.lent_mut()),
             Operation::Judge => library::judge(table.lent(), answer.lent()),
             Operation::Holding => library::holding(table.lent(), answer.lent(), self.clause, self.values),
+            Operation::BeginRelevancy => library::begin_relevancy(session_in(session), table.lent(), answer.lent_mut(), work.lent_mut()),
+            Operation::BeginMagic => library::begin_magic(session_in(session), table.lent(), rules.lent_mut(), answer.lent_mut(), work.lent_mut()),
+            Operation::ResumeRelevancy => library::resume_relevancy(session_in(session), further, table.lent(), answer.lent_mut(), work.lent_mut()),
+            Operation::ResumeMagic => {
+                library::resume_magic(session_in(session), further, table.lent(), rules.lent_mut(), answer.lent_mut(), work.lent_mut())
+            }
         }
     }
 
@@ -130,8 +154,16 @@ impl Lent {
             Operation::Offer => format!("frame {:02X?}\n{}", self[Frame].lent(), dump(self[Table].lent())),
             Operation::Set => format!("slip {:02X?}\n{}", self[Slip].lent(), dump(self[Table].lent())),
             Operation::Holding => format!("clause {} with {:?}\n{}", self.clause, self.values, dump(self[Table].lent())),
+            _ if operation.resumes() => format!("further {}, session\n{}table\n{}", self.further, dump(self[Session].lent()), dump(self[Table].lent())),
             _ => dump(self[Table].lent()),
         };
         format!("{operation:?} with {} bytes\n{source}", lens.join(", "))
     }
+}
+
+/// The session whose bytes a buffer has, where it stands amid the others. It has numbers alone, so any bytes are one.
+fn session_in(memory: &mut Memory) -> &mut library::Session {
+    let (before, sessions, after) = unsafe { memory.lent_mut().align_to_mut() };
+    assert!(before.is_empty() && sessions.len() == 1 && after.is_empty(), "the buffer of a session is aligned and has its length");
+    &mut sessions[0]
 }

@@ -6,8 +6,9 @@ use crate::magic::{rewritten, Magic};
 use crate::operations::{Buffer, Lent, Operation};
 use crate::reference::{self, Ticket, NO_TABLE, SHORT_BUFFER, SLIP, TABLE, WORK};
 use crate::rules;
+use crate::session::{self, Told};
 use crate::slip;
-use crate::walk::{walk, Engine, Relevancy};
+use crate::walk::{walk, Engine, Outcome, Relevancy};
 
 /// The answer, and what is left in the buffers.
 pub fn expected(operation: Operation, lent: &Lent) -> (u64, Lent) {
@@ -52,7 +53,9 @@ fn of_ticket(operation: Operation, ticket: &Ticket, lent: &mut Lent) -> u64 {
         }
         Operation::FitRelevancy => fit_by(&Relevancy::new(ticket), ticket, lent),
         Operation::Holding => holding(ticket, lent),
-        _ => judge(ticket, lent),
+        Operation::Judge => judge(ticket, lent),
+        Operation::BeginRelevancy | Operation::ResumeRelevancy => with_session(operation, &Relevancy::new(ticket), ticket, lent),
+        _ => with_session(operation, &Magic::new(&rewritten(ticket), ticket), ticket, lent),
     }
 }
 
@@ -84,11 +87,34 @@ fn rewrite(ticket: &Ticket, lent: &mut Lent) -> u32 {
 }
 
 fn fit_by(engine: &dyn Engine, ticket: &Ticket, lent: &mut Lent) -> u64 {
-    let outcome = walk(engine, u32::from_be_bytes(ticket.limit), &mut |_, _| {});
+    ended(&walk(engine, u32::from_be_bytes(ticket.limit), &mut |_, _| {}), lent)
+}
+
+/// What a walk that has ended so leaves in answer and work.
+fn ended(outcome: &Outcome, lent: &mut Lent) -> u64 {
     let marks: Vec<u8> = outcome.fitting.iter().flatten().map(|is_in| *is_in as u8).collect();
     begin(lent, Buffer::Answer, &marks);
     begin(lent, Buffer::Work, &[0; WORK]);
     fit(outcome.verdict as u8, outcome.count)
+}
+
+/// A first run, or going on with the session lent, by an engine.
+pub fn with_session(operation: Operation, engine: &dyn Engine, ticket: &Ticket, lent: &mut Lent) -> u64 {
+    let held = session::of_bytes(lent[Buffer::Session].lent());
+    let said = if operation.resumes() { session::resumed(engine, &held, lent.further) } else { Ok(session::begun(engine, u32::from_be_bytes(ticket.limit))) };
+    match said {
+        Ok(told) => moved(operation, &told, ticket, lent),
+        Err(refusal) => packed(refusal, 0),
+    }
+}
+
+/// What such a call leaves that is not refused.
+fn moved(operation: Operation, told: &Told, ticket: &Ticket, lent: &mut Lent) -> u64 {
+    begin(lent, Buffer::Session, &session::bytes(&told.session));
+    if operation.buffers().contains(&Buffer::Rules) {
+        rewrite(ticket, lent);
+    }
+    ended(&told.outcome, lent)
 }
 
 fn judge(ticket: &Ticket, lent: &Lent) -> u64 {

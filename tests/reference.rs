@@ -22,6 +22,8 @@ pub const TOO_MANY_MARKS: u8 = 10;
 pub const SHORT_BUFFER: u8 = 11;
 pub const NO_TABLE: u8 = 31;
 pub const BAD_ANSWER: u8 = 32;
+pub const TOO_MANY_ENTRIES: u8 = 41;
+pub const NO_SESSION: u8 = 42;
 pub const STALE_SLIP: u8 = 43;
 pub const NO_INSTANCE: u8 = 44;
 

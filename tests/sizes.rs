@@ -1,4 +1,5 @@
 //! How large tickets and their walks are, and what was drawn of a family of large ones.
+#![allow(dead_code)] // each program uses its own part
 
 use crate::logic::{self, Ground};
 use crate::mix::Mix;
