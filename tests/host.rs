@@ -1,7 +1,7 @@
 //! A host's buffers, each as large as is required and no larger, lent to one operation after another.
 #![allow(dead_code)] // each program uses its own part
 
-use crate::library;
+use crate::library::{self, Session};
 use crate::reference::{ANSWER, RULES, SLIP, TABLE, TEXT_OUT, WORK};
 
 #[derive(Clone)]
@@ -12,16 +12,23 @@ pub struct Host {
     pub answer: Vec<u8>,
     pub work: Vec<u8>,
     pub slip: Vec<u8>,
+    pub session: Session,
 }
 
 /// The engines by name.
 pub const ENGINES: [(&str, fn(&mut Host) -> u64); 2] = [("relevancy", Host::fit_relevancy), ("magic", Host::fit_magic)];
 
+/// Their calls with a session: a first run, and going on with a further limit.
+pub type Begin = fn(&mut Host) -> u64;
+pub type Resume = fn(&mut Host, u32) -> u64;
+pub const WITH_SESSION: [(&str, Begin, Resume); 2] =
+    [("relevancy", Host::begin_relevancy, Host::resume_relevancy), ("magic", Host::begin_magic, Host::resume_magic)];
+
 impl Host {
     pub fn new() -> Host {
         let buffer = |len: usize| vec![0xEE; len];
         let (table, out, rules) = (buffer(TABLE), buffer(TEXT_OUT), buffer(RULES));
-        Host { table, out, rules, answer: buffer(ANSWER), work: buffer(WORK), slip: buffer(SLIP) }
+        Host { table, out, rules, answer: buffer(ANSWER), work: buffer(WORK), slip: buffer(SLIP), session: Session::EMPTY }
     }
 
     pub fn read(&mut self, text: &[u8]) -> u64 {
@@ -50,6 +57,22 @@ impl Host {
 
     pub fn fit_magic(&mut self) -> u64 {
         library::fit_magic(&self.table, &mut self.rules, &mut self.answer, &mut self.work)
+    }
+
+    pub fn begin_relevancy(&mut self) -> u64 {
+        library::begin_relevancy(&mut self.session, &self.table, &mut self.answer, &mut self.work)
+    }
+
+    pub fn begin_magic(&mut self) -> u64 {
+        library::begin_magic(&mut self.session, &self.table, &mut self.rules, &mut self.answer, &mut self.work)
+    }
+
+    pub fn resume_relevancy(&mut self, further: u32) -> u64 {
+        library::resume_relevancy(&mut self.session, further, &self.table, &mut self.answer, &mut self.work)
+    }
+
+    pub fn resume_magic(&mut self, further: u32) -> u64 {
+        library::resume_magic(&mut self.session, further, &self.table, &mut self.rules, &mut self.answer, &mut self.work)
     }
 
     pub fn judge(&mut self) -> u64 {

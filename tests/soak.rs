@@ -16,7 +16,7 @@ mod tickets;
 mod walk;
 
 use footprint::Footprint;
-use host::{Host, ENGINES};
+use host::{Host, ENGINES, WITH_SESSION};
 use library::{fit, packed, FITTING};
 use random::Random;
 use reference::{Ticket, STALE_SLIP};
@@ -124,13 +124,23 @@ impl Soak {
         same("the text written", &job.text[..], &self.host.out[..job.text.len()])?;
         self.call(job, answers.rewrite, Host::rewrite)?;
         for (_, engine) in ENGINES {
-            self.host.answer.fill(0xEE);
-            self.call(job, answers.fit, engine)?;
-            if answers.verdict == Verdict::Fits {
-                self.call(job, FITTING, Host::judge)?;
-            }
+            self.fit(job, answers, engine)?;
+        }
+        for (_, begin, resume) in WITH_SESSION {
+            self.fit(job, answers, begin)?;
+            self.fit(job, answers, |host| resume(host, 0))?;
         }
         self.add(job, answers)
+    }
+
+    /// A call of an engine; going on with a session for no further entry answers as the run before.
+    fn fit(&mut self, job: &Job, answers: &Answers, engine: impl Fn(&mut Host) -> u64) -> Result<(), Report> {
+        self.host.answer.fill(0xEE);
+        self.call(job, answers.fit, engine)?;
+        if answers.verdict == Verdict::Fits {
+            self.call(job, FITTING, Host::judge)?;
+        }
+        Ok(())
     }
 
     /// Offers the rule, and sets it where it can be added: twice it cannot.

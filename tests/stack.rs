@@ -1,6 +1,6 @@
-//! How much stack each operation needs, and the engines on the longest paths there are: in a thread of 1 MB, and on a stack of this
-//! program's own, painted beforehand, so that the bytes used can be counted; they must be within a bound. Usage: stack [BYTES OF STACK].
-//! Where the stack is too small, a signal ends the program.
+//! How much stack each operation needs, and the engines on the longest paths there are, in one go and going on with a session: in a thread
+//! of 1 MB, and on a stack of this program's own, painted beforehand, so that the bytes used can be counted; they must be within a bound.
+//! Usage: stack [BYTES OF STACK]. Where the stack is too small, a signal ends the program.
 mod host;
 mod library;
 mod logic;
@@ -8,15 +8,17 @@ mod painted;
 mod random;
 mod reference;
 mod report;
+mod session;
 mod tickets;
 mod walk;
 
-use host::{Host, ENGINES};
-use library::{fit, packed, violated};
+use host::{Host, ENGINES, WITH_SESSION};
+use library::{fit, packed, violated, Session};
 use reference::Ticket;
 use report::{same, same_answer, Report};
+use session::{begun, resumed, Told};
 use std::hint::black_box;
-use walk::{walk, Relevancy};
+use walk::{walk, Relevancy, Remembering};
 
 const STACK: usize = 1 << 20;
 
@@ -36,9 +38,13 @@ fn measure(stack: usize) -> Result<(), Report> {
     counts_right(stack)?;
     let longest = tickets::deep(32, 1, 1024);
     without_a_walk(&longest, stack)?;
-    walked(&tickets::deep(31, 2, u32::MAX), 961, 961, stack)?;
+    let (open, late) = (tickets::deep(31, 2, u32::MAX), tickets::late(31, u32::MAX));
+    walked(&open, 961, 961, stack)?;
     walked(&longest, 1024, 1024, stack)?;
-    walked(&tickets::late(31, u32::MAX), 4 * 961, 961, stack)
+    walked(&late, 4 * 961, 961, stack)?;
+    brought_back(&open, 961, stack)?;
+    brought_back(&longest, 1024, stack)?;
+    brought_back(&late, 4 * 961, stack)
 }
 
 /// That a function which fills 100,000 bytes of stack is counted so, and little more.
@@ -87,6 +93,53 @@ fn walked(ticket: &Ticket, count: u32, path: usize, stack: usize) -> Result<(), 
         println!("stack: {count} entries, on a path of up to {path}, are walked by {name} in a thread of {stack} bytes, and uses {used} of them");
     }
     Ok(())
+}
+
+/// A ticket that has so many entries, with a session: a first run of them all, and sessions that are gone on with up to the last entry. One
+/// stands at the root, where no entry is made yet, one at the end of the longest path but for an entry, and one of other origin at its end.
+fn brought_back(ticket: &Ticket, count: u32, stack: usize) -> Result<(), Report> {
+    let engine = Remembering::new(Relevancy::new(ticket));
+    let whole = begun(&engine, u32::from_be_bytes(ticket.limit));
+    same("entries", count, whole.outcome.count)?;
+    let (root, last) = (begun(&engine, 0).session, begun(&engine, count - 1).session);
+    let mut host = Host { table: reference::encode(ticket), ..Host::new() };
+    for (name, begin, resume) in WITH_SESSION {
+        let first = deep_call(name, &whole, &mut host, stack, begin)?;
+        print!("stack: with a session, {count} entries by {name}: a first run uses {first} bytes");
+        for from in [root, last, one_longer(&engine, &last)] {
+            let told = resumed(&engine, &from, count).map_err(|refusal| format!("a session is refused by {refusal}"))?;
+            let used = deep_call(name, &told, &mut host, stack, |host| {
+                host.session = from;
+                resume(host, count)
+            })?;
+            print!(", going on from a path of {} {used}", from.length);
+        }
+        println!();
+    }
+    Ok(())
+}
+
+/// The session with its next alternative on the path.
+fn one_longer(engine: &Remembering<Relevancy>, session: &Session) -> Session {
+    let (length, nodes) = (session.length as usize, session::standing(engine, session).expect("it stands"));
+    let next = nodes[length].next;
+    let mut longer = Session { length: session.length + 1, next: 0, ..*session };
+    (longer.atoms[length], longer.nexts[length]) = (nodes[length].alternatives[next] as u16, next as u8 + 1);
+    longer
+}
+
+/// A call that must say and leave this, in a thread and on a painted stack: the bytes that it uses there.
+fn deep_call(name: &str, told: &Told, host: &mut Host, stack: usize, call: impl Fn(&mut Host) -> u64 + Copy + Send) -> Result<usize, Report> {
+    let expected = fit(told.outcome.verdict as u8, told.outcome.count);
+    let thread = std::thread::Builder::new().stack_size(stack);
+    let answer = std::thread::scope(|scope| {
+        let mut again = host.clone();
+        thread.spawn_scoped(scope, move || call(&mut again)).expect("a thread").join().expect("the thread ends")
+    });
+    same_answer(expected, answer, || format!("by {name} in a thread of {stack} bytes"))?;
+    let used = used(name, expected, stack, MOST_TO_WALK, || call(host))?;
+    same("what is left of a session", session::bytes(&told.session), session::bytes(&host.session))?;
+    Ok(used)
 }
 
 /// The bytes that a call uses, whose answer must be this one.
