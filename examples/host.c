@@ -1,7 +1,8 @@
 /* A host of the library. It reads a ticket, fits it by both engines, holds their answers against each other, has the
- * fitting judged, and prints the lines that document 01 lays down.
+ * fitting judged, and prints the lines that document 01 lays down. A ticket that is spent it brings back, where it is
+ * told by how many entries at a time.
  *
- * Usage: host [FILE]. Without a file the ticket is read from standard input.
+ * Usage: host [FILE [FURTHER]]. Without a file the ticket is read from standard input. FURTHER is from 1 to 4294967295.
  * Exit status: 0 a verdict is printed, 1 the ticket is refused, 2 it could not be read or nothing could be printed,
  * 3 the engines or the judge disagree, which the proofs exclude. */
 #include <lutsamik.h>
@@ -21,6 +22,7 @@ struct ticket {
 
 /* What is lent to the library: each block has just the bytes that are asked for. Each engine has its own answer. */
 struct lent {
+    struct lutsamik_session *session;
     uint8_t *table;
     uint8_t *rules;
     uint8_t *work;
@@ -47,16 +49,18 @@ static int load(const char *path, struct ticket *ticket) {
 
 /* The answers begin as zeros, so that they can be compared whole. */
 static int lend(struct lent *lent) {
+    lent->session = malloc(sizeof *lent->session);
     lent->table = malloc(LUTSAMIK_TABLE_BYTES);
     lent->rules = malloc(LUTSAMIK_RULES_BYTES);
     lent->work = malloc(LUTSAMIK_WORK_BYTES);
     lent->by_relevancy = calloc(LUTSAMIK_ANSWER_BYTES, 1);
     lent->by_magic = calloc(LUTSAMIK_ANSWER_BYTES, 1);
-    int all = lent->table && lent->rules && lent->work && lent->by_relevancy && lent->by_magic;
+    int all = lent->session && lent->table && lent->rules && lent->work && lent->by_relevancy && lent->by_magic;
     return all ? DONE : fail(TROUBLE, "memory", "none is left");
 }
 
 static void take_back(struct lent *lent) {
+    free(lent->session);
     free(lent->table);
     free(lent->rules);
     free(lent->work);
@@ -117,15 +121,46 @@ static void print_fitting(const uint8_t *text, const uint8_t *answer) {
     }
 }
 
-/* Fits the ticket in the table by both engines; the result is the relevancy engine's. */
+static int agree(const struct lent *lent, uint64_t by_relevancy, uint64_t by_magic) {
+    if (by_relevancy != by_magic || memcmp(lent->by_relevancy, lent->by_magic, LUTSAMIK_ANSWER_BYTES) != 0)
+        return fail(DISAGREEMENT, "the engines", "they answer differently");
+    return lutsamik_refusal(by_relevancy) == LUTSAMIK_OK ? DONE : refused("fitting", by_relevancy);
+}
+
+/* Fits the ticket in the table by both engines; the result and the session are the relevancy engine's. */
 static int fit(const struct lent *lent, uint64_t *result) {
-    *result = lutsamik_fit_relevancy(lent->table, LUTSAMIK_TABLE_BYTES, lent->by_relevancy, LUTSAMIK_ANSWER_BYTES,
-                                     lent->work, LUTSAMIK_WORK_BYTES);
+    *result = lutsamik_begin_relevancy(lent->session, lent->table, LUTSAMIK_TABLE_BYTES, lent->by_relevancy,
+                                       LUTSAMIK_ANSWER_BYTES, lent->work, LUTSAMIK_WORK_BYTES);
     uint64_t by_magic = lutsamik_fit_magic(lent->table, LUTSAMIK_TABLE_BYTES, lent->rules, LUTSAMIK_RULES_BYTES,
                                            lent->by_magic, LUTSAMIK_ANSWER_BYTES, lent->work, LUTSAMIK_WORK_BYTES);
-    if (*result != by_magic || memcmp(lent->by_relevancy, lent->by_magic, LUTSAMIK_ANSWER_BYTES) != 0)
-        return fail(DISAGREEMENT, "the engines", "they answer differently");
-    return lutsamik_refusal(*result) == LUTSAMIK_OK ? DONE : refused("fitting", *result);
+    return agree(lent, *result, by_magic);
+}
+
+/* Goes on with the session by both engines, each with a copy of its own: they leave the same one. */
+static int go_on(const struct lent *lent, uint32_t further, uint64_t *result) {
+    struct lutsamik_session copy = *lent->session;
+    *result = lutsamik_resume_relevancy(lent->session, further, lent->table, LUTSAMIK_TABLE_BYTES, lent->by_relevancy,
+                                        LUTSAMIK_ANSWER_BYTES, lent->work, LUTSAMIK_WORK_BYTES);
+    uint64_t by_magic =
+        lutsamik_resume_magic(&copy, further, lent->table, LUTSAMIK_TABLE_BYTES, lent->rules, LUTSAMIK_RULES_BYTES,
+                              lent->by_magic, LUTSAMIK_ANSWER_BYTES, lent->work, LUTSAMIK_WORK_BYTES);
+    if (memcmp(lent->session, &copy, sizeof copy) != 0)
+        return fail(DISAGREEMENT, "the engines", "they leave different sessions");
+    return agree(lent, *result, by_magic);
+}
+
+/* Brings a spent ticket back, so many entries at a time, until it is finished or no more can be counted. Before each slice
+ * a host could show how far it is, ask whether to go on, or keep the session in a file for another day. */
+static int bring_back(const struct lent *lent, uint32_t slice, uint64_t *result) {
+    int status = DONE;
+    while (status == DONE && lutsamik_verdict(*result) == LUTSAMIK_SPENT) {
+        uint32_t left = UINT32_MAX - lutsamik_count(*result);
+        if (left == 0)
+            break;
+        fprintf(stderr, "host: spent after %lu entries, and goes on\n", (unsigned long)lutsamik_count(*result));
+        status = go_on(lent, slice < left ? slice : left, result);
+    }
+    return status;
 }
 
 static int judge(const struct lent *lent) {
@@ -137,12 +172,15 @@ static int judge(const struct lent *lent) {
     return DONE;
 }
 
-static int run(const struct ticket *ticket, const struct lent *lent) {
+/* The slice is 0 where a spent ticket is not brought back. */
+static int run(const struct ticket *ticket, const struct lent *lent, uint32_t slice) {
     uint64_t result = lutsamik_read(ticket->text, ticket->len, lent->table, LUTSAMIK_TABLE_BYTES);
     if (lutsamik_refusal(result) != LUTSAMIK_OK)
         return refused("reading", result);
 
     int status = fit(lent, &result);
+    if (status == DONE && slice > 0)
+        status = bring_back(lent, slice, &result);
     int fits = status == DONE && lutsamik_verdict(result) == LUTSAMIK_FITS;
     if (fits)
         status = judge(lent);
@@ -155,18 +193,28 @@ static int run(const struct ticket *ticket, const struct lent *lent) {
     return DONE;
 }
 
+/* A number from 1 to 4294967295, or 0 where it is none. */
+static uint32_t number(const char *word) {
+    char *end;
+    errno = 0;
+    unsigned long long value = strtoull(word, &end, 10);
+    int is_number = word[0] >= '0' && word[0] <= '9' && *end == '\0' && errno == 0 && value <= UINT32_MAX;
+    return is_number ? (uint32_t)value : 0;
+}
+
 int main(int argc, char **argv) {
-    if (argc > 2)
-        return fail(TROUBLE, "usage", "host [FILE]");
+    uint32_t slice = argc == 3 ? number(argv[2]) : 0;
+    if (argc > 3 || (argc == 3 && slice == 0))
+        return fail(TROUBLE, "usage", "host [FILE [FURTHER]]");
     struct ticket ticket;
-    int status = load(argc == 2 ? argv[1] : NULL, &ticket);
+    int status = load(argc >= 2 ? argv[1] : NULL, &ticket);
     if (status != DONE)
         return status;
 
     struct lent lent;
     status = lend(&lent);
     if (status == DONE)
-        status = run(&ticket, &lent);
+        status = run(&ticket, &lent, slice);
     take_back(&lent);
     if (fflush(stdout) != 0 || ferror(stdout))
         return fail(TROUBLE, "standard output", strerror(errno));

@@ -123,11 +123,27 @@ static void fits(enum operation engine, struct lent *lent, const struct known *k
 }
 
 /* The magic engine leaves the rules as rewriting has left them, over the same filling. */
-static void fits_by_rules(struct lent *lent, const struct known *known) {
+static void fits_by_rules(enum operation engine, struct lent *lent, const struct known *known) {
     struct buffer *rules = &lent->of[RULES];
     memset(rules->bytes, FILL, rules->len);
-    fits(MAGIC, lent, known);
-    check(as_kept(rules), "the rules are those of rewriting", MAGIC, lent, 0);
+    fits(engine, lent, known);
+    check(as_kept(rules), "the rules are those of rewriting", engine, lent, 0);
+}
+
+/* First runs, each into a session that nobody has written, and going on with no further entry, which changes nothing. */
+static void begins_and_resumes(struct lent *lent, const struct known *known) {
+    struct buffer *session = &lent->of[SESSION];
+    forget(session);
+    fits(BEGIN_RELEVANCY, lent, known);
+    keep(session);
+    forget(session);
+    fits_by_rules(BEGIN_MAGIC, lent, known);
+    check(as_kept(session), "each byte of the session is written, and alike", BEGIN_MAGIC, lent, 0);
+    lent->further = 0;
+    fits(RESUME_RELEVANCY, lent, known);
+    check(as_kept(session), "the session stays", RESUME_RELEVANCY, lent, 0);
+    fits_by_rules(RESUME_MAGIC, lent, known);
+    check(as_kept(session), "the session stays", RESUME_MAGIC, lent, 0);
 }
 
 static void judges(enum operation operation, struct lent *lent, const struct known *known) {
@@ -205,7 +221,8 @@ static void goes_round(struct lent *lent, const struct known *known) {
     writes(lent, known);
     rewrites(lent, known);
     fits(RELEVANCY, lent, known);
-    fits_by_rules(lent, known);
+    fits_by_rules(MAGIC, lent, known);
+    begins_and_resumes(lent, known);
     if (known->verdict == LUTSAMIK_FITS) {
         judges(JUDGE, lent, known);
         holds(lent, known);
@@ -230,6 +247,8 @@ static void tries(const struct known *known) {
     goes_unwritten(REWRITE, &lent, known);
     goes_unwritten(MAGIC, &lent, known);
     goes_unwritten(RELEVANCY, &lent, known);
+    for (enum operation operation = BEGIN_RELEVANCY; operation <= RESUME_MAGIC; operation++)
+        goes_unwritten(operation, &lent, known);
     if (known->verdict == LUTSAMIK_FITS) {
         goes_unwritten(JUDGE, &lent, known);
         goes_unwritten(HOLDING, &lent, known);

@@ -7,6 +7,7 @@
 const size_t required[KINDS] = {0,
                                 0,
                                 LUTSAMIK_TABLE_BYTES,
+                                sizeof(struct lutsamik_session),
                                 LUTSAMIK_TEXT_BYTES,
                                 LUTSAMIK_SLIP_BYTES,
                                 LUTSAMIK_RULES_BYTES,
@@ -24,7 +25,17 @@ static const struct {
                             {"holding", 1 << TABLE | 1 << ANSWER},
                             {"rewriting", 1 << TABLE | 1 << RULES},
                             {"the relevancy engine", 1 << TABLE | 1 << ANSWER | 1 << WORK},
-                            {"the magic engine", 1 << TABLE | 1 << RULES | 1 << ANSWER | 1 << WORK}};
+                            {"the magic engine", 1 << TABLE | 1 << RULES | 1 << ANSWER | 1 << WORK},
+                            {"a first run of the relevancy engine", 1 << TABLE | 1 << SESSION | 1 << ANSWER | 1 << WORK},
+                            {"a first run of the magic engine",
+                             1 << TABLE | 1 << SESSION | 1 << RULES | 1 << ANSWER | 1 << WORK},
+                            {"the relevancy engine with a session", 1 << TABLE | 1 << SESSION | 1 << ANSWER | 1 << WORK},
+                            {"the magic engine with a session",
+                             1 << TABLE | 1 << SESSION | 1 << RULES | 1 << ANSWER | 1 << WORK}};
+
+struct lutsamik_session *session_of(const struct lent *lent) {
+    return (struct lutsamik_session *)(void *)lent->of[SESSION].bytes;
+}
 
 int uses(enum operation operation, enum kind kind) { return operations[operation].kinds >> kind & 1; }
 
@@ -135,9 +146,21 @@ uint64_t call(enum operation operation, const struct lent *lent) {
         return lutsamik_rewrite(table->bytes, table->len, rules->bytes, rules->len);
     case RELEVANCY:
         return lutsamik_fit_relevancy(table->bytes, table->len, answer->bytes, answer->len, work->bytes, work->len);
-    default:
+    case MAGIC:
         return lutsamik_fit_magic(table->bytes, table->len, rules->bytes, rules->len, answer->bytes, answer->len,
                                   work->bytes, work->len);
+    case BEGIN_RELEVANCY:
+        return lutsamik_begin_relevancy(session_of(lent), table->bytes, table->len, answer->bytes, answer->len,
+                                        work->bytes, work->len);
+    case BEGIN_MAGIC:
+        return lutsamik_begin_magic(session_of(lent), table->bytes, table->len, rules->bytes, rules->len, answer->bytes,
+                                    answer->len, work->bytes, work->len);
+    case RESUME_RELEVANCY:
+        return lutsamik_resume_relevancy(session_of(lent), lent->further, table->bytes, table->len, answer->bytes,
+                                         answer->len, work->bytes, work->len);
+    default:
+        return lutsamik_resume_magic(session_of(lent), lent->further, table->bytes, table->len, rules->bytes, rules->len,
+                                     answer->bytes, answer->len, work->bytes, work->len);
     }
 }
 

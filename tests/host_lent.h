@@ -5,9 +5,24 @@
 
 #include <lutsamik.h>
 
-enum kind { TEXT, FRAME, TABLE, OUT, SLIP, RULES, ANSWER, WORK, KINDS };
+enum kind { TEXT, FRAME, TABLE, SESSION, OUT, SLIP, RULES, ANSWER, WORK, KINDS };
 
-enum operation { READ, WRITE, OFFER, SET, JUDGE, HOLDING, REWRITE, RELEVANCY, MAGIC, OPERATIONS };
+enum operation {
+    READ,
+    WRITE,
+    OFFER,
+    SET,
+    JUDGE,
+    HOLDING,
+    REWRITE,
+    RELEVANCY,
+    MAGIC,
+    BEGIN_RELEVANCY,
+    BEGIN_MAGIC,
+    RESUME_RELEVANCY,
+    RESUME_MAGIC,
+    OPERATIONS
+};
 
 /* What each byte holds that no test has set. */
 enum { FILL = 0xEE };
@@ -18,21 +33,26 @@ struct buffer {
     uint8_t *kept; /* what the bytes were when they were last kept */
 };
 
-/* The instance is for HOLDING: its clause, and the values of 80, 81, 82 and 83. */
+/* The instance is for HOLDING: its clause, and the values of 80, 81, 82 and 83. The further limit is for RESUME_RELEVANCY
+ * and RESUME_MAGIC. */
 struct lent {
     const char *ticket;
     struct buffer of[KINDS];
-    uint32_t clause, values[4];
+    uint32_t clause, values[4], further;
 };
 
-/* How long each kind must be; a text and a frame may have any length. */
+/* How long each kind must be; a text and a frame may have any length. A session has no length that is told, and its block
+ * has always the bytes of one. */
 extern const size_t required[KINDS];
+
+/* The session in its block. */
+struct lutsamik_session *session_of(const struct lent *lent);
 
 /* Whether an operation is lent a buffer of this kind. */
 int uses(enum operation operation, enum kind kind);
 
 /* The text of crates/cases/data/TICKET.text, a frame that any ticket of fewer than 64 clauses takes, buffers of exactly
- * the required lengths, and an instance of numbers 0. */
+ * the required lengths, an instance of numbers 0 and a further limit of 0. */
 void lend(struct lent *lent, const char *ticket);
 void take_back(struct lent *lent);
 

@@ -1,5 +1,6 @@
 /* Refusals from C: buffers that are too short, tables that no text reads to, answers that are none, instances that are
- * lacking, rules that cannot be added, slips that are mangled, texts cut short. Each is refused by its number, and each lent buffer stays as it was. */
+ * lacking, rules that cannot be added, slips that are mangled, sessions that stand nowhere, texts cut short. Each is
+ * refused by its number, and each lent buffer stays as it was. */
 #include "host_lent.h"
 
 #include <stdio.h>
@@ -32,7 +33,7 @@ static void short_buffer(enum kind kind, size_t len, int table) {
 
 static void short_buffers(void) {
     for (int kind = 0; kind < KINDS; kind++) {
-        if (required[kind] == 0)
+        if (required[kind] == 0 || kind == SESSION)
             continue;
         short_buffer((enum kind)kind, required[kind] - 1, 1);
         short_buffer((enum kind)kind, required[kind] - 1, 0);
@@ -41,9 +42,10 @@ static void short_buffers(void) {
 }
 
 /* All that take a table refuse this one by 31. The answer's bytes are none, the instance is lacking, the frame has no
- * bytes and the slip is stale and has no room for its length, but that comes later. */
+ * bytes, the slip is stale and has no room for its length, the session stands nowhere, and its count and the further
+ * limit pass what they may, but that comes later. */
 static void no_table(struct lent *lent) {
-    lent->clause = UINT32_MAX;
+    lent->clause = lent->further = UINT32_MAX;
     resize(&lent->of[FRAME], 0);
     keep_all(lent);
     for (int operation = WRITE; operation < OPERATIONS; operation++)
@@ -243,6 +245,57 @@ static void full_ticket(void) {
     take_back(&lent);
 }
 
+/* A session is refused by both engines, and all that is lent stays. */
+static void refused_session(unsigned refusal, uint32_t further, const struct lutsamik_session *session, struct lent *lent) {
+    *session_of(lent) = *session;
+    lent->further = further;
+    keep_all(lent);
+    refused(refusal, RESUME_RELEVANCY, lent);
+    refused(refusal, RESUME_MAGIC, lent);
+}
+
+/* Sessions for K6, by hand. Its root is split, into 10 and 20, which are the atoms 2 and 4, and where 20 is entered it is
+ * open: so a session that fits has entered 4, the second of two. One field of it is changed, to each of these. */
+static void refused_sessions(void) {
+    static const uint8_t verdicts[] = {LUTSAMIK_NONE, 3, 4, 0x81, 0x82, 0xFF};
+    static const uint8_t nexts[] = {0, 1, 3, 4, 0x82, 0xFF};
+    static const uint16_t lengths[] = {0, 2, 3, 1024, 1025, 0x101, 0xFFFF};
+    static const uint16_t atoms[] = {0, 2, 3, 5, 6, 0x104, 0x404, 0xFFFF};
+    const struct lutsamik_session fits = {.count = 2, .length = 1, .verdict = LUTSAMIK_FITS, .atoms = {4}, .nexts = {2}};
+    struct lutsamik_session other = fits;
+    struct lent lent;
+    lend(&lent, "K6");
+    read_ticket(&lent);
+    refused_session(LUTSAMIK_TOO_MANY_ENTRIES, UINT32_MAX - 1, &fits, &lent);
+    for (size_t i = 0; i < sizeof verdicts; i++) {
+        other.verdict = verdicts[i];
+        refused_session(LUTSAMIK_NO_SESSION, UINT32_MAX - 2, &other, &lent);
+        refused_session(LUTSAMIK_TOO_MANY_ENTRIES, UINT32_MAX - 1, &other, &lent);
+    }
+    other = fits;
+    for (size_t i = 0; i < sizeof lengths / sizeof *lengths; i++) {
+        other.length = lengths[i];
+        refused_session(LUTSAMIK_NO_SESSION, 0, &other, &lent);
+    }
+    other = fits;
+    for (size_t i = 0; i < sizeof atoms / sizeof *atoms; i++) {
+        other.atoms[0] = atoms[i];
+        refused_session(LUTSAMIK_NO_SESSION, 0, &other, &lent);
+    }
+    other = fits;
+    for (size_t i = 0; i < sizeof nexts; i++) {
+        other.nexts[0] = nexts[i];
+        refused_session(LUTSAMIK_NO_SESSION, 0, &other, &lent);
+    }
+    other = fits;
+    for (other.next = 1; other.next > 0; other.next++)
+        refused_session(LUTSAMIK_NO_SESSION, 0, &other, &lent);
+    *session_of(&lent) = fits;
+    lent.further = UINT32_MAX - 2;
+    check_result(LUTSAMIK_FITS << 8 | (uint64_t)2 << 32, RESUME_MAGIC, &lent, call(RESUME_MAGIC, &lent));
+    take_back(&lent);
+}
+
 /* A text that ends with a line is refused by 2 at the next, for want of FF, and one that ends within a line by 1. */
 static uint64_t cut_short(const struct buffer *text) {
     uint64_t line = 1;
@@ -285,6 +338,7 @@ int main(void) {
     refused_rules();
     mangled_slips();
     full_ticket();
+    refused_sessions();
     cut_texts();
     refused_ticket("K10_refused", LUTSAMIK_TOO_MANY_ATOMS, 3);
     refused_ticket("K11_refused", LUTSAMIK_TOO_MANY_MARKS, 7);

@@ -43,14 +43,16 @@ static void require(bool holds, const char *what) {
 
 /* ---- Buffers ---- */
 
-enum buffer { TEXT, FRAME, TABLE, OUT, SLIP, RULES, ANSWER, WORK, BUFFERS };
+enum buffer { TEXT, FRAME, TABLE, OUT, SLIP, RULES, ANSWER, WORK, SESSION, BUFFERS };
 
+/* A session has no length that is told, and always its own bytes. */
 static const size_t required[BUFFERS] = {
     [TABLE] = LUTSAMIK_TABLE_BYTES, [OUT] = LUTSAMIK_TEXT_BYTES,      [SLIP] = LUTSAMIK_SLIP_BYTES,
     [RULES] = LUTSAMIK_RULES_BYTES, [ANSWER] = LUTSAMIK_ANSWER_BYTES, [WORK] = LUTSAMIK_WORK_BYTES,
+    [SESSION] = sizeof(struct lutsamik_session),
 };
 
-/* What the host puts into a buffer, and goes on with after a call: a text, a frame, a table, a slip, an answer. */
+/* What the host puts into a buffer, and goes on with after a call: a text, a frame, a table, a slip, an answer, a session. */
 static struct {
     uint8_t bytes[LONGEST_TEXT];
     size_t len;
@@ -140,6 +142,8 @@ static bool untouched_past(enum buffer which, size_t first) {
 static size_t any_length(enum buffer which, bool near) {
     size_t enough = required[which] == 0 ? held[which].len : required[which];
     size_t lengths[] = {0, 1, enough == 0 ? 0 : enough - 1, enough, enough + 1, enough + MORE};
+    if (which == SESSION)
+        return enough;
     if (near)
         return lengths[below(6)];
     return lengths[required[which] == 0 ? 3 : 3 + below(3)];
@@ -149,10 +153,25 @@ static void keep(enum buffer which) { memcpy(held[which].bytes, lent[which].byte
 
 /* ---- Operations ---- */
 
-enum operation { READ, WRITE, OFFER, SET, REWRITE, FIT_RELEVANCY, FIT_MAGIC, JUDGE, HOLDING, OPERATIONS };
+enum operation {
+    READ,
+    WRITE,
+    OFFER,
+    SET,
+    REWRITE,
+    FIT_RELEVANCY,
+    FIT_MAGIC,
+    JUDGE,
+    HOLDING,
+    BEGIN_RELEVANCY,
+    BEGIN_MAGIC,
+    RESUME_RELEVANCY,
+    RESUME_MAGIC,
+    OPERATIONS
+};
 
-static const char *const names[OPERATIONS] = {"read",          "write",     "offer", "set",    "rewrite",
-                                             "fit_relevancy", "fit_magic", "judge", "holding"};
+static const char *const names[OPERATIONS] = {"read",      "write",   "offer",           "set",         "rewrite",          "fit_relevancy", "fit_magic",
+                                             "judge",     "holding", "begin_relevancy", "begin_magic", "resume_relevancy", "resume_magic"};
 
 /* Which buffers each is lent: to be read, or to be written to. */
 enum use { NOT_LENT, CONST, WRITTEN };
@@ -166,10 +185,14 @@ static const enum use uses[OPERATIONS][BUFFERS] = {
     [FIT_MAGIC] = {[TABLE] = CONST, [RULES] = WRITTEN, [ANSWER] = WRITTEN, [WORK] = WRITTEN},
     [JUDGE] = {[TABLE] = CONST, [ANSWER] = CONST},
     [HOLDING] = {[TABLE] = CONST, [ANSWER] = CONST},
+    [BEGIN_RELEVANCY] = {[TABLE] = CONST, [SESSION] = WRITTEN, [ANSWER] = WRITTEN, [WORK] = WRITTEN},
+    [BEGIN_MAGIC] = {[TABLE] = CONST, [SESSION] = WRITTEN, [RULES] = WRITTEN, [ANSWER] = WRITTEN, [WORK] = WRITTEN},
+    [RESUME_RELEVANCY] = {[TABLE] = CONST, [SESSION] = WRITTEN, [ANSWER] = WRITTEN, [WORK] = WRITTEN},
+    [RESUME_MAGIC] = {[TABLE] = CONST, [SESSION] = WRITTEN, [RULES] = WRITTEN, [ANSWER] = WRITTEN, [WORK] = WRITTEN},
 };
 
-/* The instance that holding is asked for: its clause, and the values of 80, 81, 82 and 83. */
-static uint32_t clause, values[4];
+/* The instance that holding is asked for: its clause, and the values of 80, 81, 82 and 83. The further limit of a session. */
+static uint32_t clause, values[4], further;
 
 /* How often each gave which refusal, or none; and an engine which verdict. */
 static unsigned long met[OPERATIONS][LUTSAMIK_NO_INSTANCE + 1], verdicts[LUTSAMIK_SPENT + 1];
@@ -179,6 +202,8 @@ static uint64_t fitted;
 static bool is_fitted;
 
 #define LENT(which) lent[which].bytes, lent[which].len
+
+static struct lutsamik_session *lent_session(void) { return (struct lutsamik_session *)(void *)lent[SESSION].bytes; }
 
 static uint64_t invoke(enum operation operation) {
     switch (operation) {
@@ -198,6 +223,14 @@ static uint64_t invoke(enum operation operation) {
         return lutsamik_fit_magic(LENT(TABLE), LENT(RULES), LENT(ANSWER), LENT(WORK));
     case JUDGE:
         return lutsamik_judge(LENT(TABLE), LENT(ANSWER));
+    case BEGIN_RELEVANCY:
+        return lutsamik_begin_relevancy(lent_session(), LENT(TABLE), LENT(ANSWER), LENT(WORK));
+    case BEGIN_MAGIC:
+        return lutsamik_begin_magic(lent_session(), LENT(TABLE), LENT(RULES), LENT(ANSWER), LENT(WORK));
+    case RESUME_RELEVANCY:
+        return lutsamik_resume_relevancy(lent_session(), further, LENT(TABLE), LENT(ANSWER), LENT(WORK));
+    case RESUME_MAGIC:
+        return lutsamik_resume_magic(lent_session(), further, LENT(TABLE), LENT(RULES), LENT(ANSWER), LENT(WORK));
     default:
         return lutsamik_holding(LENT(TABLE), LENT(ANSWER), clause, values[0], values[1], values[2], values[3]);
     }
@@ -236,13 +269,10 @@ static void has_written(uint64_t answer) {
     require(memcmp(table, lent[TABLE].bytes, sizeof table) == 0, "what was written reads to the table");
 }
 
-/* Both engines answer alike, and fits comes with a fitting. */
-static void has_fitted(uint64_t answer) {
-    require(!is_fitted || answer == fitted, "both engines answer alike");
+/* Work is zero, and fits comes with a fitting. */
+static void has_ended(uint64_t answer) {
     require(lutsamik_verdict(answer) <= LUTSAMIK_SPENT, "there is such a verdict");
     verdicts[lutsamik_verdict(answer)]++;
-    fitted = answer;
-    is_fitted = true;
     for (size_t i = 0; i < LUTSAMIK_WORK_BYTES; i++)
         require(lent[WORK].bytes[i] == 0, "work is zero");
     if (lutsamik_verdict(answer) != LUTSAMIK_FITS) {
@@ -251,6 +281,37 @@ static void has_fitted(uint64_t answer) {
     }
     require(lutsamik_judged(lutsamik_judge(LENT(TABLE), LENT(ANSWER))) == LUTSAMIK_FITTING, "fits comes with a fitting");
     keep(ANSWER);
+}
+
+/* Both engines answer alike, with a session or without. */
+static void has_fitted(uint64_t answer) {
+    require(!is_fitted || answer == fitted, "both engines answer alike");
+    fitted = answer;
+    is_fitted = true;
+    has_ended(answer);
+}
+
+/* The session says what the answer does, is 0 past its path, and is one with which the next calls go on. */
+static void has_moved(uint64_t answer) {
+    const struct lutsamik_session *session = lent_session();
+    require(session->verdict == lutsamik_verdict(answer) && session->count == lutsamik_count(answer), "a session says what the answer does");
+    require(session->length <= 1024 && session->next <= 4, "a session stands at a node");
+    for (size_t i = session->length; i < 1024; i++)
+        require(session->atoms[i] == 0 && session->nexts[i] == 0, "a session is 0 past its path");
+    keep(SESSION);
+}
+
+/* What the other engine answers and leaves for the same session is the same. */
+static void has_resumed(enum operation operation, uint64_t answer) {
+    static uint8_t rules[LUTSAMIK_RULES_BYTES], marks[LUTSAMIK_ANSWER_BYTES], work[LUTSAMIK_WORK_BYTES];
+    struct lutsamik_session other;
+    memcpy(&other, lent[SESSION].copy + (lent[SESSION].bytes - lent[SESSION].memory), sizeof other);
+    uint64_t said = operation == RESUME_MAGIC
+                        ? lutsamik_resume_relevancy(&other, further, LENT(TABLE), marks, sizeof marks, work, sizeof work)
+                        : lutsamik_resume_magic(&other, further, LENT(TABLE), rules, sizeof rules, marks, sizeof marks, work, sizeof work);
+    require(said == answer && memcmp(&other, lent[SESSION].bytes, sizeof other) == 0, "both engines go on alike");
+    has_ended(answer);
+    has_moved(answer);
 }
 
 static void has_judged(uint64_t answer) {
@@ -281,8 +342,12 @@ static void has_done(enum operation operation, uint64_t answer) {
         has_judged(answer);
     else if (operation == HOLDING)
         require(lutsamik_held(answer) <= 4 && clause < 64, "no more conditions hold than there can be");
+    else if (operation == RESUME_RELEVANCY || operation == RESUME_MAGIC)
+        has_resumed(operation, answer);
     else
         has_fitted(answer);
+    if (operation == BEGIN_RELEVANCY || operation == BEGIN_MAGIC)
+        has_moved(answer);
 }
 
 /* 11 exactly where a buffer is too short, and nothing is touched but what may be written; nothing after a refusal. */
@@ -298,7 +363,9 @@ static void check(enum operation operation, uint64_t answer) {
     }
     require((refusal == LUTSAMIK_SHORT_BUFFER) == is_short, "a short buffer is refused by 11, and nothing else is");
     require(refusal <= LUTSAMIK_BAD_ANSWER || (refusal == LUTSAMIK_NO_INSTANCE && operation == HOLDING) ||
-                (refusal == LUTSAMIK_STALE_SLIP && operation == SET),
+                (refusal == LUTSAMIK_STALE_SLIP && operation == SET) ||
+                ((refusal == LUTSAMIK_TOO_MANY_ENTRIES || refusal == LUTSAMIK_NO_SESSION) &&
+                 (operation == RESUME_RELEVANCY || operation == RESUME_MAGIC)),
             "there is such a refusal");
     bool is_fault = refusal != LUTSAMIK_OK && refusal <= LUTSAMIK_TOO_MANY_MARKS;
     require(!is_fault || operation == READ || operation == OFFER || operation == SET, "only what is read or offered has a fault");
@@ -367,8 +434,24 @@ static void any_slip(void) {
     memcpy(slip + 2, held[FRAME].bytes, len);
 }
 
+/* A session that no call has left: with a byte changed near its beginning or anywhere, or of any bytes. */
+static void any_session(void) {
+    if (once_in(8))
+        any_bytes(held[SESSION].bytes, held[SESSION].len);
+    else
+        held[SESSION].bytes[below(once_in(2) ? 16 : held[SESSION].len)] ^= (uint8_t)(1 + below(255));
+}
+
+/* A few entries, or more than the session's count allows: walks stay short. */
+static void any_further(void) {
+    uint32_t count;
+    memcpy(&count, held[SESSION].bytes, sizeof count);
+    further = once_in(8) && count > 0 ? UINT32_MAX - (uint32_t)below(count) : (uint32_t)below(once_in(2) ? 3 : 30);
+}
+
 static void begin_day(void) {
     begin_random(seed);
+    any_bytes(held[SESSION].bytes, held[SESSION].len = sizeof(struct lutsamik_session));
     any_bytes(held[SLIP].bytes, held[SLIP].len = LUTSAMIK_SLIP_BYTES);
     held[FRAME].len = 0;
     any_bytes(held[TABLE].bytes, held[TABLE].len = LUTSAMIK_TABLE_BYTES);
@@ -402,6 +485,9 @@ static void day(void) {
             any_slip();
         if (once_in(6))
             held[ANSWER].bytes[below(24)] = (uint8_t)below(3);
+        if (operation >= RESUME_RELEVANCY && once_in(3))
+            any_session();
+        any_further();
         any_instance();
         call(operation);
     }
@@ -410,7 +496,7 @@ static void day(void) {
 /* How often each refusal came, or none; and that each operation was done, and met its refusals. */
 static void print_met(void) {
     for (enum operation operation = 0; operation < OPERATIONS; operation++) {
-        printf("%-14s", names[operation]);
+        printf("%-16s", names[operation]);
         for (unsigned refusal = 0; refusal <= LUTSAMIK_NO_INSTANCE; refusal++)
             if (met[operation][refusal] > 0)
                 printf(" %u: %lu", refusal, met[operation][refusal]);
@@ -418,11 +504,13 @@ static void print_met(void) {
         require(met[operation][LUTSAMIK_OK] > 0 && met[operation][LUTSAMIK_SHORT_BUFFER] > 0, "each operation is done, and refused by 11");
         require(met[operation][operation == READ ? LUTSAMIK_BAD_LINE : LUTSAMIK_NO_TABLE] > 0, "each operation refuses what it is lent");
     }
-    printf("%-14s none: %lu, fits: %lu, spent: %lu\n", "verdicts", verdicts[LUTSAMIK_NONE], verdicts[LUTSAMIK_FITS], verdicts[LUTSAMIK_SPENT]);
+    printf("%-16s none: %lu, fits: %lu, spent: %lu\n", "verdicts", verdicts[LUTSAMIK_NONE], verdicts[LUTSAMIK_FITS], verdicts[LUTSAMIK_SPENT]);
     require(verdicts[LUTSAMIK_NONE] > 0 && verdicts[LUTSAMIK_FITS] > 0 && verdicts[LUTSAMIK_SPENT] > 0, "each verdict comes");
     require(met[JUDGE][LUTSAMIK_BAD_ANSWER] > 0 && met[HOLDING][LUTSAMIK_BAD_ANSWER] > 0, "judging and holding refuse an answer");
     require(met[HOLDING][LUTSAMIK_NO_INSTANCE] > 0, "holding refuses an instance");
     require(met[SET][LUTSAMIK_STALE_SLIP] > 0, "setting refuses a stale slip");
+    for (enum operation operation = RESUME_RELEVANCY; operation <= RESUME_MAGIC; operation++)
+        require(met[operation][LUTSAMIK_TOO_MANY_ENTRIES] > 0 && met[operation][LUTSAMIK_NO_SESSION] > 0, "sessions are refused");
     require(met[OFFER][LUTSAMIK_BAD_KIND] > 0 && met[OFFER][LUTSAMIK_BAD_LENGTH] > 0 && met[SET][LUTSAMIK_BAD_LENGTH] > 0, "rules are refused");
 }
 

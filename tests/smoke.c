@@ -1,7 +1,8 @@
-/* The header, as C and as C++: results are taken apart, refusals of reading have their names, and each operation is
- * called on K1 or K6 of document 01. */
+/* The header, as C and as C++: results are taken apart, a session has its layout, refusals of reading have their names, and
+ * each operation is called on K1 or K6 of document 01. */
 #include <lutsamik.h>
 
+#include <stddef.h>
 #include <stdio.h>
 #include <string.h>
 
@@ -43,6 +44,26 @@ static int takes_apart(void) {
     if (lutsamik_value(result, 0) != 0x05 || lutsamik_value(result, 1) != 0x06 || lutsamik_value(result, 2) != 0x07 ||
         lutsamik_value(result, 3) != 0x08)
         return fail("the high half is not taken apart", result);
+    return 0;
+}
+
+/* As it is kept: the fields one after the other, with no byte between them or behind, and of a number the low byte first. */
+static int is_laid_out(void) {
+    typedef struct lutsamik_session session;
+    if (offsetof(session, count) != 0 || offsetof(session, length) != 4 || offsetof(session, verdict) != 6 ||
+        offsetof(session, next) != 7 || offsetof(session, atoms) != 8 || offsetof(session, nexts) != 2056)
+        return fail("a field of a session is elsewhere", 0);
+    session kept;
+    if (sizeof kept != 3080 || sizeof kept.count != 4 || sizeof kept.length != 2 || sizeof kept.verdict != 1 ||
+        sizeof kept.next != 1 || sizeof kept.atoms != 2048 || sizeof kept.nexts != 1024)
+        return fail("a field of a session has another size", sizeof kept);
+    uint8_t bytes[sizeof kept];
+    for (size_t i = 0; i < sizeof bytes; i++)
+        bytes[i] = (uint8_t)(i + 1);
+    memcpy(&kept, bytes, sizeof kept);
+    if (kept.count != 0x04030201 || kept.length != 0x0605 || kept.verdict != 0x07 || kept.next != 0x08 ||
+        kept.atoms[0] != 0x0A09 || kept.atoms[1023] != 0x0807 || kept.nexts[0] != 0x09 || kept.nexts[1023] != 0x08)
+        return fail("a session's bytes are other numbers", kept.count);
     return 0;
 }
 
@@ -132,6 +153,34 @@ static int rewrites_and_fits_none(void) {
     return 0;
 }
 
+/* K6 with a limit of 1 is spent, and comes back with one further entry, by the other engine; then it is finished. */
+static int comes_back(void) {
+    static const char one[] = "0101020300000001\n0201\n0201\n0201\n" THREE "03020002800001\nFF04\n";
+    struct lutsamik_session session;
+    if (read_text(one, sizeof one - 1, LUTSAMIK_OK, 0))
+        return 1;
+    uint64_t result = lutsamik_begin_magic(&session, table, sizeof table, rules, sizeof rules, answer, sizeof answer, work,
+                                           sizeof work);
+    if (!is_fit(result, LUTSAMIK_SPENT, 1) || session.verdict != LUTSAMIK_SPENT || session.length != 0 || session.next != 1)
+        return fail("K6 is not spent after one entry, at the root", result);
+    result = lutsamik_resume_relevancy(&session, 1, table, sizeof table, answer, sizeof answer, work, sizeof work);
+    if (!is_fit(result, LUTSAMIK_FITS, 2) || session.length != 1 || session.atoms[0] != 4 || session.nexts[0] != 2)
+        return fail("K6 does not fit after a further entry, 20", result);
+    result = lutsamik_resume_magic(&session, UINT32_MAX - 1, table, sizeof table, rules, sizeof rules, answer, sizeof answer,
+                                   work, sizeof work);
+    if (lutsamik_refusal(result) != LUTSAMIK_TOO_MANY_ENTRIES)
+        return fail("two entries and FFFFFFFE are not too many", result);
+    session.verdict = LUTSAMIK_NONE;
+    result = lutsamik_resume_magic(&session, 0, table, sizeof table, rules, sizeof rules, answer, sizeof answer, work,
+                                   sizeof work);
+    if (lutsamik_refusal(result) != LUTSAMIK_NO_SESSION)
+        return fail("K6 is taken to have no fitting because a session says so", result);
+    result = lutsamik_begin_relevancy(&session, table, sizeof table, answer, sizeof answer, work, sizeof work);
+    if (!is_fit(result, LUTSAMIK_SPENT, 1))
+        return fail("K6 is not begun again", result);
+    return 0;
+}
+
 /* K6 is fitted by 00, 11 and 20, after two entries. */
 static int fits_and_judges(void) {
     static const uint8_t fitting[] = {1, 0, 0, 1, 1, 0};
@@ -164,9 +213,9 @@ static int says_how_many_hold(void) {
 }
 
 int main(void) {
-    if (takes_apart() || refuses() || reads_and_writes() || judges() || rewrites_and_fits_none() || adds() ||
-        fits_and_judges() || says_how_many_hold())
+    if (takes_apart() || is_laid_out() || refuses() || reads_and_writes() || judges() || rewrites_and_fits_none() || adds() ||
+        comes_back() || fits_and_judges() || says_how_many_hold())
         return 1;
-    puts("smoke: results are taken apart, and each operation answers for K1 or K6");
+    puts("smoke: results are taken apart, a session is laid out, and each operation answers for K1 or K6");
     return 0;
 }
