@@ -9,15 +9,18 @@ use crate::puzzles;
 use crate::random::Random;
 use crate::reader;
 use crate::reference::{self, Ticket, ANSWER};
+use crate::slices::{self, IN_ONE_GO, IN_SLICES};
 use crate::tickets;
 use crate::timing::time;
 use std::hint::black_box;
 
 pub struct Table {
     pub title: &'static str,
-    pub inputs: Vec<&'static str>,
+    pub inputs: Vec<String>,
     /// The last one is the measure of the others.
     pub programs: Vec<&'static str>,
+    /// How many times the measure the others may have at most, where something is asked.
+    pub most: Option<f64>,
 }
 
 impl Table {
@@ -30,11 +33,14 @@ impl Table {
 
 const ENGINES: [Engine; 3] = [Engine::Relevancy, Engine::Magic, Engine::Optimised];
 
-pub fn tables() -> [Table; 2] {
-    let puzzles = puzzles::all().iter().map(|puzzle| puzzle.name).collect();
+pub fn tables() -> [Table; 3] {
+    let puzzles = puzzles::all().iter().map(|puzzle| puzzle.name.to_string()).collect();
+    let operations = ["reading", "writing", "judging"].map(str::to_string).to_vec();
+    let walks = slices::all().into_iter().map(|walk| walk.name).collect();
     [
-        Table { title: "fitting", inputs: puzzles, programs: ENGINES.map(Engine::name).to_vec() },
-        Table { title: "the largest ticket", inputs: vec!["reading", "writing", "judging"], programs: vec!["library", "Rust"] },
+        Table { title: "fitting", inputs: puzzles, programs: ENGINES.map(Engine::name).to_vec(), most: None },
+        Table { title: "the largest ticket", inputs: operations, programs: vec!["library", "Rust"], most: None },
+        Table { title: "brought back", inputs: walks, programs: vec![IN_SLICES, IN_ONE_GO], most: Some(slices::MOST) },
     ]
 }
 
@@ -45,6 +51,9 @@ pub fn is_there(program: &str, input: &str) -> bool {
 
 /// Makes one call, and sees to it that its answer is right.
 pub fn make(program: &str, input: &str) {
+    if let Some(walk) = slices::all().iter().find(|walk| walk.name == input) {
+        return walk.make(program);
+    }
     match puzzles::all().iter().find(|puzzle| puzzle.name == input) {
         Some(puzzle) => fit(program, &puzzle.ticket),
         None => take_largest(program, input),

@@ -1,7 +1,7 @@
-//! How many instructions fitting each puzzle takes, and reading, writing and judging the largest ticket. Each call is made
-//! once, by this program run anew under callgrind, and what is done before and after it is not counted.
-//! Usage: instructions [--save FILE] [--against FILE], where the second is one saved earlier: exit status 1 if a count is
-//! more than 1.05 times the one in it.
+//! How many instructions fitting each puzzle takes, reading, writing and judging the largest ticket, and a long walk in a
+//! hundred slices. Each call is made once, by this program run anew under callgrind, and what is done before and after it is
+//! not counted. Usage: instructions [--save FILE] [--against FILE], where the second is one saved earlier: exit status 1 if a
+//! count is more than 1.05 times the one in it; or if slices have more than 1.3 times the instructions of one go.
 mod callgrind;
 mod calls;
 mod counts;
@@ -14,13 +14,13 @@ mod library;
 mod logic;
 mod means;
 mod operations;
-#[allow(dead_code)] // timing uses the whole of it
 mod puzzles;
 #[path = "../tests/random.rs"]
 mod random;
 mod reader;
 #[path = "../tests/reference.rs"]
 mod reference;
+mod slices;
 #[path = "../tests/tickets.rs"]
 mod tickets;
 mod timing;
@@ -53,16 +53,17 @@ fn main() -> ExitCode {
         }
     }
     let mut counts = Counts::default();
-    calls::tables().iter().for_each(|table| count(table, earlier.as_ref(), &mut counts));
+    let within: Vec<bool> = calls::tables().iter().map(|table| count(table, earlier.as_ref(), &mut counts)).collect();
     if let Some(file) = save {
         counts.write(file);
     }
     let holds = earlier.is_none_or(|earlier| counts.hold_against(&earlier));
-    ExitCode::from(!holds as u8)
+    ExitCode::from(!(holds && within.into_iter().all(|within| within)) as u8)
 }
 
-/// Makes the calls of a table, and prints a row for each input once it is counted, then the geometric means.
-fn count(table: &Table, earlier: Option<&Counts>, counts: &mut Counts) {
+/// Makes the calls of a table, and prints a row for each input once it is counted, then the geometric means. Whether no ratio
+/// is more than is asked.
+fn count(table: &Table, earlier: Option<&Counts>, counts: &mut Counts) -> bool {
     heading(table, earlier.is_some());
     let mut rows = Vec::new();
     for input in &table.inputs {
@@ -80,7 +81,21 @@ fn count(table: &Table, earlier: Option<&Counts>, counts: &mut Counts) {
     let means: Vec<Option<f64>> = (0..rows[0].len()).map(|i| Some(mean(i))).collect();
     print!("{:1$}", "geometric means", NAME + (1 + COUNT) * table.programs.len());
     print_ratios(&means);
+    let within = table.most.is_none_or(|most| is_within(most, table, &rows));
     println!();
+    within
+}
+
+/// Prints which ratios over the measure are more than is asked, or that none is.
+fn is_within(most: f64, table: &Table, rows: &[Vec<Option<f64>>]) -> bool {
+    let (measure, others) = table.others();
+    let ratios = table.inputs.iter().zip(rows).flat_map(|(input, row)| row[..others.len()].iter().flatten().map(move |ratio| (input, *ratio)));
+    let above: Vec<(&String, f64)> = ratios.filter(|(_, ratio)| *ratio > most).collect();
+    above.iter().for_each(|(input, ratio)| println!("{ratio:.3} times {measure}, more than {most}: {input}"));
+    if above.is_empty() {
+        println!("each at most {most} times {measure}");
+    }
+    above.is_empty()
 }
 
 fn heading(table: &Table, has_earlier: bool) {

@@ -1,4 +1,5 @@
 //! Tickets that are known puzzles, for the bench, in families whose members differ in size.
+#![allow(dead_code)] // each program uses its own part
 
 mod chain;
 mod channel;
@@ -38,6 +39,15 @@ pub fn all() -> Vec<Puzzle> {
         puzzle("channel routing", "a channel of 6 nets", channel::routing(6, 4)),
         puzzle("channel routing", "a channel of 8 nets", channel::routing(8, 4)),
         puzzle("channel routing", "a channel of 10 nets", channel::routing(10, 4)),
+    ]
+}
+
+/// Walks of some 100,000 entries, whose paths stay below 100: short ones, and such as are nearly that long.
+pub fn in_slices() -> Vec<Puzzle> {
+    let puzzle = |family, name, ticket| Puzzle { family, name, ticket };
+    vec![
+        puzzle("pigeons", "8 pigeons in 7 holes", pigeons::ground(8)),
+        puzzle("pigeons", "6 pigeons below 81 entries", pigeons::below_a_path(6, 9, 100_000)),
     ]
 }
 

@@ -42,6 +42,18 @@ pub fn by_variables(pigeons: u8, constants: u8, limit: u32) -> Ticket {
     Ticket { constants, limit: limit.to_be_bytes(), arities: vec![2, 1, 1, 2], clauses }
 }
 
+/// Below a path of `side` times `side` entries, one for each pair of lines, of which no choice matters: denials that never come about
+/// want both. When the pigeons have found no place, the last choice is another, and they begin again.
+pub fn below_a_path(pigeons: u8, side: u8, limit: u32) -> Ticket {
+    let (line, choices, never) = (2, [3, 4], Atom::new(5, &[]));
+    let pair = |choice: u8| Atom::new(choice, &[X, Y]);
+    let mut clauses: Vec<Clause> = (0..side).map(|k| fact(Atom::new(line, &[k]))).collect();
+    clauses.push(Clause::new(&[Atom::new(line, &[X]), Atom::new(line, &[Y])], &choices.map(pair)));
+    clauses.extend(choices.map(|choice| denial(&[pair(choice), never.clone()])));
+    clauses.extend(rules(pigeons));
+    Ticket { constants: side.max(pigeons), limit: limit.to_be_bytes(), arities: vec![2, 1, 1, 2, 2, 0], clauses }
+}
+
 /// With rules that nobody wants: from each hole that a pigeon is in, it reaches the next ones, round and round, and what
 /// it reaches it keeps or loses. More constants are more of these.
 pub fn with_unwanted_rules(pigeons: u8, constants: u8) -> Ticket {
