@@ -49,7 +49,8 @@ static void keep_in_file(struct lent *lent) {
     struct buffer *session = &lent->of[SESSION];
     struct lutsamik_session before = *session_of(lent);
     FILE *file = tmpfile();
-    int kept = file && fwrite(session->bytes, session->len, 1, file) == 1;
+    check(file != NULL, "there is a file", BEGIN_RELEVANCY, lent, 0);
+    int kept = fwrite(session->bytes, session->len, 1, file) == 1;
     forget(session);
     rewind(file);
     kept = kept && fread(session->bytes, session->len, 1, file) == 1 && fgetc(file) == EOF;
