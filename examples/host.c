@@ -149,8 +149,8 @@ static int go_on(const struct lent *lent, uint32_t further, uint64_t *result) {
     return agree(lent, *result, by_magic);
 }
 
-/* Brings a spent ticket back, so many entries at a time, until it is finished or no more can be counted. Before each slice
- * a host could show how far it is, ask whether to go on, or keep the session in a file for another day. */
+/* Brings a spent ticket back, so many entries at a time, until it is finished or no more can be counted. Before each
+ * slice a host could show how far it is, ask whether to go on, or keep the session in a file for another day. */
 static int bring_back(const struct lent *lent, uint32_t slice, uint64_t *result) {
     int status = DONE;
     while (status == DONE && lutsamik_verdict(*result) == LUTSAMIK_SPENT) {

@@ -1,5 +1,5 @@
-/* An engine, with a session too, and a judge that are wrong, for the linker to put in the places of the library's (--wrap):
- * the example must notice each. */
+/* An engine, with a session too, and a judge that are wrong, for the linker to put in the places of the library's
+ * (--wrap): the example must notice each. */
 #include <lutsamik.h>
 
 /* Fits after no entry, and leaves the answer as it was. */

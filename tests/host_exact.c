@@ -130,7 +130,8 @@ static void fits_by_rules(enum operation engine, struct lent *lent, const struct
     check(as_kept(rules), "the rules are those of rewriting", engine, lent, 0);
 }
 
-/* First runs, each into a session that nobody has written, and going on with no further entry, which changes nothing. */
+/* First runs, each into a session that nobody has written, and going on with no further entry, which changes
+ * nothing. */
 static void begins_and_resumes(struct lent *lent, const struct known *known) {
     struct buffer *session = &lent->of[SESSION];
     forget(session);

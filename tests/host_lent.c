@@ -17,21 +17,20 @@ const size_t required[KINDS] = {0,
 static const struct {
     const char *name;
     unsigned kinds; /* a bit for each */
-} operations[OPERATIONS] = {{"reading", 1 << TEXT | 1 << TABLE},
-                            {"writing", 1 << TABLE | 1 << OUT},
-                            {"offering", 1 << TABLE | 1 << FRAME | 1 << SLIP},
-                            {"setting", 1 << TABLE | 1 << SLIP},
-                            {"judging", 1 << TABLE | 1 << ANSWER},
-                            {"holding", 1 << TABLE | 1 << ANSWER},
-                            {"rewriting", 1 << TABLE | 1 << RULES},
-                            {"the relevancy engine", 1 << TABLE | 1 << ANSWER | 1 << WORK},
-                            {"the magic engine", 1 << TABLE | 1 << RULES | 1 << ANSWER | 1 << WORK},
-                            {"a first run of the relevancy engine", 1 << TABLE | 1 << SESSION | 1 << ANSWER | 1 << WORK},
-                            {"a first run of the magic engine",
-                             1 << TABLE | 1 << SESSION | 1 << RULES | 1 << ANSWER | 1 << WORK},
-                            {"the relevancy engine with a session", 1 << TABLE | 1 << SESSION | 1 << ANSWER | 1 << WORK},
-                            {"the magic engine with a session",
-                             1 << TABLE | 1 << SESSION | 1 << RULES | 1 << ANSWER | 1 << WORK}};
+} operations[OPERATIONS] = {
+    {"reading", 1 << TEXT | 1 << TABLE},
+    {"writing", 1 << TABLE | 1 << OUT},
+    {"offering", 1 << TABLE | 1 << FRAME | 1 << SLIP},
+    {"setting", 1 << TABLE | 1 << SLIP},
+    {"judging", 1 << TABLE | 1 << ANSWER},
+    {"holding", 1 << TABLE | 1 << ANSWER},
+    {"rewriting", 1 << TABLE | 1 << RULES},
+    {"the relevancy engine", 1 << TABLE | 1 << ANSWER | 1 << WORK},
+    {"the magic engine", 1 << TABLE | 1 << RULES | 1 << ANSWER | 1 << WORK},
+    {"a first run of the relevancy engine", 1 << TABLE | 1 << SESSION | 1 << ANSWER | 1 << WORK},
+    {"a first run of the magic engine", 1 << TABLE | 1 << SESSION | 1 << RULES | 1 << ANSWER | 1 << WORK},
+    {"the relevancy engine with a session", 1 << TABLE | 1 << SESSION | 1 << ANSWER | 1 << WORK},
+    {"the magic engine with a session", 1 << TABLE | 1 << SESSION | 1 << RULES | 1 << ANSWER | 1 << WORK}};
 
 struct lutsamik_session *session_of(const struct lent *lent) {
     return (struct lutsamik_session *)(void *)lent->of[SESSION].bytes;
@@ -159,8 +158,8 @@ uint64_t call(enum operation operation, const struct lent *lent) {
         return lutsamik_resume_relevancy(session_of(lent), lent->further, table->bytes, table->len, answer->bytes,
                                          answer->len, work->bytes, work->len);
     default:
-        return lutsamik_resume_magic(session_of(lent), lent->further, table->bytes, table->len, rules->bytes, rules->len,
-                                     answer->bytes, answer->len, work->bytes, work->len);
+        return lutsamik_resume_magic(session_of(lent), lent->further, table->bytes, table->len, rules->bytes,
+                                     rules->len, answer->bytes, answer->len, work->bytes, work->len);
     }
 }
 

@@ -33,16 +33,16 @@ struct buffer {
     uint8_t *kept; /* what the bytes were when they were last kept */
 };
 
-/* The instance is for HOLDING: its clause, and the values of 80, 81, 82 and 83. The further limit is for RESUME_RELEVANCY
- * and RESUME_MAGIC. */
+/* The instance is for HOLDING: its clause, and the values of 80, 81, 82 and 83. The further limit is for
+ * RESUME_RELEVANCY and RESUME_MAGIC. */
 struct lent {
     const char *ticket;
     struct buffer of[KINDS];
     uint32_t clause, values[4], further;
 };
 
-/* How long each kind must be; a text and a frame may have any length. A session has no length that is told, and its block
- * has always the bytes of one. */
+/* How long each kind must be; a text and a frame may have any length. A session has no length that is told, and its
+ * block has always the bytes of one. */
 extern const size_t required[KINDS];
 
 /* The session in its block. */

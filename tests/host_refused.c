@@ -246,7 +246,8 @@ static void full_ticket(void) {
 }
 
 /* A session is refused by both engines, and all that is lent stays. */
-static void refused_session(unsigned refusal, uint32_t further, const struct lutsamik_session *session, struct lent *lent) {
+static void refused_session(unsigned refusal, uint32_t further, const struct lutsamik_session *session,
+                            struct lent *lent) {
     *session_of(lent) = *session;
     lent->further = further;
     keep_all(lent);
@@ -254,16 +255,19 @@ static void refused_session(unsigned refusal, uint32_t further, const struct lut
     refused(refusal, RESUME_MAGIC, lent);
 }
 
-/* Sessions for K6, by hand. Its root is split, into 10 and 20, which are the atoms 2 and 4, and where 20 is entered it is
- * open: so a session that fits has entered 4, the second of two; what stands past its path does not matter. One field of
- * it is changed, to each of these. */
+/* Sessions for K6, by hand. Its root is split, into 10 and 20, which are the atoms 2 and 4, and where 20 is entered it
+ * is open: so a session that fits has entered 4, the second of two; what stands past its path does not matter. One
+ * field of it is changed, to each of these. */
 static void refused_sessions(void) {
     static const uint8_t verdicts[] = {LUTSAMIK_NONE, 3, 4, 0x81, 0x82, 0xFF};
     static const uint8_t nexts[] = {0, 1, 3, 4, 0x82, 0xFF};
     static const uint16_t lengths[] = {0, 2, 3, 1024, 1025, 0x101, 0xFFFF};
     static const uint16_t atoms[] = {0, 2, 3, 5, 6, 0x104, 0x404, 0xFFFF};
-    const struct lutsamik_session fits = {
-        .count = 2, .length = 1, .verdict = LUTSAMIK_FITS, .atoms = {4, [2] = 9, [1023] = 9}, .nexts = {2, [2] = 9, [1023] = 9}};
+    const struct lutsamik_session fits = {.count = 2,
+                                          .length = 1,
+                                          .verdict = LUTSAMIK_FITS,
+                                          .atoms = {4, [2] = 9, [1023] = 9},
+                                          .nexts = {2, [2] = 9, [1023] = 9}};
     struct lutsamik_session other = fits;
     struct lent lent;
     lend(&lent, "K6");

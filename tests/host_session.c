@@ -1,12 +1,13 @@
-/* Sessions from C, in blocks of just their bytes. Tickets are brought back entry by entry, by the engines in turn, and each
- * session on the way is copied, kept in a file and read back. Then sessions are damaged, at every byte: each is refused by 41
- * or 42, with all that is lent as it was, or answered, by both engines alike. */
+/* Sessions from C, in blocks of just their bytes. Tickets are brought back entry by entry, by the engines in turn, and
+ * each session on the way is copied, kept in a file and read back. Then sessions are damaged, at every byte: each is
+ * refused by 41 or 42, with all that is lent as it was, or answered, by both engines alike. */
 #include "host_lent.h"
 
 #include <stdio.h>
 #include <string.h>
 
-/* What document 01, or crates/cases/data/README.md, has of a ticket's whole walk; and where its sessions are damaged. */
+/* What document 01, or crates/cases/data/README.md, has of a ticket's whole walk; and where its sessions are damaged.
+ */
 struct whole {
     const char *ticket;
     unsigned verdict;
@@ -25,7 +26,11 @@ static const struct whole tickets[] = {
     {"example_7", LUTSAMIK_NONE, 6, TO_THE_END_OF_THE_PATH},
 };
 
-enum { TICKETS = sizeof tickets / sizeof tickets[0], MOST_ENTRIES = 6, SESSION_BYTES = sizeof(struct lutsamik_session) };
+enum {
+    TICKETS = sizeof tickets / sizeof tickets[0],
+    MOST_ENTRIES = 6,
+    SESSION_BYTES = sizeof(struct lutsamik_session)
+};
 
 /* Above any count here, and with a damaged one more than there can be. */
 static const uint32_t MANY = 0x01000000;
@@ -94,7 +99,8 @@ static void comes_back(const struct whole *whole, struct lutsamik_session *on_th
         unsigned verdict = count < whole->count ? LUTSAMIK_SPENT : whole->verdict;
         check_result(packed(verdict, count), operation, &lent, result);
         on_the_way[count] = *session_of(&lent);
-        check(on_the_way[count].verdict == verdict && on_the_way[count].count == count, "so says the session", operation, &lent, 0);
+        check(on_the_way[count].verdict == verdict && on_the_way[count].count == count, "so says the session",
+              operation, &lent, 0);
         keep_in_file(&lent);
         lent.further = 1;
         operation = count % 2 ? RESUME_MAGIC : RESUME_RELEVANCY;
@@ -113,7 +119,8 @@ static unsigned answered, refused_by[2];
 static void check_left(enum operation operation, const struct lent *lent, uint64_t result) {
     const struct lutsamik_session *session = session_of(lent);
     unsigned verdict = lutsamik_verdict(result);
-    check(verdict == session->verdict && verdict <= LUTSAMIK_SPENT, "the session has the verdict", operation, lent, result);
+    check(verdict == session->verdict && verdict <= LUTSAMIK_SPENT, "the session has the verdict", operation, lent,
+          result);
     check(lutsamik_count(result) == session->count, "the session has the count", operation, lent, result);
     check(session->length <= 1024 && session->next <= 4, "it stands at a node", operation, lent, result);
     for (size_t i = session->length; i < 1024; i++)
@@ -153,7 +160,8 @@ static uint64_t alike(struct lent *lent, const struct lutsamik_session *session)
     memcpy(answer, lent->of[ANSWER].bytes, sizeof answer);
     check_result(result, RESUME_MAGIC, lent, any_session(RESUME_MAGIC, lent, session));
     check_bytes(&left, "both engines leave the same session", RESUME_MAGIC, lent);
-    check(memcmp(answer, lent->of[ANSWER].bytes, sizeof answer) == 0, "both leave the same answer", RESUME_MAGIC, lent, result);
+    check(memcmp(answer, lent->of[ANSWER].bytes, sizeof answer) == 0, "both leave the same answer", RESUME_MAGIC, lent,
+          result);
     return result;
 }
 
@@ -165,7 +173,8 @@ static int is_past(const struct lutsamik_session *session, size_t place) {
     return place >= atoms && (place - atoms) / 2 >= session->length;
 }
 
-/* Each byte is changed, in up to eight ways; one past the path does not matter, and is left out where this is not asked for. */
+/* Each byte is changed, in up to eight ways. One past the path does not matter, and is left out where this is not asked
+ * for. */
 static void damaged(struct lent *lent, const struct lutsamik_session *session, int past_too) {
     static const uint8_t flips[] = {0xFF, 0x01, 0x02, 0x03, 0x04, 0x07, 0x80, 0x06};
     uint64_t whole = alike(lent, session);
@@ -196,15 +205,15 @@ static void tries(const struct whole *whole) {
     lend_spent(&lent, whole->ticket);
     damaged(&lent, &on_the_way[whole->count / 2], whole->damage == EVERYWHERE);
     damaged(&lent, &on_the_way[whole->count], whole->damage == EVERYWHERE);
-    check(answered > 0 && refused_by[0] > 0 && refused_by[1] > 0, "some are answered, and some refused by 41 and 42", RESUME_MAGIC,
-          &lent, 0);
+    check(answered > 0 && refused_by[0] > 0 && refused_by[1] > 0, "some are answered, and some refused by 41 and 42",
+          RESUME_MAGIC, &lent, 0);
     take_back(&lent);
 }
 
 int main(void) {
     for (int i = 0; i < TICKETS; i++)
         tries(&tickets[i]);
-    printf("host_session: %d tickets are brought back; damaged sessions: %u answered, refused by 41: %u, by 42: %u\n", TICKETS,
-           answered, refused_by[0], refused_by[1]);
+    printf("host_session: %d tickets are brought back; damaged sessions: %u answered, refused by 41: %u, by 42: %u\n",
+           TICKETS, answered, refused_by[0], refused_by[1]);
     return 0;
 }

@@ -1,5 +1,5 @@
-/* The header, as C and as C++: results are taken apart, a session has its layout, refusals of reading have their names, and
- * each operation is called on K1 or K6 of document 01. */
+/* The header, as C and as C++: results are taken apart, a session has its layout, refusals of reading have their names,
+ * and each operation is called on K1 or K6 of document 01. */
 #include <lutsamik.h>
 
 #include <stddef.h>
@@ -47,7 +47,8 @@ static int takes_apart(void) {
     return 0;
 }
 
-/* As it is kept: the fields one after the other, with no byte between them or behind, and of a number the low byte first. */
+/* As it is kept: the fields one after the other, with no byte between them or behind, and of a number the low byte
+ * first. */
 static int is_laid_out(void) {
     typedef struct lutsamik_session session;
     if (offsetof(session, count) != 0 || offsetof(session, length) != 4 || offsetof(session, verdict) != 6 ||
@@ -159,15 +160,16 @@ static int comes_back(void) {
     struct lutsamik_session session;
     if (read_text(one, sizeof one - 1, LUTSAMIK_OK, 0))
         return 1;
-    uint64_t result = lutsamik_begin_magic(&session, table, sizeof table, rules, sizeof rules, answer, sizeof answer, work,
-                                           sizeof work);
-    if (!is_fit(result, LUTSAMIK_SPENT, 1) || session.verdict != LUTSAMIK_SPENT || session.length != 0 || session.next != 1)
+    uint64_t result = lutsamik_begin_magic(&session, table, sizeof table, rules, sizeof rules, answer, sizeof answer,
+                                           work, sizeof work);
+    if (!is_fit(result, LUTSAMIK_SPENT, 1) || session.verdict != LUTSAMIK_SPENT || session.length != 0 ||
+        session.next != 1)
         return fail("K6 is not spent after one entry, at the root", result);
     result = lutsamik_resume_relevancy(&session, 1, table, sizeof table, answer, sizeof answer, work, sizeof work);
     if (!is_fit(result, LUTSAMIK_FITS, 2) || session.length != 1 || session.atoms[0] != 4 || session.nexts[0] != 2)
         return fail("K6 does not fit after a further entry, 20", result);
-    result = lutsamik_resume_magic(&session, UINT32_MAX - 1, table, sizeof table, rules, sizeof rules, answer, sizeof answer,
-                                   work, sizeof work);
+    result = lutsamik_resume_magic(&session, UINT32_MAX - 1, table, sizeof table, rules, sizeof rules, answer,
+                                   sizeof answer, work, sizeof work);
     if (lutsamik_refusal(result) != LUTSAMIK_TOO_MANY_ENTRIES)
         return fail("two entries and FFFFFFFE are not too many", result);
     session.verdict = LUTSAMIK_NONE;
@@ -213,8 +215,8 @@ static int says_how_many_hold(void) {
 }
 
 int main(void) {
-    if (takes_apart() || is_laid_out() || refuses() || reads_and_writes() || judges() || rewrites_and_fits_none() || adds() ||
-        comes_back() || fits_and_judges() || says_how_many_hold())
+    if (takes_apart() || is_laid_out() || refuses() || reads_and_writes() || judges() || rewrites_and_fits_none() ||
+        adds() || comes_back() || fits_and_judges() || says_how_many_hold())
         return 1;
     puts("smoke: results are taken apart, a session is laid out, and each operation answers for K1 or K6");
     return 0;
