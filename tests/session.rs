@@ -43,7 +43,11 @@ impl Node {
     pub fn new(place: Place) -> Node {
         let mut alternatives = Vec::new();
         if let Found::Split { alternatives: all, .. } = &place.found {
-            all.iter().for_each(|atom| if !alternatives.contains(atom) { alternatives.push(*atom) });
+            for atom in all {
+                if !alternatives.contains(atom) {
+                    alternatives.push(*atom);
+                }
+            }
         }
         Node { place, alternatives, next: 0 }
     }
