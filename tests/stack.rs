@@ -22,8 +22,10 @@ use walk::{walk, Relevancy, Remembering};
 
 const STACK: usize = 1 << 20;
 
-/// The most that an engine may use, on a path of first alternatives or of fourth ones, and the most for an operation that walks no path.
+/// The most that an engine may use, on a path of first alternatives or of fourth ones; the most where it goes on with a session; and the most for
+/// an operation that walks no path.
 const MOST_TO_WALK: usize = 1 << 19;
+const MOST_TO_GO_ON: usize = 5 << 17;
 const MOST: usize = 1 << 14;
 
 fn main() {
@@ -104,11 +106,11 @@ fn brought_back(ticket: &Ticket, count: u32, stack: usize) -> Result<(), Report>
     let (root, last) = (begun(&engine, 0).session, begun(&engine, count - 1).session);
     let mut host = Host { table: reference::encode(ticket), ..Host::new() };
     for (name, begin, resume) in WITH_SESSION {
-        let first = deep_call(name, &whole, &mut host, stack, begin)?;
+        let first = deep_call(name, &whole, &mut host, (stack, MOST_TO_WALK), begin)?;
         print!("stack: with a session, {count} entries by {name}: a first run uses {first} bytes");
         for from in [root, last, one_longer(&engine, &last)] {
             let told = resumed(&engine, &from, count).map_err(|refusal| format!("a session is refused by {refusal}"))?;
-            let used = deep_call(name, &told, &mut host, stack, |host| {
+            let used = deep_call(name, &told, &mut host, (stack, MOST_TO_GO_ON), |host| {
                 host.session = from;
                 resume(host, count)
             })?;
@@ -128,8 +130,8 @@ fn one_longer(engine: &Remembering<Relevancy>, session: &Session) -> Session {
     longer
 }
 
-/// A call that must say and leave this, in a thread and on a painted stack: the bytes that it uses there.
-fn deep_call(name: &str, told: &Told, host: &mut Host, stack: usize, call: impl Fn(&mut Host) -> u64 + Copy + Send) -> Result<usize, Report> {
+/// A call that must say and leave this, in a thread and on a painted stack of so many bytes: how many it uses there, which may be so many at most.
+fn deep_call(name: &str, told: &Told, host: &mut Host, (stack, most): (usize, usize), call: impl Fn(&mut Host) -> u64 + Copy + Send) -> Result<usize, Report> {
     let expected = fit(told.outcome.verdict as u8, told.outcome.count);
     let thread = std::thread::Builder::new().stack_size(stack);
     let answer = std::thread::scope(|scope| {
@@ -137,7 +139,7 @@ fn deep_call(name: &str, told: &Told, host: &mut Host, stack: usize, call: impl 
         thread.spawn_scoped(scope, move || call(&mut again)).expect("a thread").join().expect("the thread ends")
     });
     same_answer(expected, answer, || format!("by {name} in a thread of {stack} bytes"))?;
-    let used = used(name, expected, stack, MOST_TO_WALK, || call(host))?;
+    let used = used(name, expected, stack, most, || call(host))?;
     same("what is left of a session", session::bytes(&told.session), session::bytes(&host.session))?;
     Ok(used)
 }
