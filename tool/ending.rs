@@ -9,6 +9,7 @@ pub enum Status {
     Disagreement = 3,
     None = 10,
     Spent = 20,
+    Stopped = 130,
 }
 
 /// What goes to standard output, and the status.
@@ -38,6 +39,11 @@ impl Failure {
 
     pub fn refused(message: impl Into<String>) -> Failure {
         Failure { status: Status::Refused, message: message.into() }
+    }
+
+    /// Ctrl-C ended the walk before it was over.
+    pub fn stopped(message: impl Into<String>) -> Failure {
+        Failure { status: Status::Stopped, message: message.into() }
     }
 
     /// Two ways to the same answer do not agree: a defect of the tool or of the library, never of a ticket.

@@ -1,62 +1,109 @@
-//! Running the engines on a ticket, each in a thread of its own, and holding their answers against each other.
+//! The engines side by side on one walk, in slices. Each goes on from the same session, and after each slice answers and sessions must be equal, every
+//! byte. So wherever a walk is stopped, all engines agree on it.
+//!
+//! A walk is begun on the ticket with limit 0 in place of its own, and all that follows are further limits on that ticket. The library claims that this
+//! comes to the answer and the session of one run under the sum of the limits; and but for its end a walk does not depend on the ticket's limit.
 
 use crate::ending::Failure;
-use crate::library::{self, Engine, Fit, Verdict};
-use crate::progress::{estimates, Line, Pace};
+use crate::interrupt;
+use crate::library::{self, Engine, Fit, Moved, Session, Table, Verdict};
+use crate::progress::Progress;
+use crate::slice::Slice;
 use crate::source::Accepted;
 use std::thread;
-use std::time::{Duration, Instant};
+use std::time::Instant;
 
-/// How long a walk must take to give a rate.
-const MEASURED: Duration = Duration::from_millis(200);
-const POLL: Duration = Duration::from_millis(20);
+pub struct Walk<'a> {
+    engines: &'a [Engine],
+    table: Table,
+    atoms: usize,
+    /// what the engines say of the walk so far, and where it stands
+    pub at: Moved,
+}
 
-/// The answer that all these engines give.
+/// The answer that all these engines give under the ticket's limit.
 pub fn agreed(engines: &[Engine], accepted: &Accepted) -> Result<Fit, Failure> {
-    let fits: Vec<Fit> = run(engines, accepted).into_iter().collect::<Result<_, _>>()?;
-    if fits.iter().all(|fit| *fit == fits[0]) {
-        return Ok(fits[0].clone());
+    let mut walk = Walk::begin(engines, accepted)?;
+    walk.run(accepted.ticket.limit, &mut |_| Ok(()))?;
+    Ok(walk.at.fit)
+}
+
+impl<'a> Walk<'a> {
+    /// At the root, before any entry.
+    pub fn begin(engines: &'a [Engine], accepted: &Accepted) -> Result<Walk<'a>, Failure> {
+        let (table, atoms) = (accepted.with_limit(0)?.table, accepted.ticket.atoms());
+        let begun = together(engines, |engine| library::begin(engine, &table, atoms).map(Ok))?;
+        let at = begun.map_err(|number| Failure::disagreement(format!("a first run is refused by {number}")))?;
+        Ok(Walk { engines, table, atoms, at })
     }
-    let told = |(engine, fit): (&Engine, &Fit)| format!("{} says {}", engine.name(), fit.told());
-    let told: Vec<String> = engines.iter().zip(&fits).map(told).collect();
+
+    /// Where a session stands that is to go on with this further limit, or the number by which that is refused. No entry is made: the whole limit
+    /// is asked for only where it is too much.
+    pub fn resume(engines: &'a [Engine], accepted: &Accepted, session: &Session, further: u32) -> Result<Result<Walk<'a>, u8>, Failure> {
+        let (table, atoms) = (accepted.with_limit(0)?.table, accepted.ticket.atoms());
+        let is_too_much = session.count.checked_add(further).is_none();
+        let asked = if is_too_much { further } else { 0 };
+        let said = together(engines, |engine| library::resume(engine, session, asked, &table, atoms))?;
+        if is_too_much != (said == Err(library::TOO_MANY_ENTRIES)) {
+            let told = told(&said);
+            return Err(Failure::disagreement(format!("with {} entries and {asked} more going on {told}", session.count)));
+        }
+        Ok(said.map(|at| Walk { engines, table, atoms, at }))
+    }
+
+    /// Goes on until the walk is over or has made so many entries, or Ctrl-C stops it: whether it came so far. Each session on the way is shown.
+    pub fn run(&mut self, most: u32, show: &mut dyn FnMut(&Session) -> Result<(), Failure>) -> Result<bool, Failure> {
+        let mut slice = Slice::first();
+        let mut progress = Progress::new(self.at.fit.count, most);
+        while self.at.fit.verdict == Verdict::Spent && self.at.fit.count < most {
+            show(&self.at.session)?;
+            if interrupt::is_asked() {
+                return Ok(false);
+            }
+            let (path, made, begun) = (self.at.session.length, slice.entries.min(most - self.at.fit.count), Instant::now());
+            self.go_on(made)?;
+            slice.set(made, path, begun.elapsed());
+            progress.draw(&self.at.session);
+        }
+        Ok(true)
+    }
+
+    /// Makes so many entries more, or fewer if the walk is over before.
+    fn go_on(&mut self, many: u32) -> Result<(), Failure> {
+        let from = &self.at.session;
+        let said = together(self.engines, |engine| library::resume(engine, from, many, &self.table, self.atoms))?;
+        let most = from.count + many;
+        match said {
+            Ok(at) if at.fit.count == most || (at.fit.verdict != Verdict::Spent && (from.count..most).contains(&at.fit.count)) => {
+                self.at = at;
+                Ok(())
+            }
+            said => Err(Failure::disagreement(format!("with {} entries and {many} more going on {}", from.count, told(&said)))),
+        }
+    }
+}
+
+/// What all these engines say of one call, each in a thread of its own.
+fn together<F>(engines: &[Engine], call: F) -> Result<Result<Moved, u8>, Failure>
+where
+    F: Fn(Engine) -> Result<Result<Moved, u8>, Failure> + Sync,
+{
+    let call = &call;
+    let mut said = thread::scope(|scope| {
+        let runs: Vec<_> = engines.iter().map(|engine| scope.spawn(move || call(*engine))).collect();
+        let ended = runs.into_iter().map(|run| run.join().expect("an engine's thread ends with its answer"));
+        ended.collect::<Result<Vec<_>, _>>()
+    })?;
+    if said.iter().all(|other| *other == said[0]) {
+        return Ok(said.swap_remove(0));
+    }
+    let told: Vec<String> = engines.iter().zip(&said).map(|(engine, said)| format!("{} {}", engine.name(), told(said))).collect();
     Err(Failure::disagreement(format!("the engines disagree: {}", told.join(", "))))
 }
 
-/// What each engine answers.
-fn run(engines: &[Engine], accepted: &Accepted) -> Vec<Result<Fit, Failure>> {
-    let mut line = Line::new();
-    let watched = line.is_shown();
-    let limit = accepted.ticket.limit;
-    let paces: Vec<Pace> = engines.iter().map(|engine| Pace::new(engine.name())).collect();
-    thread::scope(|scope| {
-        let whole = |engine: Engine, pace: &Pace| {
-            if watched {
-                pace.begin(rate(engine, accepted)?);
-            }
-            library::fit(engine, &accepted.table, accepted.ticket.atoms())
-        };
-        let runs: Vec<_> = engines.iter().zip(&paces).map(|(engine, pace)| scope.spawn(move || whole(*engine, pace))).collect();
-        while watched && !runs.iter().all(|run| run.is_finished()) {
-            thread::sleep(POLL);
-            let running = paces.iter().zip(&runs).filter(|(_, run)| !run.is_finished());
-            line.draw(|| estimates(running.map(|(pace, _)| pace), limit));
-        }
-        runs.into_iter().map(|run| run.join().expect("an engine's thread ends with its answer")).collect()
-    })
-}
-
-/// Entries a second, by a walk of the same ticket under a smaller limit. It is the first of 10, 100, 1,000 and so on under which the walk takes
-/// long enough, or ends.
-fn rate(engine: Engine, accepted: &Accepted) -> Result<f64, Failure> {
-    let mut limit: u32 = 10;
-    loop {
-        let shorter = accepted.with_limit(limit.min(accepted.ticket.limit))?;
-        let begun = Instant::now();
-        let fit = library::fit(engine, &shorter.table, shorter.ticket.atoms())?;
-        let took = begun.elapsed();
-        if took >= MEASURED || fit.verdict != Verdict::Spent || shorter.ticket.limit == accepted.ticket.limit {
-            return Ok(fit.count as f64 / took.as_secs_f64());
-        }
-        limit = limit.saturating_mul(10);
+fn told(said: &Result<Moved, u8>) -> String {
+    match said {
+        Ok(moved) => format!("says {}", moved.told()),
+        Err(number) => format!("is refused by {number}"),
     }
 }

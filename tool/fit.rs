@@ -1,28 +1,34 @@
 //! `fit`: whether a ticket fits, by the engines, and the fitting.
 
 use crate::arguments::{Arguments, Command};
+use crate::carry::Carry;
 use crate::ending::{Ending, Failure, Status};
-use crate::engines;
+use crate::engines::Walk;
+use crate::interrupt;
 use crate::library::{self, Engine, Fit, Refusal, Verdict};
+use crate::save::Save;
 use crate::source::{Accepted, Source};
 use crate::spell::hex;
 use crate::ticket::Atom;
 
 pub const COMMAND: Command = Command {
     name: "fit",
-    usage: "fit [--engine relevancy|magic|both] [--limit N] [--lines] FILE",
+    usage: "fit [--engine relevancy|magic|both] [--limit N] [--save SESSION] [--lines] FILE",
     about: "whether a ticket fits, and the fitting",
     help: "\
 Fits a ticket and prints the verdict, the entries made, and the fitting's atoms.
   --engine E   relevancy, magic, or both (the default), which are then compared
   --limit N    at most N entries, whatever limit the ticket has
+  --save SESSION  leaves in this file where the walk stands, so that 'resume' can go
+               on with it; a file that is there already is not written over
   --lines      prints the lines that document 01 lays down: 81, 82 and 8F
-On a terminal a long walk shows about how many entries it has made. That is an
-estimate, from the rate of a shorter walk of the same ticket.
-Example: ./lutsamik fit crates/cases/data/K6.text",
+Ctrl-C stops a long walk and says how far it came; with --save it can be resumed. A
+second Ctrl-C ends the tool at once. On a terminal a long walk shows the entries
+that it has made, how many a second, and how deep it stands.
+Example: ./lutsamik fit --save /tmp/K6.session crates/cases/data/K6.text",
     files: 1,
     rule: false,
-    options: &["--engine", "--limit"],
+    options: &["--engine", "--limit", "--save"],
     flags: &["--lines"],
     run,
 };
@@ -36,16 +42,16 @@ fn run(arguments: &Arguments) -> Result<Ending, Failure> {
             return Ok(Ending::new(Status::Refused, refusal_line(refusal)));
         }
     }
-    let mut accepted = source.accepted()?;
-    if let Some(limit) = limit {
-        accepted = accepted.with_limit(limit)?;
-    }
-    let fit = engines::agreed(&engines, &accepted)?;
-    let printed = if arguments.has("--lines") { lines(&accepted, &fit) } else { words(&accepted, &fit, &engines) };
-    Ok(Ending::new(status(fit.verdict), printed))
+    let text = source.text.clone();
+    let accepted = source.accepted()?;
+    let save = arguments.option("--save").map(|file| Save::anew(file, text)).transpose()?;
+    interrupt::catch();
+    let walk = Walk::begin(&engines, &accepted)?;
+    let most = limit.unwrap_or(accepted.ticket.limit);
+    Carry { arguments, file: arguments.file(0), engines: &engines, accepted: &accepted, most, stopper: "the limit" }.on(walk, save)
 }
 
-fn engines(arguments: &Arguments) -> Result<Vec<Engine>, Failure> {
+pub fn engines(arguments: &Arguments) -> Result<Vec<Engine>, Failure> {
     let both = vec![Engine::Relevancy, Engine::Magic];
     let Some(chosen) = arguments.option("--engine") else { return Ok(both) };
     let engines: Vec<Engine> = both.into_iter().filter(|engine| chosen == "both" || chosen == engine.name()).collect();
@@ -69,18 +75,21 @@ fn fitting(accepted: &Accepted, fit: &Fit) -> Vec<Atom> {
     atoms.filter(|(_, mark)| fit.verdict == Verdict::Fits && **mark == 1).map(|(atom, _)| atom).collect()
 }
 
-fn words(accepted: &Accepted, fit: &Fit, engines: &[Engine]) -> String {
-    let mut printed = verdict_words(fit, accepted.ticket.limit, "the limit");
+pub fn engine_words(engines: &[Engine]) -> String {
     match engines {
-        [engine] => printed += &format!("engine: {}\n", engine.name()),
-        _ => printed += "engines: relevancy and magic agree\n",
+        [engine] => format!("engine: {}\n", engine.name()),
+        _ => "engines: relevancy and magic agree\n".to_string(),
     }
-    if fit.verdict == Verdict::Fits {
-        let atoms = fitting(accepted, fit);
-        printed += &format!("fitting: {} of {} atoms\n", atoms.len(), accepted.ticket.atoms());
-        printed.extend(accepted.atoms(&atoms).iter().map(|atom| format!("  {atom}\n")));
+}
+
+/// The fitting's atoms; nothing where there is none.
+pub fn fitting_words(accepted: &Accepted, fit: &Fit) -> String {
+    if fit.verdict != Verdict::Fits {
+        return String::new();
     }
-    printed
+    let atoms = fitting(accepted, fit);
+    let heading = format!("fitting: {} of {} atoms\n", atoms.len(), accepted.ticket.atoms());
+    std::iter::once(heading).chain(accepted.atoms(&atoms).iter().map(|atom| format!("  {atom}\n"))).collect()
 }
 
 /// Verdict and entries; `stopper` is what stops a walk at the limit.
@@ -94,7 +103,7 @@ pub fn verdict_words(fit: &Fit, limit: u32, stopper: &str) -> String {
 }
 
 /// Document 01's lines.
-fn lines(accepted: &Accepted, fit: &Fit) -> String {
+pub fn lines(accepted: &Accepted, fit: &Fit) -> String {
     let first = [&[0x81, fit.verdict as u8], &fit.count.to_be_bytes()[..]].concat();
     let atoms = fitting(accepted, fit).into_iter().map(|atom| [&[0x82], &atom.bytes()[..]].concat());
     std::iter::once(first).chain(atoms).map(|frame| hex(&frame) + "\n").collect()

@@ -18,11 +18,12 @@ Exit statuses:
    0  fits; accepted; can be added; a fitting; done
   10  none
   20  spent
-   1  a ticket, a sheet, a rule, an answer or an instance is refused, or the answer
-      is no fitting
+   1  a ticket, a sheet, a rule, an answer, an instance or a session is refused, or
+      the answer is no fitting
    2  the command line is wrong, or a file cannot be read or written
    3  two ways to one answer disagree: a defect, never the ticket's fault
    4  the tool could not be built
+ 130  stopped by Ctrl-C
 ";
 
 /// The command that help is asked for, or "" where it is asked for in general; nothing where these words ask for none.

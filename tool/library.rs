@@ -4,6 +4,7 @@ mod calls;
 
 use crate::ending::Failure;
 use crate::spell::hex;
+pub use calls::Session;
 
 // What the buffers must hold, as include/lutsamik.h has it.
 const TABLE: usize = 4096;
@@ -15,6 +16,10 @@ const SLIP: usize = 37;
 
 const BAD_ANSWER: u8 = 32;
 const NO_INSTANCE: u8 = 44;
+/// count and further limit together are more than a count can be
+pub const TOO_MANY_ENTRIES: u8 = 41;
+/// what is held is no session of the ticket's walk
+pub const NO_SESSION: u8 = 42;
 
 /// A ticket that the library accepted, as it keeps it.
 #[derive(PartialEq, Eq)]
@@ -50,6 +55,13 @@ pub struct Fit {
     pub verdict: Verdict,
     pub count: u32,
     pub answer: Vec<u8>,
+}
+
+/// What a call with a session answers, and where the walk stands then.
+#[derive(Clone, Debug, PartialEq, Eq)]
+pub struct Moved {
+    pub fit: Fit,
+    pub session: Session,
 }
 
 #[derive(Clone, Copy, Debug, PartialEq, Eq)]
@@ -96,6 +108,17 @@ impl Fit {
     pub fn told(&self) -> String {
         let fitting = if self.verdict == Verdict::Fits { format!(" with {}", hex(&self.answer)) } else { String::new() };
         format!("{} after {} entries{fitting}", self.verdict.name(), self.count)
+    }
+}
+
+impl Moved {
+    /// The answer and the session in few words, for a message.
+    pub fn told(&self) -> String {
+        let Session { length, next, atoms, nexts, .. } = &self.session;
+        let mut slots = atoms.iter().zip(nexts);
+        let path: Vec<String> = slots.by_ref().take(*length as usize).map(|(atom, next)| format!("{atom} {next}")).collect();
+        let past = if slots.all(|slot| slot == (&0, &0)) { "" } else { ", with more past the path" };
+        format!("{} at [{}] {next}{past}", self.fit.told(), path.join(", "))
     }
 }
 
@@ -173,18 +196,71 @@ fn whole(answer: &[u8]) -> Vec<u8> {
     lent
 }
 
+/// What is lent to an engine beside the table.
+struct Lent {
+    rules: Vec<u8>,
+    answer: Vec<u8>,
+    work: Vec<u8>,
+}
+
+impl Lent {
+    fn new() -> Lent {
+        Lent { rules: vec![0; RULES], answer: vec![0; ANSWER], work: vec![0; WORK] }
+    }
+}
+
 /// Fits a ticket with this number of atoms.
 pub fn fit(engine: Engine, table: &Table, atoms: usize) -> Result<Fit, Failure> {
-    let (mut answer, mut work) = (vec![0; ANSWER], vec![0; WORK]);
+    let mut lent = Lent::new();
+    let Lent { rules, answer, work } = &mut lent;
     let (name, given) = match engine {
-        Engine::Relevancy => ("lutsamik_fit_relevancy", calls::fit_relevancy(&table.0, &mut answer, &mut work)),
-        Engine::Magic => ("lutsamik_fit_magic", calls::fit_magic(&table.0, &mut vec![0; RULES], &mut answer, &mut work)),
+        Engine::Relevancy => ("lutsamik_fit_relevancy", calls::fit_relevancy(&table.0, answer, work)),
+        Engine::Magic => ("lutsamik_fit_magic", calls::fit_magic(&table.0, rules, answer, work)),
     };
-    let number = accepted(name, given)?.to_le_bytes()[1];
+    answered(name, accepted(name, given)?, lent.answer, atoms)
+}
+
+/// A first run on a ticket with this number of atoms, which leaves a session.
+pub fn begin(engine: Engine, table: &Table, atoms: usize) -> Result<Moved, Failure> {
+    let (mut session, mut lent) = (Session::EMPTY, Lent::new());
+    let Lent { rules, answer, work } = &mut lent;
+    let (name, given) = match engine {
+        Engine::Relevancy => ("lutsamik_begin_relevancy", calls::begin_relevancy(&mut session, &table.0, answer, work)),
+        Engine::Magic => ("lutsamik_begin_magic", calls::begin_magic(&mut session, &table.0, rules, answer, work)),
+    };
+    moved(name, answered(name, accepted(name, given)?, lent.answer, atoms)?, session)
+}
+
+/// Going on from a session with a further limit, or the number by which that is refused.
+pub fn resume(engine: Engine, from: &Session, further: u32, table: &Table, atoms: usize) -> Result<Result<Moved, u8>, Failure> {
+    let (mut session, mut lent) = (*from, Lent::new());
+    let Lent { rules, answer, work } = &mut lent;
+    let (name, given) = match engine {
+        Engine::Relevancy => ("lutsamik_resume_relevancy", calls::resume_relevancy(&mut session, further, &table.0, answer, work)),
+        Engine::Magic => ("lutsamik_resume_magic", calls::resume_magic(&mut session, further, &table.0, rules, answer, work)),
+    };
+    match refusal(given) {
+        number @ (TOO_MANY_ENTRIES | NO_SESSION) => Ok(Err(number)),
+        _ => moved(name, answered(name, accepted(name, given)?, lent.answer, atoms)?, session).map(Ok),
+    }
+}
+
+/// What an engine says that did not refuse.
+fn answered(name: &str, given: u64, mut answer: Vec<u8>, atoms: usize) -> Result<Fit, Failure> {
+    let number = given.to_le_bytes()[1];
     let verdict = [Verdict::None, Verdict::Fits, Verdict::Spent].into_iter().find(|verdict| *verdict as u8 == number);
     let senseless = || Failure::disagreement(format!("{name} answers {given:016X}, which means nothing"));
     answer.truncate(atoms);
     Ok(Fit { verdict: verdict.ok_or_else(senseless)?, count: high(given), answer })
+}
+
+/// The session that is left must have the verdict and the count that are answered.
+fn moved(name: &str, fit: Fit, session: Session) -> Result<Moved, Failure> {
+    if (session.verdict, session.count) == (fit.verdict as u8, fit.count) {
+        return Ok(Moved { fit, session });
+    }
+    let left = format!("a session of verdict {} and {} entries", session.verdict, session.count);
+    Err(Failure::disagreement(format!("{name} says {}, and leaves {left}", fit.told())))
 }
 
 /// The answer of an operation that refuses no table that was read.

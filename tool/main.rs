@@ -2,6 +2,7 @@
 mod add;
 mod answer;
 mod arguments;
+mod carry;
 mod check;
 mod clause;
 mod compile;
@@ -11,12 +12,17 @@ mod fit;
 mod frame;
 mod help;
 mod instance;
+mod interrupt;
 mod judge;
 mod language;
 mod library;
 mod parse;
 mod progress;
 mod read;
+mod resume;
+mod save;
+mod session;
+mod slice;
 mod source;
 mod spell;
 mod svg;
@@ -28,14 +34,14 @@ mod wanted;
 mod words;
 
 use arguments::Command;
-use ending::{Ending, Failure};
+use ending::{Ending, Failure, Status};
 use std::env;
 use std::ffi::OsString;
 use std::io::{self, ErrorKind, Write};
 use std::process::ExitCode;
 
-const COMMANDS: [Command; 7] =
-    [fit::COMMAND, read::COMMAND, add::COMMAND, judge::COMMAND, trail::COMMAND, compile::COMPILE, compile::SHOW];
+const COMMANDS: [Command; 8] =
+    [fit::COMMAND, resume::COMMAND, read::COMMAND, add::COMMAND, judge::COMMAND, trail::COMMAND, compile::COMPILE, compile::SHOW];
 
 fn main() -> ExitCode {
     let words: Vec<OsString> = env::args_os().skip(1).collect();
@@ -43,6 +49,9 @@ fn main() -> ExitCode {
         Ok(status) => status,
         Err(Failure { status, message }) => {
             eprintln!("lutsamik: {message}");
+            if status == Status::Stopped {
+                interrupt::end();
+            }
             status as u8
         }
     };

@@ -1,79 +1,91 @@
-//! A line on the terminal that says how far a long walk is. Where standard error is no terminal nothing is drawn.
-//!
-//! An engine's call blocks and tells nothing before it ends. So its rate is measured on a walk of the same ticket under a smaller limit, and
-//! while the whole walk runs its entries are estimated from that rate and the time gone by.
+//! A line on the terminal that says how far a long walk is: entries made, at which rate, and how deep it stands. All of it is told by the sessions
+//! that the engines leave after each slice. Where standard error is no terminal nothing is drawn.
 
+use crate::library::Session;
+use std::collections::VecDeque;
 use std::io::{self, IsTerminal, Write};
-use std::sync::OnceLock;
 use std::time::{Duration, Instant};
 
 const BETWEEN: Duration = Duration::from_millis(250);
+/// The rate of now is that of so long.
+const RECENT: Duration = Duration::from_secs(3);
 
 /// A line that is drawn over itself, and taken away at the end.
 pub struct Line {
-    shown: bool,
+    is_shown: bool,
+    is_drawn: bool,
     last: Instant,
-    drawn: bool,
+}
+
+/// How far a walk is, slice by slice.
+pub struct Progress {
+    line: Line,
+    most: u32,
+    begun: Made,
+    /// what was made at the end of each slice of late, the first one first
+    recent: VecDeque<Made>,
+}
+
+/// So many entries at a time.
+#[derive(Clone, Copy)]
+struct Made {
+    at: Instant,
+    entries: u32,
+}
+
+impl Made {
+    /// Entries a second from an earlier time on.
+    fn rate(&self, since: &Made) -> f64 {
+        (self.entries - since.entries) as f64 / (self.at - since.at).as_secs_f64()
+    }
 }
 
 impl Line {
     pub fn new() -> Line {
-        Line { shown: io::stderr().is_terminal(), last: Instant::now(), drawn: false }
-    }
-
-    pub fn is_shown(&self) -> bool {
-        self.shown
+        Line { is_shown: io::stderr().is_terminal(), is_drawn: false, last: Instant::now() }
     }
 
     /// Draws the text, if the last time is long enough ago. A terminal that takes nothing is left alone.
     pub fn draw(&mut self, text: impl FnOnce() -> String) {
-        if self.shown && self.last.elapsed() >= BETWEEN {
+        if self.is_shown && self.last.elapsed() >= BETWEEN {
             let _ = write!(io::stderr(), "\r\x1b[K{}", text());
             self.last = Instant::now();
-            self.drawn = true;
+            self.is_drawn = true;
         }
     }
 }
 
 impl Drop for Line {
     fn drop(&mut self) {
-        if self.drawn {
+        if self.is_drawn {
             let _ = write!(io::stderr(), "\r\x1b[K");
         }
     }
 }
 
-/// An engine's pace, once it is measured: entries a second, and when the whole walk began.
-pub struct Pace {
-    engine: &'static str,
-    begun: OnceLock<(f64, Instant)>,
-}
-
-impl Pace {
-    pub fn new(engine: &'static str) -> Pace {
-        Pace { engine, begun: OnceLock::new() }
+impl Progress {
+    /// Of a walk that has made some entries, and makes at most so many.
+    pub fn new(entries: u32, most: u32) -> Progress {
+        let begun = Made { at: Instant::now(), entries };
+        Progress { line: Line::new(), most, begun, recent: VecDeque::from([begun]) }
     }
 
-    /// The whole walk begins, at so many entries a second.
-    pub fn begin(&self, rate: f64) {
-        self.begun.get_or_init(|| (rate, Instant::now()));
-    }
-
-    fn estimate(&self, limit: u32) -> String {
-        match self.begun.get() {
-            Some((rate, begun)) => {
-                let entries = (rate * begun.elapsed().as_secs_f64()).min(limit as f64);
-                format!("{} {} ({}/s)", self.engine, short(entries), short(*rate))
-            }
-            None => format!("{} measuring", self.engine),
+    /// Where the walk stands at the end of a slice.
+    pub fn draw(&mut self, session: &Session) {
+        let now = Made { at: Instant::now(), entries: session.count };
+        self.recent.push_back(now);
+        while now.at - self.recent[1].at >= RECENT {
+            self.recent.pop_front();
         }
+        let rates = [self.recent[0], self.begun].map(|since| now.rate(&since));
+        self.line.draw(|| words(session, self.most, rates));
     }
 }
 
-/// How far the engines are, by their paces, in less than the 80 columns of a small terminal.
-pub fn estimates<'a>(paces: impl Iterator<Item = &'a Pace>, limit: u32) -> String {
-    let told: Vec<String> = paces.map(|pace| pace.estimate(limit)).collect();
-    format!("estimate: {}, limit {} entries", told.join(", "), short(limit as f64))
+/// In less than the 80 columns of a small terminal.
+fn words(session: &Session, most: u32, rates: [f64; 2]) -> String {
+    let [of_late, overall] = rates.map(short);
+    format!("{} of at most {most} entries, {of_late}/s, overall {overall}/s, depth {}", session.count, session.length)
 }
 
 /// A number in few characters.
@@ -81,6 +93,7 @@ fn short(number: f64) -> String {
     match number {
         n if n >= 1e7 => format!("{:.0}M", n / 1e6),
         n if n >= 1e4 => format!("{:.0}k", n / 1e3),
-        n => format!("{n:.0}"),
+        n if n >= 10.0 => format!("{n:.0}"),
+        n => format!("{n:.1}"),
     }
 }

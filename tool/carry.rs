@@ -1,0 +1,76 @@
+//! A walk carried on until it is over, has made the entries that it may make, or is stopped by Ctrl-C; and what is said of it then.
+
+use crate::arguments::Arguments;
+use crate::ending::{Ending, Failure, Status};
+use crate::engines::Walk;
+use crate::fit::{engine_words, fitting_words, lines, status, verdict_words};
+use crate::library::{Engine, Fit, Session, Verdict};
+use crate::save::Save;
+use crate::source::Accepted;
+use std::ffi::OsStr;
+
+/// How a walk is carried on.
+pub struct Carry<'a> {
+    pub arguments: &'a Arguments,
+    /// the ticket's
+    pub file: &'a OsStr,
+    pub engines: &'a [Engine],
+    pub accepted: &'a Accepted,
+    /// how many entries it may have made then
+    pub most: u32,
+    /// what stops it there
+    pub stopper: &'a str,
+}
+
+impl Carry<'_> {
+    pub fn on(&self, mut walk: Walk, mut save: Option<Save>) -> Result<Ending, Failure> {
+        let mut show = |session: &Session| save.as_mut().map_or(Ok(()), |save| save.meanwhile(session));
+        let is_over = walk.run(self.most, &mut show)?;
+        let saved = save.as_mut().map_or(Ok(()), |save| save.put(&walk.at.session));
+        if !is_over {
+            return Err(self.stopped(&walk.at.session, save.as_ref(), saved));
+        }
+        let printed = self.printed(&walk.at.fit, save.as_ref().filter(|_| saved.is_ok()));
+        Ok(match saved {
+            Ok(()) => Ending::new(status(walk.at.fit.verdict), printed),
+            Err(failure) => {
+                eprintln!("lutsamik: {}", failure.message);
+                Ending::new(Status::Usage, printed)
+            }
+        })
+    }
+
+    fn printed(&self, fit: &Fit, save: Option<&Save>) -> String {
+        if self.arguments.has("--lines") {
+            return lines(self.accepted, fit);
+        }
+        let saved = save.map_or(String::new(), |save| match fit.verdict {
+            Verdict::Spent => format!("to go on: {}\n", self.resuming(save, "N")),
+            _ => format!("saved: {}\n", save.name),
+        });
+        [verdict_words(fit, self.most, self.stopper), engine_words(self.engines), saved, fitting_words(self.accepted, fit)].concat()
+    }
+
+    fn stopped(&self, session: &Session, save: Option<&Save>, saved: Result<(), Failure>) -> Failure {
+        let Session { count, length, .. } = session;
+        let next = match (save, saved) {
+            (None, _) => "with --save SESSION it could be resumed".to_string(),
+            (Some(_), Err(failure)) => failure.message,
+            (Some(save), Ok(())) => format!("to go on: {}", self.resuming(save, &(self.most - count).to_string())),
+        };
+        Failure::stopped(format!("stopped by Ctrl-C after {count} of at most {} entries, at depth {length}; {next}", self.most))
+    }
+
+    /// The command that goes on with a session.
+    fn resuming(&self, save: &Save, further: &str) -> String {
+        let [session, file] = [&save.name, &self.file.to_string_lossy().into_owned()].map(|name| quoted(name));
+        let engine = self.arguments.option("--engine").map_or(String::new(), |engine| format!(" --engine {}", engine.to_string_lossy()));
+        format!("./lutsamik resume {session} {file} --further {further}{engine}")
+    }
+}
+
+/// A word as a shell takes it.
+fn quoted(word: &str) -> String {
+    let is_plain = |letter: char| letter.is_ascii_alphanumeric() || "-_./+:,=@%".contains(letter);
+    if !word.is_empty() && word.chars().all(is_plain) { word.to_string() } else { format!("'{}'", word.replace('\'', r"'\''")) }
+}

@@ -1,0 +1,75 @@
+//! `resume`: a walk that was stopped goes on, from the session that it left.
+
+use crate::arguments::{Arguments, Command};
+use crate::carry::Carry;
+use crate::ending::{Ending, Failure};
+use crate::engines::Walk;
+use crate::fit::engines;
+use crate::interrupt;
+use crate::library::TOO_MANY_ENTRIES;
+use crate::save::Save;
+use crate::session::Kept;
+use crate::source::{called, Source};
+use std::ffi::OsStr;
+use std::fs;
+
+pub const COMMAND: Command = Command {
+    name: "resume",
+    usage: "resume [--engine relevancy|magic|both] [--save OTHER] [--lines] SESSION FILE --further N",
+    about: "goes on with a ticket that was spent or stopped, from its session",
+    help: "\
+Goes on with the walk of the ticket FILE from where SESSION says that it stands, and
+prints what 'fit' would print under all limits together. The session is then written
+back. One that has come to fits or none answers again.
+  --further N  at most N entries more
+  --engine E   relevancy, magic, or both (the default), whichever came so far
+  --save OTHER writes the session to this file instead, and leaves SESSION as it is
+  --lines      prints the lines that document 01 lays down: 81 and 82
+A session is refused that was begun on another ticket, but for the limit. Ctrl-C
+does as with 'fit'.
+Example: ./lutsamik resume /tmp/K6.session crates/cases/data/K6.text --further 100",
+    files: 2,
+    rule: false,
+    options: &["--engine", "--save", "--further"],
+    flags: &["--lines"],
+    run,
+};
+
+fn run(arguments: &Arguments) -> Result<Ending, Failure> {
+    let engines = engines(arguments)?;
+    let further = arguments.number("--further")?;
+    let further = further.ok_or_else(|| Failure::usage("resume needs --further N: how many entries more it may make"))?;
+    let [file, ticket] = [0, 1].map(|i| arguments.file(i));
+    if file == "-" {
+        return Err(Failure::usage("a session is read from a file, and not from standard input"));
+    }
+    let kept = Kept::open(file)?;
+    let source = Source::open(ticket)?;
+    let accepted = source.accepted()?;
+    if !kept.is_of(&accepted.ticket) {
+        return Err(Failure::refused(format!("{} was begun on another ticket than {}", called(file), called(ticket))));
+    }
+    let save = save(file, arguments.option("--save"), kept.ticket)?;
+    interrupt::catch();
+    let count = kept.session.count;
+    let walk = Walk::resume(&engines, &accepted, &kept.session, further)?.map_err(|number| refused(file, number, count))?;
+    Carry { arguments, file: ticket, engines: &engines, accepted: &accepted, most: count + further, stopper: "the further limit" }.on(walk, Some(save))
+}
+
+/// Where the session goes: back, or into another file.
+fn save(file: &OsStr, other: Option<&OsStr>, ticket: Vec<u8>) -> Result<Save, Failure> {
+    let is_same = |other: &&OsStr| matches!((fs::canonicalize(file), fs::canonicalize(other)), (Ok(file), Ok(other)) if file == other);
+    match other {
+        Some(other) if !is_same(&other) => Save::anew(other, ticket),
+        _ => Save::back(file, ticket),
+    }
+}
+
+fn refused(file: &OsStr, number: u8, count: u32) -> Failure {
+    let file = called(file);
+    let why = match number {
+        TOO_MANY_ENTRIES => format!("{file} has a count of {count}: at most {} entries more can be asked for", u32::MAX - count),
+        _ => format!("{file} does not stand at a place of this ticket's walk"),
+    };
+    Failure::refused(format!("{why} (refused by {number}); it is left as it is"))
+}
