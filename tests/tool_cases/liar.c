@@ -15,8 +15,10 @@ uint64_t TRUE(judge)(const uint8_t *table, size_t table_len, const uint8_t *answ
 uint64_t TRUE(holding)(const uint8_t *table, size_t table_len, const uint8_t *answer, size_t answer_len, uint32_t clause, uint32_t value_80,
                        uint32_t value_81, uint32_t value_82, uint32_t value_83);
 uint64_t TRUE(fit_relevancy)(const uint8_t *table, size_t table_len, uint8_t *answer, size_t answer_len, uint8_t *work, size_t work_len);
-uint64_t TRUE(fit_magic)(const uint8_t *table, size_t table_len, uint8_t *rules, size_t rules_len, uint8_t *answer, size_t answer_len,
-                         uint8_t *work, size_t work_len);
+uint64_t TRUE(resume_relevancy)(struct lutsamik_session *session, uint32_t further, const uint8_t *table, size_t table_len, uint8_t *answer,
+                                size_t answer_len, uint8_t *work, size_t work_len);
+uint64_t TRUE(resume_magic)(struct lutsamik_session *session, uint32_t further, const uint8_t *table, size_t table_len, uint8_t *rules,
+                            size_t rules_len, uint8_t *answer, size_t answer_len, uint8_t *work, size_t work_len);
 
 static int lie(const char *name) {
     const char *lie = getenv("LIE");
@@ -76,18 +78,45 @@ uint64_t lutsamik_holding(const uint8_t *table, size_t table_len, const uint8_t 
     return lie("holding") ? held + ONE_ENTRY : held;
 }
 
-/* A count of both engines that is one too high, where there is one; another fitting at the root. */
+/* Another fitting at the root. */
 uint64_t lutsamik_fit_relevancy(const uint8_t *table, size_t table_len, uint8_t *answer, size_t answer_len, uint8_t *work, size_t work_len) {
     uint64_t fit = TRUE(fit_relevancy)(table, table_len, answer, answer_len, work, work_len);
     if (lie("wanted") && lutsamik_count(fit) == 0) answer[2] ^= 1;
-    return lie("count of both") && lutsamik_count(fit) > 0 ? fit + ONE_ENTRY : fit;
+    return fit;
 }
 
-/* Another count, verdict or fitting than the relevancy engine's. */
-uint64_t lutsamik_fit_magic(const uint8_t *table, size_t table_len, uint8_t *rules, size_t rules_len, uint8_t *answer, size_t answer_len,
-                            uint8_t *work, size_t work_len) {
-    uint64_t fit = TRUE(fit_magic)(table, table_len, rules, rules_len, answer, answer_len, work, work_len);
+/* What both engines say of going on: a count that is one too high, where there is one, of the session too or alone; a session that an engine left is
+ * refused; or one that has too many entries is not. */
+static uint64_t both(uint64_t fit, uint32_t further, struct lutsamik_session *session) {
+    if (lie("refused") && further > 0) return LUTSAMIK_NO_SESSION;
+    if (lie("never too many") && lutsamik_refusal(fit) == LUTSAMIK_TOO_MANY_ENTRIES) {
+        return (uint64_t)session->count << 32 | (uint64_t)session->verdict << 8;
+    }
+    if (lutsamik_refusal(fit) != LUTSAMIK_OK || lutsamik_count(fit) == 0) return fit;
+    if (lie("count of both") || lie("count of sessions")) session->count++;
+    return lie("count of both") ? fit + ONE_ENTRY : fit;
+}
+
+uint64_t lutsamik_resume_relevancy(struct lutsamik_session *session, uint32_t further, const uint8_t *table, size_t table_len, uint8_t *answer,
+                                   size_t answer_len, uint8_t *work, size_t work_len) {
+    return both(TRUE(resume_relevancy)(session, further, table, table_len, answer, answer_len, work, work_len), further, session);
+}
+
+/* Another count, verdict, fitting or session than the relevancy engine's, or a refusal. */
+uint64_t lutsamik_resume_magic(struct lutsamik_session *session, uint32_t further, const uint8_t *table, size_t table_len, uint8_t *rules,
+                               size_t rules_len, uint8_t *answer, size_t answer_len, uint8_t *work, size_t work_len) {
+    uint64_t fit = TRUE(resume_magic)(session, further, table, table_len, rules, rules_len, answer, answer_len, work, work_len);
     if (lie("fitting")) answer[0] ^= 1;
-    if (lie("verdict")) return fit ^ OTHER_VERDICT;
-    return lie("count") || (lie("count of both") && lutsamik_count(fit) > 0) ? fit + ONE_ENTRY : fit;
+    if (lie("session")) session->next ^= 1;
+    if (lie("zeros")) session->nexts[1023] = 1;
+    if (lie("refused by one")) return LUTSAMIK_NO_SESSION;
+    if (lie("verdict")) {
+        session->verdict ^= 1;
+        return fit ^ OTHER_VERDICT;
+    }
+    if (lie("count")) {
+        session->count++;
+        return fit + ONE_ENTRY;
+    }
+    return both(fit, further, session);
 }
