@@ -24,6 +24,25 @@ extern "C" {
     fn kill(process: i32, number: i32) -> i32;
 }
 
+/// A command that runs, and does not outlive the test.
+struct Running(Child);
+
+impl Running {
+    fn output(&mut self) -> Output {
+        let (mut stdout, mut stderr) = (Vec::new(), Vec::new());
+        self.0.stdout.take().map(|mut pipe| pipe.read_to_end(&mut stdout));
+        self.0.stderr.take().map(|mut pipe| pipe.read_to_end(&mut stderr));
+        Output { status: self.0.wait().expect("the command ends"), stdout, stderr }
+    }
+}
+
+impl Drop for Running {
+    fn drop(&mut self) {
+        let _ = self.0.kill();
+        let _ = self.0.wait();
+    }
+}
+
 /// What a stopped tool says of its walk.
 struct Stopped {
     count: u32,
@@ -34,11 +53,14 @@ struct Stopped {
 
 fn main() {
     listen(DEFAULT);
+    let session = fresh("long");
+    let long = started(tool(&["fit", "--engine", "magic", "--save", &session, ENDLESS]), &session, 0);
     saved_and_resumed();
     to_the_end();
     at_a_terminal();
     unsaved();
     at_any_time();
+    written_meanwhile(long, &session);
     deaf();
     println!("stopped: all as it must be");
 }
@@ -49,13 +71,17 @@ fn listen(handler: usize) {
 }
 
 /// Types Ctrl-C, and waits for the end.
-fn stop(tool: Child) -> Output {
+fn stop(mut tool: Running) -> Output {
     send(&tool, SIGINT);
-    tool.wait_with_output().expect("the tool ends")
+    tool.output()
 }
 
-fn send(tool: &Child, number: i32) {
-    assert_eq!(0, unsafe { kill(tool.id() as i32, number) }, "the tool has ended too soon");
+fn send(tool: &Running, number: i32) {
+    assert_eq!(0, unsafe { kill(tool.0.id() as i32, number) }, "the tool has ended too soon");
+}
+
+fn run(mut command: Command) -> Running {
+    Running(command.spawn().expect("the command runs"))
 }
 
 fn tool(words: &[&str]) -> Command {
@@ -65,19 +91,20 @@ fn tool(words: &[&str]) -> Command {
 }
 
 fn ran(words: &[&str]) -> Output {
-    tool(words).output().expect("the tool runs")
+    run(tool(words)).output()
 }
 
 /// Starts a command, and waits until the tool has written its session, and then so long.
-fn started(mut command: Command, session: &str, milliseconds: u64) -> Child {
+fn started(command: Command, session: &str, milliseconds: u64) -> Running {
     let written = || fs::metadata(session).ok().filter(|there| there.len() > 0).and_then(|there| there.modified().ok());
     let before = written();
-    let child = command.spawn().expect("the command runs");
+    let mut running = run(command);
     while written() == before {
+        assert!(running.0.try_wait().expect("the command is asked").is_none(), "it ended without a session");
         sleep(Duration::from_millis(1));
     }
     sleep(Duration::from_millis(milliseconds));
-    child
+    running
 }
 
 /// What a tool says that Ctrl-C has stopped: nothing of a verdict, and how far it came.
@@ -158,8 +185,8 @@ fn at_a_terminal() {
     let mut command = Command::new("script");
     command.args(["-qec", &format!("./lutsamik fit --save {session} {ENDLESS}"), "/dev/null"]).stdin(Stdio::piped()).stdout(Stdio::piped());
     let mut typed = started(command, &session, 1000);
-    typed.stdin.as_mut().expect("a pipe").write_all(b"\x03").expect("the terminal takes a key");
-    let said = text(&typed.wait_with_output().expect("the tool ends").stdout);
+    typed.0.stdin.as_mut().expect("a pipe").write_all(b"\x03").expect("the terminal takes a key");
+    let said = text(&typed.output().stdout);
     let (drawn, stopped) = said.rsplit_once("\r\x1b[K").expect("a line that is taken away");
     assert!(drawn.contains(&format!(" of at most {ENDLESS_LIMIT} entries, ")), "{said}");
     assert!(stopped.starts_with(&format!("lutsamik: stopped by Ctrl-C after {} of", count_in(&session))), "{said}");
@@ -168,7 +195,7 @@ fn at_a_terminal() {
 /// Without a session. Where Ctrl-C comes before the tool has begun with the walk, it says nothing, and is left more time.
 fn unsaved() {
     let stopped = |milliseconds| {
-        let tool = tool(&["fit", ENDLESS]).spawn().expect("the tool runs");
+        let tool = run(tool(&["fit", ENDLESS]));
         sleep(Duration::from_millis(milliseconds));
         stop(tool)
     };
@@ -184,11 +211,27 @@ fn at_any_time() {
         let session = fresh("any_time");
         let mut ended = started(tool(&["fit", "--save", &session, ENDLESS]), &session, 7 * i as u64);
         signals.iter().for_each(|number| send(&ended, *number));
-        assert_eq!(Some(signals[0]), ended.wait().expect("the tool ends").signal());
+        assert_eq!(Some(signals[0]), ended.output().status.signal());
         let output = ran(&["resume", &session, ENDLESS, "--further", "0"]);
         assert_eq!(Some(20), output.status.code(), "{}", text(&output.stderr));
         is_of_one_run(&session, count_in(&session));
     }
+}
+
+/// A long walk writes its session from time to time.
+fn written_meanwhile(mut long: Running, session: &str) {
+    for _ in 0..600 {
+        if count_in(session) > 0 {
+            break;
+        }
+        sleep(Duration::from_millis(100));
+    }
+    send(&long, SIGKILL);
+    long.output();
+    let count = count_in(session);
+    assert!(count > 0, "no session was written in a minute");
+    let output = ran(&["resume", session, ENDLESS, "--further", "0"]);
+    assert!(text(&output.stdout).contains(&format!("\nentries: {count} of at most {count}\n")), "{}", text(&output.stderr));
 }
 
 /// A tool that is started deaf to Ctrl-C, as one in the background is, stays so.
@@ -198,10 +241,7 @@ fn deaf() {
     let mut tool = started(tool(&["fit", "--save", &session, ENDLESS]), &session, 100);
     send(&tool, SIGINT);
     sleep(Duration::from_millis(500));
-    assert!(tool.try_wait().expect("the tool is asked").is_none(), "the tool was deaf");
+    assert!(tool.0.try_wait().expect("the tool is asked").is_none(), "the tool was deaf");
     send(&tool, SIGKILL);
-    tool.wait().expect("the tool ends");
-    let mut said = String::new();
-    tool.stderr.take().expect("a pipe").read_to_string(&mut said).expect("what the tool says is read");
-    assert_eq!("", said);
+    assert_eq!("", text(&tool.output().stderr));
 }
