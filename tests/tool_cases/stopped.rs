@@ -126,7 +126,7 @@ fn text(bytes: &[u8]) -> String {
 }
 
 fn fresh(name: &str) -> String {
-    let file = format!("{OUT}{name}");
+    let file = format!("{OUT}{name}.session");
     let _ = fs::remove_file(&file);
     file
 }
