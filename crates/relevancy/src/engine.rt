@@ -4,6 +4,8 @@ use crate::further::go_further;
 use ground::verdict::Verdict;
 use ground::verdict::limit_in;
 use relevancy_node::index::build;
+use relevancy_resume::left::root_alternatives;
+use relevancy_walk::place::root;
 use relevancy_walk::trail::from_root;
 use session::record::Moved;
 use session::record::Session;
@@ -36,17 +38,10 @@ fn decide(table: &[u8], answer: &mut [u8], facts: &mut [u8]) -> Moved
     lists::zero(facts);
     let mut path = [0u8; 9225];
     let limit = limit_in(table);
-    let walked = from_root(table, &conds, &alts, facts, &mut path, limit);
-    conclude(
-        table,
-        &conds,
-        &alts,
-        facts,
-        &mut path,
-        answer,
-        walked,
-        limit,
-    )
+    let found = root(table, &conds, &alts, facts, &mut path);
+    let used = root_alternatives(table, &path, found);
+    let walked = from_root(table, &conds, &alts, facts, &mut path, found, limit);
+    conclude(table, facts, &path, answer, walked, limit, used)
 }
 
 // The same, in the first part of the work buffer, which is left zero.

@@ -1,7 +1,9 @@
 // Going on with the session of a record: 41 and 42, then the run from where it stands.
 use crate::end::conclude;
 use relevancy_node::index::build;
+use relevancy_resume::left::root_alternatives;
 use relevancy_resume::resume::go_on;
+use relevancy_walk::place::root;
 use session::record::Moved;
 use session::record::Session;
 use session::record::refused;
@@ -35,6 +37,8 @@ fn further_run(
     let nexts = session.nexts;
     let steps = session.length as usize;
     let limit = session.count + further;
+    let found = root(table, &conds, &alts, &mut facts, &mut path);
+    let used = root_alternatives(table, &path, found);
     let went = go_on(
         table,
         &conds,
@@ -44,6 +48,7 @@ fn further_run(
         &atoms,
         &nexts,
         steps,
+        found,
         session.verdict,
         session.next,
         session.count,
@@ -53,16 +58,7 @@ fn further_run(
         return refused(session, 42);
     };
     lists::zero(work);
-    conclude(
-        table,
-        &conds,
-        &alts,
-        &mut facts,
-        &mut path,
-        answer,
-        walked,
-        limit,
-    )
+    conclude(table, &facts, &path, answer, walked, limit, used)
 }
 
 // 41, then 42 where the record holds no session, then the run from where it stands.

@@ -1,7 +1,6 @@
 // Going on with a session: its path is entered again without being counted, and the walk goes on from its last node.
 use relevancy_walk::place::alternatives_at;
 use relevancy_walk::place::enter;
-use relevancy_walk::place::root;
 use relevancy_walk::trail::try_next;
 use store::undo;
 use walk::alternatives::is_taken;
@@ -18,14 +17,13 @@ ghost use mathlib.Core.Option.{some};
 ghost use mathlib.Core.Path.{_≡_};
 ghost use Prim.Native.Nat.{_≤_};
 ghost use lib.ListN.{length};
-ghost use Rattle.store.specs.contracts.Store.{Store};
 ghost use Rattle.problem.specs.Table.{Lawful};
 ghost use Rattle.relevancy_node.specs.contracts.Index.{ClausesIndexed};
 ghost use Rattle.ground.specs.Instance.{Instance};
 ghost use Rattle.search.specs.Session.{pathOf, placeOf};
 ghost use Rattle.walk.specs.contracts.Walker.{Run};
-ghost use Rattle.walk.specs.contracts.Path.{Room, markAt, pathIn};
-ghost use Rattle.walk.specs.contracts.Place.{Parted, Reached, Trying};
+ghost use Rattle.walk.specs.contracts.Path.{markAt, pathIn};
+ghost use Rattle.walk.specs.contracts.Place.{Parted, Reached, Trying, Beginning};
 ghost use Rattle.walk.specs.contracts.Walk.{Leaves, Ended};
 ghost use Rattle.walk.specs.Numbers.{stepsIn, sessionOf};
 ghost use Rattle.walk.specs.contracts.Resume.{lastIn, Resumes, GoesOn};
@@ -188,7 +186,7 @@ fn resume(
     Resumed::On(rest)
 }
 
-// Goes on with a session of so many steps, in a set without facts.
+// Goes on with a session of so many steps, from the root on, which has just been found so.
 pub fn go_on(
     table: &[u8],
     conds: &[u16; 384],
@@ -198,6 +196,7 @@ pub fn go_on(
     atoms: &[u16],
     nexts: &[u8],
     steps: usize,
+    found: Found,
     standing: u8,
     next: u8,
     count: u32,
@@ -205,12 +204,11 @@ pub fn go_on(
 ) -> Resumed
     requires { ⌜ Lawful (now table) ⌝ }
     requires { ⌜ ClausesIndexed (now table) false (now conds) × ClausesIndexed (now table) true (now alts) ⌝ }
-    requires { ⌜ Store 2050 (now facts) 0 × Room (now path) 0 ⌝ }
+    requires { ⌜ Beginning (relevancyWalker (now table)) found (now facts) (now path) ⌝ }
     requires { ⌜ (steps ≤ length (now atoms)) × (steps ≤ length (now nexts)) ⌝ }
     requires { ⌜ count ≤ limit ⌝ }
     ensures { λ x. ⌜ GoesOn (relevancyWalker (now (table .entry))) (placeOf ((relevancyWalker (now (table .entry))) .find) (sessionOf standing count (now (atoms .entry)) (now (nexts .entry)) steps next)) count limit x (now (facts .exit)) (now (path .exit)) ⌝ }
 {
-    let found = root(table, conds, alts, facts, path);
     resume(
         table,
         conds,

@@ -1,7 +1,6 @@
 // The walk: visiting a node, which calls the trying of alternatives, which calls visiting.
 use crate::place::alternative;
 use crate::place::place;
-use crate::place::root;
 use ground::branch::NextBranch;
 use store::undo;
 use walk::answer::Found;
@@ -10,13 +9,12 @@ use walk::node::mark;
 ghost use mathlib.Core.Bool.{true, false};
 ghost use mathlib.Core.Path.{_≡_};
 ghost use Prim.Native.Nat.{_≤_};
-ghost use Rattle.store.specs.contracts.Store.{Store};
 ghost use Rattle.problem.specs.Table.{Lawful};
 ghost use Rattle.relevancy_node.specs.contracts.Index.{ClausesIndexed};
 ghost use Rattle.ground.specs.Instance.{Instance};
 ghost use Rattle.walk.specs.contracts.Walker.{Run, fromRoot};
-ghost use Rattle.walk.specs.contracts.Path.{Room, markAt};
-ghost use Rattle.walk.specs.contracts.Place.{Parted, Reached, Visiting, Trying};
+ghost use Rattle.walk.specs.contracts.Path.{markAt};
+ghost use Rattle.walk.specs.contracts.Place.{Parted, Reached, Visiting, Trying, Beginning};
 ghost use Rattle.walk.specs.contracts.Walk.{Leaves, Ended, Walks};
 ghost use Rattle.relevancy_walk.specs.contracts.Place.{relevancyWalker};
 
@@ -109,20 +107,20 @@ pub fn try_next(
     }
 }
 
-// The whole walk under a limit, from the root on, in a set without facts.
+// The whole walk under a limit, from the root on, which has just been found so.
 pub fn from_root(
     table: &[u8],
     conds: &[u16; 384],
     alts: &[u16; 384],
     facts: &mut [u8],
     path: &mut [u8],
+    found: Found,
     limit: u32,
 ) -> Walked
     requires { ⌜ Lawful (now table) ⌝ }
     requires { ⌜ ClausesIndexed (now table) false (now conds) × ClausesIndexed (now table) true (now alts) ⌝ }
-    requires { ⌜ Store 2050 (now facts) 0 × Room (now path) 0 ⌝ }
+    requires { ⌜ Beginning (relevancyWalker (now table)) found (now facts) (now path) ⌝ }
     ensures { λ x. ⌜ Walks (relevancyWalker (now (table .entry))) (fromRoot (relevancyWalker (now (table .entry))) limit) x (now (facts .exit)) (now (path .exit)) ⌝ }
 {
-    let found = root(table, conds, alts, facts, path);
     visit(table, conds, alts, facts, path, 0, 0, found, 0, limit)
 }

@@ -27,23 +27,21 @@ conclude-spec =
     (λ c. let s = c .before .before .before .before .before .before in omega (arith, table-size (s .args .table .now) (s .pre .0)))  -- shared-slice-read-pair-2
     (λ c κs. search needs)  -- pair-requires
     (λ c κs.
-    let s = c .before .before .before .before .before .before .before .before .before in
-    let n = atoms-are (c .before .before) in
+    let s = c .before .before .before .before .before .before .before .before in
+    let n = atoms-are (c .before) in
     let few = atoms-few (problemIn (s .args .table .now)) (s .pre .0 .fits) in
     let sizes = s .pre .1 .1 .0 in
     (omega (arith, n, few), omega (arith, n, few, sizes .0), omega (arith, sizes .1)))  -- give-model-requires
-    (λ c κs. let s = c .before .before .before .before .before .before .before .before .before .before .before .before .before .before in let run = s .pre .1 .1 .1 in (s .pre .0, (s .pre .1 .0, ((s .pre .1 .1 .0 .1, s .pre .1 .1 .0 .2), (run .0, run .1 .1)))))  -- path-left-requires
+    (λ c κs. let s = c .before .before .before .before .before .before .before .before .before .before .before in let run = s .pre .1 .1 .1 in (s .pre .0, (s .pre .1 .0, (s .args .facts .now, (run .0, run .1 .1)))))  -- path-left-requires
     (λ c κs.
-    let s = c .before .before .before .before .before .before .before .before .before .before .before .before .before .before .before .before .before .before .before in
+    let s = c .before .before .before .before .before .before .before .before .before .before .before .before in
     let run = s .pre .1 .1 .1 in
     ends-within (relevancyWalker (s .args .table .now)) (run .0) (s .args .walked) (s .args .facts .now) (s .args .path .now) (run .1 .1))  -- moved-requires
     (λ c. search needs)  -- same-length
-    (λ c. search needs)  -- same-length-2
-    (λ c. search needs)  -- same-length-3
     (λ c.
-    let a = c .before .before .before .before .before .before .before .before .before .before .before .before .before .before .before .before .before .before .before .before .args in
+    let a = c .before .before .before .before .before .before .before .before .before .before .before .before .before .args in
     let tb : List ℕ = a .table .now in
-    let give = c .before .before .before .before .before .before .before .before .before .before .give-model in
-    let left = c .before .before .before .before .before .path-left in
+    let give = c .before .before .before .before .give-model in
+    let left = c .before .path-left in
     concluded (relevancyWalker tb) (tied tb) (a .walked) (a .limit) (a .facts .now) (a .path .now) (a .answer .now) (left .result) (c .moved .result) (give .last .1 .1 .0) (left .ensures)
-    (c .moved .ensures) ((c .before .before .before .before .before .before .before .before .before .before .before .before .before) .pair .result) (atoms-are (c .before .before .before .before .before .before .before .before .before .before .before .before .before)) (give .ensures)))  -- returns
+    (c .moved .ensures) ((c .before .before .before .before .before .before) .pair .result) (atoms-are (c .before .before .before .before .before .before)) (give .ensures)))  -- returns

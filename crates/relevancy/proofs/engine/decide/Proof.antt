@@ -21,7 +21,7 @@ decide-spec =
     (λ c κs. search needs)  -- build-requires-2
     (λ c κs. search needs)  -- zero-requires
     (λ c κs. let s = c .before .before .before .before .before .before .before .before .before in table-size (s .args .table .now) (s .pre .0))  -- limit-in-requires
-    (λ c. search needs)  -- slice-aggregate-from-root
+    (λ c. search needs)  -- slice-aggregate-root
     (λ c κs.
     let s = c .before .before .before .before .before .before .before .before .before .before .before .before .before .before in
     let z = c .before .before .before .before .before .before .before .zero in (
@@ -30,26 +30,30 @@ decide-spec =
         ((c .before .before .before .before .before .before .before .before .before .before) .build .ensures, (c .before .before .before .before .before .before .before .before .before) .build2 .ensures),
         (blank-store 2050 (z .last .0) (length (s .args .facts .now)) (s .pre .1 .1) (z .ensures), record { size = length-replicate {A = ℕ} 9225 0; deep = omega arith }),
       ),
-    ))  -- from-root-requires
+    ))  -- root-requires
+    (λ c. search needs)  -- slice-aggregate-root-alternatives
+    (λ c κs. let s = c .before .before .before .before .before .before .before .before .before .before .before .before .before .before .before .before .before .before .before in let b = c .before .before .before .before .root in (s .pre .0, (b .last .1 .1 .1 .0, b .ensures)))  -- root-alternatives-requires
+    (λ c. search needs)  -- slice-aggregate-from-root
+    (λ c κs. let s = c .before .before .before .before .before .before .before .before .before .before .before .before .before .before .before .before .before .before .before .before .before .before .before .before in (s .pre .0, (((c .before .before .before .before .before .before .before .before .before .before .before .before .before .before .before .before .before .before .before .before) .build .ensures, (c .before .before .before .before .before .before .before .before .before .before .before .before .before .before .before .before .before .before .before) .build2 .ensures), (c .before .before .before .before .before .before .before .before .before) .root .ensures)))  -- from-root-requires
     (λ c. search needs)  -- slice-aggregate-conclude
     (λ c κs.
-    let s = c .before .before .before .before .before .before .before .before .before .before .before .before .before .before .before .before .before .before .before .before .before .before .before in
-    let f = c .before .before .before .before .before .before .before .before .from-root in (
+    let s = c .before .before .before .before .before .before .before .before .before .before .before .before .before .before .before .before .before .before .before .before .before .before .before .before .before .before .before .before .before .before .before in
+    let f = c .before .before .before .before .before .before .from-root in (
       s .pre .0,
       (
-        ((c .before .before .before .before .before .before .before .before .before .before .before .before .before .before .before .before .before .before .before) .build .ensures, (c .before .before .before .before .before .before .before .before .before .before .before .before .before .before .before .before .before .before) .build2 .ensures),
+        (c .before .before .before .before .before .before .before .before .before .before .before) .root-alternatives .ensures,
         (
-          (s .pre .1 .0, f .kept .1 .1 .1 .0 ∙ (c .before .before .before .before .before .before .before .before .before .before .before .before .before .before .before .before) .zero .kept .0 ∙ s .pre .1 .1, f .kept .1 .1 .1 .1 .0 ∙ length-replicate {A = ℕ} 9225 0),
-          (fromRoot (relevancyWalker (s .args .table .now)) ((c .before .before .before .before .before .before .before .before .before .before .before .before .before) .limit-in .result), (refl, f .ensures)),
+          (s .pre .1 .0, f .kept .1 .1 .1 .0 ∙ (c .before .before .before .before .before .before .before .before .before .before .before .before .before .before .before .before) .root .kept .1 .1 .1 .0 ∙ (c .before .before .before .before .before .before .before .before .before .before .before .before .before .before .before .before .before .before .before .before .before .before .before .before) .zero .kept .0 ∙ s .pre .1 .1),
+          (fromRoot (relevancyWalker (s .args .table .now)) ((c .before .before .before .before .before .before .before .before .before .before .before .before .before .before .before .before .before .before .before .before .before) .limit-in .result), (refl, f .ensures)),
         ),
       ),
     ))  -- conclude-requires
     (λ c. search needs)  -- same-length
-    (λ c. search needs)  -- same-length-2
+    (λ c. (c .before .before .before .before .before .before .before .before .before) .from-root .kept .1 .1 .1 .0 ∙ (c .before .before .before .before .before .before .before .before .before .before .before .before .before .before .before .before .before .before .before) .root .kept .1 .1 .1 .0 ∙ (c .before .before .before .before .before .before .before .before .before .before .before .before .before .before .before .before .before .before .before .before .before .before .before .before .before .before .before) .zero .kept .0)  -- same-length-2
     (λ c.
-    let a = c .before .before .before .before .before .before .before .before .before .before .before .before .before .before .before .before .before .before .before .before .before .before .before .before .before .before .before .before .before .args in
-    let l = c .before .before .before .before .before .before .before .before .before .before .before .before .before .before .before .before .before .before .before .limit-in in
-    let f = c .before .before .before .before .before .before .before .before .before .before .before .before .before .before .from-root in
-    let d = c .before .before .before .before .before .conclude in
-    first-run (a .table .now) (l .result) (l .ensures ∙ limit-of (a .table .now)) (a .answer .now) (d .result) (d .last .1 .1 .1 .1 .1 .0)
+    let a = c .before .before .before .before .before .before .before .before .before .before .before .before .before .before .before .before .before .before .before .before .before .before .before .before .before .before .before .before .before .before .before .before .before .before .args in
+    let l = c .before .before .before .before .before .before .before .before .before .before .before .before .before .before .before .before .before .before .before .before .before .before .before .before .limit-in in
+    let f = c .before .before .before .before .before .before .before .before .before .from-root in
+    let d = c .before .before .conclude in
+    first-run (a .table .now) (l .result) (l .ensures ∙ limit-of (a .table .now)) (a .answer .now) (d .result) (d .last .1 .1 .1 .0)
     (d .ensures (fromRoot (relevancyWalker (a .table .now)) (l .result)) refl (f .ensures))))  -- returns

@@ -2,7 +2,7 @@
 use Prim.Native.Nat.{ℕ, _+_}
 use mathlib.Core.Bool.{true}
 use mathlib.Core.List.{List}
-use mathlib.Core.Path.{_≡_, refl, _∙_}
+use mathlib.Core.Path.{_≡_, refl, sym, _∙_}
 use native.Mathlib.Omega.{arith}
 use borrow.Author.Needs.{needs}
 use lib.ListN.{length, replicate, length-replicate}
@@ -24,11 +24,11 @@ zeros-long : (xs : List ℕ) (n : ℕ) → length xs ≡ length {A = ℕ} (repli
 zeros-long xs n e = e ∙ length-replicate n 0
 
 -- there are as many slots
-long-atoms : (c : tie.After-nexts2) → length (c .before .before .before .before .before .before .before .before .before .before .before .before .before .before .before .args .session .atoms) ≡ 1024
-long-atoms c = search needs
+long-atoms : (s : tie.Start) → length (s .args .session .atoms) ≡ 1024
+long-atoms s = search needs
 
-long-nexts : (c : tie.After-nexts2) → length (c .before .before .before .before .before .before .before .before .before .before .before .before .before .before .before .args .session .nexts) ≡ 1024
-long-nexts c = search needs
+long-nexts : (s : tie.Start) → length (s .args .session .nexts) ≡ 1024
+long-nexts s = search needs
 
 pub further-run-spec : {M : Type 1} → statement M
 further-run-spec =
@@ -38,27 +38,36 @@ further-run-spec =
     (λ c κs. search needs)  -- build-requires-2
     (λ c. search needs)  -- cast-steps
     (λ c. search needs)  -- add-limit
+    (λ c. search needs)  -- slice-aggregate-root
+    (λ c. search needs)  -- slice-aggregate-root-2
+    (λ c κs.
+    let s = c .before .before .before .before .before .before .before .before .before .before .before .before .before in (
+      s .pre .0,
+      (
+        ((c .before .before .before .before .before .before .before .before .before) .build .ensures, (c .before .before .before .before .before .before .before .before) .build2 .ensures),
+        (blank-store 2050 (replicate 6150 0) 6150 (omega arith) refl, record { size = length-replicate {A = ℕ} 9225 0; deep = omega arith }),
+      ),
+    ))  -- root-requires
+    (λ c. search needs)  -- slice-aggregate-root-alternatives
+    (λ c κs. let s = c .before .before .before .before .before .before .before .before .before .before .before .before .before .before .before .before .before in let b = c .before .before .before .root in (s .pre .0, (b .last .1 .1 .1 .0, b .ensures)))  -- root-alternatives-requires
     (λ c. search needs)  -- slice-aggregate-go-on
     (λ c. search needs)  -- slice-aggregate-go-on-2
-    (λ c. search needs)  -- slice-aggregate-go-on-3
-    (λ c. search needs)  -- slice-aggregate-go-on-4
+    (λ c. sym (long-atoms (c .before .before .before .before .before .before .before .before .before .before .before .before .before .before .before .before .before .before .before .before .before .before .before)))  -- slice-aggregate-go-on-3
+    (λ c. sym (long-nexts (c .before .before .before .before .before .before .before .before .before .before .before .before .before .before .before .before .before .before .before .before .before .before .before .before)))  -- slice-aggregate-go-on-4
     (λ c κs.
-    let s = c .before .before .before .before .before .before .before .before .before .before .before .before .before .before .before in
+    let s = c .before .before .before .before .before .before .before .before .before .before .before .before .before .before .before .before .before .before .before .before .before .before .before .before in
     let few = s .pre .1 .1 .1 in (
       s .pre .0,
       (
-        ((c .before .before .before .before .before .before .before .before .before .before .before) .build .ensures, (c .before .before .before .before .before .before .before .before .before .before) .build2 .ensures),
-        (
-          (blank-store 2050 (replicate 6150 0) 6150 (omega arith) refl, record { size = length-replicate {A = ℕ} 9225 0; deep = omega arith }),
-          ((omega (arith, few, long-atoms c), omega (arith, few, long-nexts c)), omega arith),
-        ),
+        ((c .before .before .before .before .before .before .before .before .before .before .before .before .before .before .before .before .before .before .before .before) .build .ensures, (c .before .before .before .before .before .before .before .before .before .before .before .before .before .before .before .before .before .before .before) .build2 .ensures),
+        ((c .before .before .before .before .before .before .before .before .before .before) .root .ensures, ((omega (arith, few, long-atoms s), omega (arith, few, long-nexts s)), omega arith)),
       ),
     ))  -- go-on-requires
     (λ c. search needs)  -- enum-known-went
     (λ c. search needs)  -- enum-told
     (λ c κs. search needs)  -- refused-requires
     (λ c.
-    let s = c .before .before .before .before .before .before .before .before .before .before .before .before .before .before .before .before .before .before .before .before .before in
+    let s = c .before .before .before .before .before .before .before .before .before .before .before .before .before .before .before .before .before .before .before .before .before .before .before .before .before .before .before .before .before .before in
     let a = s .args in
     let q = c .before .before .before .before .before .go-on in
     left-refused (calledIn (findR (groundIn (a .table .now))) (a .session) (a .further)) (a .session) (a .answer .now) (a .work .now) 42
@@ -68,15 +77,15 @@ further-run-spec =
     (λ c. search needs)  -- slice-aggregate-conclude
     (λ c. search needs)  -- slice-aggregate-conclude-2
     (λ c κs.
-    let s = c .before .before .before .before .before .before .before .before .before .before .before .before .before .before .before .before .before .before .before .before .before .before .before .before .before .before .before .before .before .before in
+    let s = c .before .before .before .before .before .before .before .before .before .before .before .before .before .before .before .before .before .before .before .before .before .before .before .before .before .before .before .before .before .before .before .before .before .before .before .before .before in
     let a = s .args in
-    let q = c .before .before .before .before .before .before .before .before .before .before .before .before .before .before .go-on in
-    let g = c .before .before .before .before .before .before .before .before .before .before .went .given in (
+    let q = c .before .before .before .before .before .before .before .before .before .before .before .before .go-on in
+    let g = c .before .before .before .before .before .before .before .before .went .given in (
       s .pre .0,
       (
-        ((c .before .before .before .before .before .before .before .before .before .before .before .before .before .before .before .before .before .before .before .before .before .before .before .before .before .before) .build .ensures, (c .before .before .before .before .before .before .before .before .before .before .before .before .before .before .before .before .before .before .before .before .before .before .before .before .before) .build2 .ensures),
+        (c .before .before .before .before .before .before .before .before .before .before .before .before .before .before .before .before .before .before .before) .root-alternatives .ensures,
         (
-          (s .pre .1 .0 .0, zeros-long (q .last .1 .1 .1 .0) 6150 (q .kept .1 .1 .1 .0), zeros-long (q .last .1 .1 .1 .1 .0) 9225 (q .kept .1 .1 .1 .1 .0)),
+          (s .pre .1 .0 .0, zeros-long (q .last .1 .1 .1 .0) 6150 (q .kept .1 .1 .1 .0 ∙ (c .before .before .before .before .before .before .before .before .before .before .before .before .before .before .before .before .before .before .before .before .before .before .before) .root .kept .1 .1 .1 .0)),
           further-walks (relevancyWalker (a .table .now)) (a .session) (a .further) (kept s) (s .pre .1 .1 .2) (a .session .count + a .further) (q .result) (q .last .1 .1 .1 .0) (q .last .1 .1 .1 .1 .0) (q .ensures) (g .0 .0) (g .1),
         ),
       ),
@@ -84,11 +93,11 @@ further-run-spec =
     (λ c. search needs)  -- same-length
     (λ c. search needs)  -- same-length-2
     (λ c.
-    let s = c .before .before .before .before .before .before .before .before .before .before .before .before .before .before .before .before .before .before .before .before .before .before .before .before .before .before .before .before .before .before .before .before .before .before .before in
+    let s = c .before .before .before .before .before .before .before .before .before .before .before .before .before .before .before .before .before .before .before .before .before .before .before .before .before .before .before .before .before .before .before .before .before .before .before .before .before .before .before .before in
     let a = s .args in
-    let q = c .before .before .before .before .before .before .before .before .before .before .before .before .before .before .before .before .before .before .before .go-on in
-    let g = c .before .before .before .before .before .before .before .before .before .before .before .before .before .before .before .went .given in
-    let z = c .before .before .before .before .before .before .before .before .before .before .before .before .zero in
-    let d = c .before .before .before .before .conclude in
+    let q = c .before .before .before .before .before .before .before .before .before .before .before .before .before .before .before .go-on in
+    let g = c .before .before .before .before .before .before .before .before .before .before .before .went .given in
+    let z = c .before .before .before .before .before .before .before .before .zero in
+    let d = c .before .before .conclude in
     further-concluded (relevancyWalker (a .table .now)) (a .session) (a .further) (kept s) (s .pre .1 .1 .2) (a .session .count + a .further) (q .result) (q .last .1 .1 .1 .0) (q .last .1 .1 .1 .1 .0) (q .ensures) (g .0 .0) (g .1) refl
-    (a .answer .now) (a .work .now) (s .pre .1 .0 .1) (d .result) (d .last .1 .1 .1 .1 .1 .0) (z .last .0) (d .ensures) (z .ensures)))  -- returns-2
+    (a .answer .now) (a .work .now) (s .pre .1 .0 .1) (d .result) (d .last .1 .1 .1 .0) (z .last .0) (d .ensures) (z .ensures)))  -- returns-2
