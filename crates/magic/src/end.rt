@@ -1,37 +1,29 @@
 // The end of a run: its verdict, the model where there is one, and the session that it leaves.
 use lists::pair;
-use magic_resume::left::root_alternatives;
 use magic_resume::left::steps;
-use magic_walk::place::root;
 use session::end::Left;
 use session::end::give_model;
 use session::end::moved;
 use session::record::Moved;
 use walk::answer::Walked;
 use walk::node::next;
+ghost use mathlib.Core.List.{List, []};
 ghost use mathlib.Core.Path.{_≡_};
-ghost use Prim.Native.Nat.{_≤_};
+ghost use Prim.Native.Nat.{ℕ, _≤_};
 ghost use lib.ListN.{length};
+ghost use Rattle.search.specs.Session.{altsFound};
 ghost use Rattle.ground.specs.Instance.{Instance};
 ghost use Rattle.rewriting.specs.contracts.Ruled.{Ruled};
-ghost use Rattle.magic_node.specs.contracts.Index.{RulesIndexed};
 ghost use Rattle.walk.specs.contracts.Walker.{Run};
 ghost use Rattle.walk.specs.contracts.Walk.{Walks};
 ghost use Rattle.magic_walk.specs.contracts.Place.{magicWalker};
 ghost use Rattle.session.specs.contracts.End.{LeftBy, Concluded};
 
-// The path at the end of a run, written down. Where all is closed the root is made again, to see how many alternatives it had.
-fn path_left(
-    rules: &[u8],
-    index: &[u16; 1536],
-    facts: &mut [u8],
-    path: &mut [u8],
-    walked: Walked,
-) -> Left
+// The path at the end of a run, written down. Where all is closed it is the root alone, with all of its alternatives used.
+fn path_left(rules: &[u8], path: &[u8], walked: Walked, used: u8) -> Left
     requires { ⌜ Ruled (now rules) ⌝ }
-    requires { ⌜ RulesIndexed (now rules) (now index) ⌝ }
-    requires { ⌜ (length (now facts) ≡ 55302) × (length (now path) ≡ 9225) ⌝ }
-    requires { ⌜ ((r : Run Instance) × Walks (magicWalker (now rules)) r walked (now facts) (now path)) ⌝ }
+    requires { ⌜ ((facts : List ℕ) × ((r : Run Instance) × Walks (magicWalker (now rules)) r walked facts (now path))) ⌝ }
+    requires { ⌜ used ≡ length (altsFound ((magicWalker (now rules)) .find [])) ⌝ }
     ensures { λ x. ⌜ LeftBy (magicWalker (now (rules .entry))) walked (now (path .entry)) x ⌝ }
 {
     let mut atoms = [0u16; 1024];
@@ -55,33 +47,31 @@ fn path_left(
         }
         _ => {}
     }
-    lists::zero(facts);
-    let found = root(rules, index, facts, path);
     Left {
-        next: root_alternatives(rules, path, found),
+        next: used,
         atoms: atoms,
         nexts: nexts,
     }
 }
 
-// How a run ends that has made its walk in these buffers under a limit: of every run that ends so.
+// How a run ends that has made its walk in these buffers under a limit, from a root with so many alternatives: of every run that ends so.
 pub fn conclude(
     rules: &[u8],
-    index: &[u16; 1536],
-    facts: &mut [u8],
-    path: &mut [u8],
+    facts: &[u8],
+    path: &[u8],
     answer: &mut [u8],
     walked: Walked,
     limit: u32,
+    used: u8,
 ) -> Moved
     requires { ⌜ Ruled (now rules) ⌝ }
-    requires { ⌜ RulesIndexed (now rules) (now index) ⌝ }
-    requires { ⌜ (1024 ≤ length (now answer)) × (length (now facts) ≡ 55302) × (length (now path) ≡ 9225) ⌝ }
+    requires { ⌜ (1024 ≤ length (now answer)) × (length (now facts) ≡ 55302) ⌝ }
     requires { ⌜ ((r : Run Instance) × ((r .limit ≡ limit) × Walks (magicWalker (now rules)) r walked (now facts) (now path))) ⌝ }
+    requires { ⌜ used ≡ length (altsFound ((magicWalker (now rules)) .find [])) ⌝ }
     ensures { λ x. ⌜ ((r : Run Instance) → r .limit ≡ limit → Walks (magicWalker (now (rules .entry))) r walked (now (facts .entry)) (now (path .entry)) → Concluded (magicWalker (now (rules .entry))) r (now (answer .entry)) x (now (answer .exit))) ⌝ }
 {
     let atoms = pair(rules[8], rules[9]);
     give_model(walked, facts, answer, atoms);
-    let left = path_left(rules, index, facts, path, walked);
+    let left = path_left(rules, path, walked, used);
     moved(walked, limit, left)
 }

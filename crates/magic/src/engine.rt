@@ -4,6 +4,8 @@ use crate::further::run_on;
 use ground::verdict::Verdict;
 use ground::verdict::limit_in;
 use magic_node::index::build;
+use magic_resume::left::root_alternatives;
+use magic_walk::place::root;
 use magic_walk::trail::from_root;
 use rewriting::rewrite::write_rules;
 use session::record::Moved;
@@ -36,8 +38,10 @@ fn decide(rules: &[u8], limit: u32, answer: &mut [u8], facts: &mut [u8]) -> Move
     let index = build(rules);
     lists::zero(facts);
     let mut path = [0u8; 9225];
-    let walked = from_root(rules, &index, facts, &mut path, limit);
-    conclude(rules, &index, facts, &mut path, answer, walked, limit)
+    let found = root(rules, &index, facts, &mut path);
+    let used = root_alternatives(rules, &path, found);
+    let walked = from_root(rules, &index, facts, &mut path, found, limit);
+    conclude(rules, facts, &path, answer, walked, limit, used)
 }
 
 // Rewrites a valid table, walks by the rules alone in the first part of the work buffer, and leaves it zero.

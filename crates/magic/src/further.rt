@@ -2,7 +2,9 @@
 use crate::end::conclude;
 use ground::verdict::Verdict;
 use magic_node::index::build;
+use magic_resume::left::root_alternatives;
 use magic_resume::resume::go_on;
+use magic_walk::place::root;
 use rewriting::rewrite::write_rules;
 use session::record::Moved;
 use session::record::Session;
@@ -32,6 +34,8 @@ fn further_run(session: Session, further: u32, rules: &[u8], answer: &mut [u8]) 
     let nexts = session.nexts;
     let steps = session.length as usize;
     let limit = session.count + further;
+    let found = root(rules, &index, &mut facts, &mut path);
+    let used = root_alternatives(rules, &path, found);
     let went = go_on(
         rules,
         &index,
@@ -40,6 +44,7 @@ fn further_run(session: Session, further: u32, rules: &[u8], answer: &mut [u8]) 
         &atoms,
         &nexts,
         steps,
+        found,
         session.verdict,
         session.next,
         session.count,
@@ -48,7 +53,7 @@ fn further_run(session: Session, further: u32, rules: &[u8], answer: &mut [u8]) 
     let Resumed::On(walked) = went else {
         return refused(session, 42);
     };
-    conclude(rules, &index, &mut facts, &mut path, answer, walked, limit)
+    conclude(rules, &facts, &path, answer, walked, limit, used)
 }
 
 // 41, then 42 where the record holds no session, then the run by the table's rules, which are written in memory of its own too.

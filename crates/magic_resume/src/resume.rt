@@ -1,7 +1,6 @@
 // Going on with a session: its path is entered again without being counted, and the walk goes on from its last node.
 use magic_walk::place::alternatives_at;
 use magic_walk::place::enter;
-use magic_walk::place::root;
 use magic_walk::trail::try_next;
 use store::undo;
 use walk::alternatives::is_taken;
@@ -17,14 +16,13 @@ ghost use mathlib.Core.Option.{some};
 ghost use mathlib.Core.Path.{_≡_};
 ghost use Prim.Native.Nat.{_≤_};
 ghost use lib.ListN.{length};
-ghost use Rattle.store.specs.contracts.Store.{Store};
 ghost use Rattle.rewriting.specs.contracts.Ruled.{Ruled};
 ghost use Rattle.magic_node.specs.contracts.Index.{RulesIndexed};
 ghost use Rattle.ground.specs.Instance.{Instance};
 ghost use Rattle.search.specs.Session.{pathOf, placeOf};
 ghost use Rattle.walk.specs.contracts.Walker.{Run};
-ghost use Rattle.walk.specs.contracts.Path.{Room, markAt, pathIn};
-ghost use Rattle.walk.specs.contracts.Place.{Parted, Reached, Trying};
+ghost use Rattle.walk.specs.contracts.Path.{markAt, pathIn};
+ghost use Rattle.walk.specs.contracts.Place.{Beginning, Parted, Reached, Trying};
 ghost use Rattle.walk.specs.contracts.Walk.{Leaves, Ended};
 ghost use Rattle.walk.specs.Numbers.{stepsIn, sessionOf};
 ghost use Rattle.walk.specs.contracts.Resume.{lastIn, Resumes, GoesOn};
@@ -182,7 +180,7 @@ fn resume(
     Resumed::On(rest)
 }
 
-// Goes on with a session of so many steps, in a set without facts.
+// Goes on with a session of so many steps, from the root on, which has just been found so.
 pub fn go_on(
     rules: &[u8],
     index: &[u16; 1536],
@@ -191,6 +189,7 @@ pub fn go_on(
     atoms: &[u16],
     nexts: &[u8],
     steps: usize,
+    found: Found,
     standing: u8,
     next: u8,
     count: u32,
@@ -198,12 +197,11 @@ pub fn go_on(
 ) -> Resumed
     requires { ⌜ Ruled (now rules) ⌝ }
     requires { ⌜ RulesIndexed (now rules) (now index) ⌝ }
-    requires { ⌜ Store 18434 (now facts) 0 × Room (now path) 0 ⌝ }
+    requires { ⌜ Beginning (magicWalker (now rules)) found (now facts) (now path) ⌝ }
     requires { ⌜ (steps ≤ length (now atoms)) × (steps ≤ length (now nexts)) ⌝ }
     requires { ⌜ count ≤ limit ⌝ }
     ensures { λ x. ⌜ GoesOn (magicWalker (now (rules .entry))) (placeOf ((magicWalker (now (rules .entry))) .find) (sessionOf standing count (now (atoms .entry)) (now (nexts .entry)) steps next)) count limit x (now (facts .exit)) (now (path .exit)) ⌝ }
 {
-    let found = root(rules, index, facts, path);
     resume(
         rules,
         index,

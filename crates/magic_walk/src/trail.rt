@@ -1,7 +1,6 @@
 // The walk: visiting a node, which calls the trying of alternatives, which calls visiting.
 use crate::place::alternative;
 use crate::place::place;
-use crate::place::root;
 use ground::branch::NextBranch;
 use store::undo;
 use walk::answer::Found;
@@ -9,13 +8,12 @@ use walk::answer::Walked;
 use walk::node::mark;
 ghost use mathlib.Core.Path.{_≡_};
 ghost use Prim.Native.Nat.{_≤_};
-ghost use Rattle.store.specs.contracts.Store.{Store};
 ghost use Rattle.rewriting.specs.contracts.Ruled.{Ruled};
 ghost use Rattle.magic_node.specs.contracts.Index.{RulesIndexed};
 ghost use Rattle.ground.specs.Instance.{Instance};
 ghost use Rattle.walk.specs.contracts.Walker.{Run, fromRoot};
-ghost use Rattle.walk.specs.contracts.Path.{Room, markAt};
-ghost use Rattle.walk.specs.contracts.Place.{Parted, Reached, Visiting, Trying};
+ghost use Rattle.walk.specs.contracts.Path.{markAt};
+ghost use Rattle.walk.specs.contracts.Place.{Beginning, Parted, Reached, Visiting, Trying};
 ghost use Rattle.walk.specs.contracts.Walk.{Leaves, Ended, Walks};
 ghost use Rattle.magic_walk.specs.contracts.Place.{magicWalker, OwnFacts};
 
@@ -103,19 +101,19 @@ pub fn try_next(
     }
 }
 
-// The whole walk under a limit, from the root on, in a set without facts.
+// The whole walk under a limit, from the root on, which has just been found so.
 pub fn from_root(
     rules: &[u8],
     index: &[u16; 1536],
     facts: &mut [u8],
     path: &mut [u8],
+    found: Found,
     limit: u32,
 ) -> Walked
     requires { ⌜ Ruled (now rules) ⌝ }
     requires { ⌜ RulesIndexed (now rules) (now index) ⌝ }
-    requires { ⌜ Store 18434 (now facts) 0 × Room (now path) 0 ⌝ }
+    requires { ⌜ Beginning (magicWalker (now rules)) found (now facts) (now path) × OwnFacts (now path) 0 found ⌝ }
     ensures { λ x. ⌜ Walks (magicWalker (now (rules .entry))) (fromRoot (magicWalker (now (rules .entry))) limit) x (now (facts .exit)) (now (path .exit)) ⌝ }
 {
-    let found = root(rules, index, facts, path);
     visit(rules, index, facts, path, 0, 0, found, 0, limit)
 }

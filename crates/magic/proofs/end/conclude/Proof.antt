@@ -30,24 +30,22 @@ conclude-spec =
     (λ c. omega (arith, (c .before .before .before .before .before .before) .pre .0 .size))  -- shared-slice-read-pair-2
     (λ c κs. search needs)  -- pair-requires
     (λ c κs.
-    let p = c .before .before in
+    let p = c .before in
     let few = atoms-few p in
-    let sizes = begun p .pre .1 .1 .0 in
+    let sizes = begun p .pre .1 .0 in
     (few, omega (arith, few, sizes .0), omega (arith, sizes .1)))  -- give-model-requires
-    (λ c κs. let s = c .before .before .before .before .before .before .before .before .before .before .before .before .before .before in let run = s .pre .1 .1 .1 in (s .pre .0, (s .pre .1 .0, ((s .pre .1 .1 .0 .1, s .pre .1 .1 .0 .2), (run .0, run .1 .1)))))  -- path-left-requires
+    (λ c κs. let s = c .before .before .before .before .before .before .before .before .before .before .before in let run = s .pre .1 .1 .0 in (s .pre .0, ((s .args .facts .now, (run .0, run .1 .1)), s .pre .1 .1 .1)))  -- path-left-requires
     (λ c κs.
-    let s = c .before .before .before .before .before .before .before .before .before .before .before .before .before .before .before .before .before .before .before in
-    let run = s .pre .1 .1 .1 in
+    let s = c .before .before .before .before .before .before .before .before .before .before .before .before in
+    let run = s .pre .1 .1 .0 in
     ends-within (magicWalker (s .args .rules .now)) (run .0) (s .args .walked) (s .args .facts .now) (s .args .path .now) (run .1 .1))  -- moved-requires
     (λ c. search needs)  -- same-length
-    (λ c. search needs)  -- same-length-2
-    (λ c. search needs)  -- same-length-3
     (λ c.
-    let p = c .before .before .before .before .before .before .before .before .before .before .before .before .before in
+    let p = c .before .before .before .before .before .before in
     let s = begun p in
     let a = s .args in
     let bs : List ℕ = a .rules .now in
-    let give = c .before .before .before .before .before .before .before .before .before .before .give-model in
-    let left = c .before .before .before .before .before .path-left in
+    let give = c .before .before .before .before .give-model in
+    let left = c .before .path-left in
     concluded (magicWalker bs) (magic-tied bs (s .pre .0)) (a .walked) (a .limit) (a .facts .now) (a .path .now) (a .answer .now) (left .result) (c .moved .result) (give .last .1 .1 .0) (left .ensures)
     (c .moved .ensures) (p .pair .result) (atoms-are p) (give .ensures)))  -- returns

@@ -1,10 +1,8 @@
 -- `magic::end::path_left` meets its contract.
 use Prim.Native.Nat.{ℕ}
 use mathlib.Core.Path.{refl, _∙_}
-use native.Mathlib.Omega.{arith}
 use borrow.Author.Needs.{needs}
-use lib.ListN.{length, replicate, length-replicate}
-use Rattle.walk.proofs.WalkLaws.{blank-store}
+use lib.ListN.{replicate, length-replicate}
 use Rattle.session.specs.declared.end.Left.{Left}
 use Rattle.session.proofs.EndLaws.{open-path, due-path, left-open, left-due, left-shut}
 use Rattle.magic_walk.specs.contracts.Place.{magicWalker}
@@ -19,61 +17,51 @@ path-left-spec =
     (λ c. search needs)  -- slice-aggregate-steps
     (λ c. search needs)  -- slice-aggregate-steps-2
     (λ c κs.
-    let s = c .before .before .before .before .before .before .before .before .before in
+    let s = c .before .before .before .before .before .before .before in
     let a = s .args in
-    let run = s .pre .1 .1 .1 in
-    let g = c .before .before .before .before .walked .given in
-    (s .pre .0, (open-path (magicWalker (a .rules .now)) (run .0) (a .walked) (g .0 .0) (g .0 .1 .0) (g .1) (a .facts .now) (a .path .now) (run .1), (refl, refl))))  -- steps-requires
-    (λ c. search needs)  -- same-length
+    let run = s .pre .1 .0 in
+    let g = c .before .before .before .walked .given in
+    (s .pre .0, (open-path (magicWalker (a .rules .now)) (run .1 .0) (a .walked) (g .0 .0) (g .0 .1 .0) (g .1) (run .0) (a .path .now) (run .1 .1), (refl, refl))))  -- steps-requires
     (λ c.
-    let s = c .before .before .before .before .before .before .before .before .before .before .before .before in
+    let s = c .before .before .before .before .before .before .before .before .before .before in
     let a = s .args in
     let w = magicWalker (a .rules .now) in
-    let run = s .pre .1 .1 .1 in
-    let g = c .before .before .before .before .before .before .before .walked .given in
+    let run = s .pre .1 .0 in
+    let g = c .before .before .before .before .before .before .walked .given in
     let st = c .before .before .steps in
     let x : Left = record { next = 0; atoms = st .last .1 .1 .1 .0; nexts = st .last .1 .1 .1 .1 .0 } in
-    let at = open-path w (run .0) (a .walked) (g .0 .0) (g .0 .1 .0) (g .1) (a .facts .now) (a .path .now) (run .1) in
+    let at = open-path w (run .1 .0) (a .walked) (g .0 .0) (g .0 .1 .0) (g .1) (run .0) (a .path .now) (run .1 .1) in
     left-open w (a .walked) (a .path .now) x (g .0 .1 .0) (at .0 .deep) (st .kept .1 .1 .1 .0 ∙ length-replicate {A = ℕ} 1024 0) (st .kept .1 .1 .1 .1 .0 ∙ length-replicate {A = ℕ} 1024 0) (st .ensures)
     (g .0 .0) (g .1) refl)  -- returns
     (λ c. search needs)  -- enum-known-walked-2
     (λ c. search needs)  -- slice-aggregate-steps-3
     (λ c. search needs)  -- slice-aggregate-steps-4
     (λ c κs.
-    let s = c .before .before .before .before .before .before .before .before .before in
+    let s = c .before .before .before .before .before .before .before in
     let a = s .args in
-    let run = s .pre .1 .1 .1 in
-    let g = c .before .before .before .before .walked2 .given in
-    (s .pre .0, (due-path (magicWalker (a .rules .now)) (run .0) (a .walked) (g .0 .0) (g .1) (a .facts .now) (a .path .now) (run .1), (refl, refl))))  -- steps-requires-2
+    let run = s .pre .1 .0 in
+    let g = c .before .before .before .walked2 .given in
+    (s .pre .0, (due-path (magicWalker (a .rules .now)) (run .1 .0) (a .walked) (g .0 .0) (g .1) (run .0) (a .path .now) (run .1 .1), (refl, refl))))  -- steps-requires-2
     (λ c κs.
-    let s = c .before .before .before .before .before .before .before .before .before .before .before .before .before in
+    let s = c .before .before .before .before .before .before .before .before .before .before in
     let a = s .args in
-    let run = s .pre .1 .1 .1 in
-    let g = c .before .before .before .before .before .before .before .before .walked2 .given in
-    due-path (magicWalker (a .rules .now)) (run .0) (a .walked) (g .0 .0) (g .1) (a .facts .now) (a .path .now) (run .1) .0)  -- next-requires
-    (λ c. search needs)  -- same-length-2
+    let run = s .pre .1 .0 in
+    let g = c .before .before .before .before .before .before .walked2 .given in
+    due-path (magicWalker (a .rules .now)) (run .1 .0) (a .walked) (g .0 .0) (g .1) (run .0) (a .path .now) (run .1 .1) .0)  -- next-requires
     (λ c.
-    let s = c .before .before .before .before .before .before .before .before .before .before .before .before .before .before in
+    let s = c .before .before .before .before .before .before .before .before .before .before .before in
     let a = s .args in
     let w = magicWalker (a .rules .now) in
-    let run = s .pre .1 .1 .1 in
-    let g = c .before .before .before .before .before .before .before .before .before .walked2 .given in
-    let st = c .before .before .before .before .steps2 in
+    let run = s .pre .1 .0 in
+    let g = c .before .before .before .before .before .before .before .walked2 .given in
+    let st = c .before .before .before .steps2 in
     let x : Left = record { next = c .next .result; atoms = st .last .1 .1 .1 .0; nexts = st .last .1 .1 .1 .1 .0 } in
-    let at = due-path w (run .0) (a .walked) (g .0 .0) (g .1) (a .facts .now) (a .path .now) (run .1) in
+    let at = due-path w (run .1 .0) (a .walked) (g .0 .0) (g .1) (run .0) (a .path .now) (run .1 .1) in
     left-due w (a .walked) (a .path .now) x (g .0 .0) (at .0 .deep) (st .kept .1 .1 .1 .0 ∙ length-replicate {A = ℕ} 1024 0) (st .kept .1 .1 .1 .1 .0 ∙ length-replicate {A = ℕ} 1024 0) (st .ensures)
     (g .1) (c .next .ensures))  -- returns-2
     (λ c. search needs)  -- enum-told
-    (λ c κs. search needs)  -- zero-requires
-    (λ c κs.
-    let s = c .before .before .before .before .before .before .before .before .before .before .before in
-    let z = c .before .before .before .before .zero in
-    let sizes = s .pre .1 .1 .0 in
-    (s .pre .0, (s .pre .1 .0, (blank-store 18434 (z .last .0) (length (s .args .facts .now)) (sizes .0) (z .ensures), record { size = sizes .1; deep = omega arith }))))  -- root-requires
-    (λ c κs. let s = c .before .before .before .before .before .before .before .before .before .before .before .before .before .before .before .before .before in let b = c .before .before .before .before .before .root in (s .pre .0, (b .last .1 .1 .0, b .ensures .0)))  -- root-alternatives-requires
-    (λ c. search needs)  -- same-length-3
-    (λ c. search needs)  -- same-length-4
     (λ c.
-    let a = c .before .before .before .before .before .before .before .before .before .before .before .before .before .before .before .before .before .before .args in
-    let x : Left = record { next = c .root-alternatives .result; atoms = replicate 1024 0; nexts = replicate 1024 0 } in
-    left-shut (magicWalker (a .rules .now)) (a .walked) (a .path .now) x ((c .before .before .before .before .before .before .before .before .before .before .before .before .before .before) .match .keys3) refl refl (c .root-alternatives .ensures)))  -- returns-3
+    let s = c .before .before .before .before in
+    let a = s .args in
+    let x : Left = record { next = a .used; atoms = replicate 1024 0; nexts = replicate 1024 0 } in
+    left-shut (magicWalker (a .rules .now)) (a .walked) (a .path .now) x (c .before .match .keys3) refl refl (s .pre .1 .1)))  -- returns-3

@@ -17,29 +17,38 @@ decide-spec =
     (tie.spec
     (λ c κs. search needs)  -- build-requires
     (λ c κs. search needs)  -- zero-requires
-    (λ c. search needs)  -- slice-aggregate-from-root
+    (λ c. search needs)  -- slice-aggregate-root
     (λ c κs.
     let s = c .before .before .before .before .before .before .before .before .before .before .before in
     let z = c .before .before .before .before .before .zero in
-    (s .pre .0, ((c .before .before .before .before .before .before .before) .build .ensures, (blank-store 18434 (z .last .0) (length (s .args .facts .now)) (s .pre .1 .1) (z .ensures), record { size = length-replicate {A = ℕ} 9225 0; deep = omega arith }))))  -- from-root-requires
+    (s .pre .0, ((c .before .before .before .before .before .before .before) .build .ensures, (blank-store 18434 (z .last .0) (length (s .args .facts .now)) (s .pre .1 .1) (z .ensures), record { size = length-replicate {A = ℕ} 9225 0; deep = omega arith }))))  -- root-requires
+    (λ c. search needs)  -- slice-aggregate-root-alternatives
+    (λ c κs.
+    let s = c .before .before .before .before .before .before .before .before .before .before .before .before .before .before .before .before in
+    let b = c .before .before .before .before .root in
+    (s .pre .0, (b .last .1 .1 .0, b .ensures .0)))  -- root-alternatives-requires
+    (λ c. search needs)  -- slice-aggregate-from-root
+    (λ c κs.
+    let s = c .before .before .before .before .before .before .before .before .before .before .before .before .before .before .before .before .before .before .before .before in
+    (s .pre .0, ((c .before .before .before .before .before .before .before .before .before .before .before .before .before .before .before .before) .build .ensures, (c .before .before .before .before .before .before .before .before) .root .ensures)))  -- from-root-requires
     (λ c. search needs)  -- slice-aggregate-conclude
     (λ c κs.
-    let s = c .before .before .before .before .before .before .before .before .before .before .before .before .before .before .before .before .before .before .before in
-    let f = c .before .before .before .before .before .before .before .from-root in (
+    let s = c .before .before .before .before .before .before .before .before .before .before .before .before .before .before .before .before .before .before .before .before .before .before .before .before .before .before .before in
+    let f = c .before .before .before .before .before .before .from-root in
+    let u = c .before .before .before .before .before .before .before .before .before .before .root-alternatives in
+    let b = c .before .before .before .before .before .before .before .before .before .before .before .before .before .before .before .root in
+    let z = c .before .before .before .before .before .before .before .before .before .before .before .before .before .before .before .before .before .before .before .before .before .zero in (
       s .pre .0,
       (
-        (c .before .before .before .before .before .before .before .before .before .before .before .before .before .before .before) .build .ensures,
-        (
-          (s .pre .1 .0, f .kept .1 .1 .0 ∙ (c .before .before .before .before .before .before .before .before .before .before .before .before .before) .zero .kept .0 ∙ s .pre .1 .1, f .kept .1 .1 .1 .0 ∙ length-replicate {A = ℕ} 9225 0),
-          (fromRoot (magicWalker (s .args .rules .now)) (s .args .limit), (refl, f .ensures)),
-        ),
+        (s .pre .1 .0, f .kept .1 .1 .0 ∙ b .kept .1 .1 .0 ∙ z .kept .0 ∙ s .pre .1 .1),
+        ((fromRoot (magicWalker (s .args .rules .now)) (s .args .limit), (refl, f .ensures)), u .ensures),
       ),
     ))  -- conclude-requires
     (λ c. search needs)  -- same-length
-    (λ c. search needs)  -- same-length-2
+    (λ c. c .before .before .before .before .before .before .before .before .before .from-root .kept .1 .1 .0 ∙ (c .before .before .before .before .before .before .before .before .before .before .before .before .before .before .before .before .before .before) .root .kept .1 .1 .0 ∙ (c .before .before .before .before .before .before .before .before .before .before .before .before .before .before .before .before .before .before .before .before .before .before .before .before) .zero .kept .0)  -- same-length-2
     (λ c.
-    let a = c .before .before .before .before .before .before .before .before .before .before .before .before .before .before .before .before .before .before .before .before .before .before .before .before .before .args in
-    let f = c .before .before .before .before .before .before .before .before .before .before .before .before .before .from-root in
-    let d = c .before .before .before .before .before .conclude in
-    first-run (a .rules .now) (a .limit) (a .answer .now) (d .result) (d .last .1 .1 .1 .1 .0)
+    let a = c .before .before .before .before .before .before .before .before .before .before .before .before .before .before .before .before .before .before .before .before .before .before .before .before .before .before .before .before .before .before .args in
+    let f = c .before .before .before .before .before .before .before .before .before .from-root in
+    let d = c .before .before .conclude in
+    first-run (a .rules .now) (a .limit) (a .answer .now) (d .result) (d .last .1 .1 .1 .0)
     (d .ensures (fromRoot (magicWalker (a .rules .now)) (a .limit)) refl (f .ensures))))  -- returns

@@ -28,14 +28,11 @@ zeros-long : zeros ≡ replicate (length zeros) 0
 zeros-long = ap (λ (n : ℕ). replicate n 0) (sym (length-replicate {A = ℕ} 65536 0))
 
 -- there are as many slots
-abbrev begun : tie.After-nexts2 → tie.Start
-begun n = n .before .before .before .before .before .before .before .before .before .before .before .before
+long-atoms : (s : tie.Start) → length (s .args .session .atoms) ≡ 1024
+long-atoms s = search needs
 
-long-atoms : (n : tie.After-nexts2) → length (begun n .args .session .atoms) ≡ 1024
-long-atoms n = search needs
-
-long-nexts : (n : tie.After-nexts2) → length (begun n .args .session .nexts) ≡ 1024
-long-nexts n = search needs
+long-nexts : (s : tie.Start) → length (s .args .session .nexts) ≡ 1024
+long-nexts s = search needs
 
 pub further-run-spec : {M : Type 1} → statement M
 further-run-spec =
@@ -44,27 +41,29 @@ further-run-spec =
     (λ c κs. search needs)  -- build-requires
     (λ c. search needs)  -- cast-steps
     (λ c. search needs)  -- add-limit
+    (λ c. search needs)  -- slice-aggregate-root
+    (λ c. search needs)  -- slice-aggregate-root-2
+    (λ c κs.
+    let s = c .before .before .before .before .before .before .before .before .before .before in
+    (s .pre .0, ((c .before .before .before .before .before .before .before) .build .ensures, (blank-store 18434 (replicate 55302 0) 55302 (omega arith) refl, record { size = length-replicate {A = ℕ} 9225 0; deep = omega arith }))))  -- root-requires
+    (λ c. search needs)  -- slice-aggregate-root-alternatives
+    (λ c κs.
+    let s = c .before .before .before .before .before .before .before .before .before .before .before .before .before .before in
+    let b = c .before .before .before .root in
+    (s .pre .0, (b .last .1 .1 .0, b .ensures .0)))  -- root-alternatives-requires
     (λ c. search needs)  -- slice-aggregate-go-on
     (λ c. search needs)  -- slice-aggregate-go-on-2
-    (λ c. search needs)  -- slice-aggregate-go-on-3
-    (λ c. search needs)  -- slice-aggregate-go-on-4
+    (λ c. sym (long-atoms (c .before .before .before .before .before .before .before .before .before .before .before .before .before .before .before .before .before .before .before)))  -- slice-aggregate-go-on-3
+    (λ c. sym (long-nexts (c .before .before .before .before .before .before .before .before .before .before .before .before .before .before .before .before .before .before .before .before)))  -- slice-aggregate-go-on-4
     (λ c κs.
-    let s = begun c in
-    let few = s .pre .1 .1 .1 in (
-      s .pre .0,
-      (
-        (c .before .before .before .before .before .before .before .before .before) .build .ensures,
-        (
-          (blank-store 18434 (replicate 55302 0) 55302 (omega arith) refl, record { size = length-replicate {A = ℕ} 9225 0; deep = omega arith }),
-          ((omega (arith, few, long-atoms c), omega (arith, few, long-nexts c)), omega arith),
-        ),
-      ),
-    ))  -- go-on-requires
+    let s = c .before .before .before .before .before .before .before .before .before .before .before .before .before .before .before .before .before .before .before .before in
+    let few = s .pre .1 .1 .1 in
+    (s .pre .0, ((c .before .before .before .before .before .before .before .before .before .before .before .before .before .before .before .before .before) .build .ensures, ((c .before .before .before .before .before .before .before .before .before) .root .ensures .0, ((omega (arith, few, long-atoms s), omega (arith, few, long-nexts s)), omega arith)))))  -- go-on-requires
     (λ c. search needs)  -- enum-known-went
     (λ c. search needs)  -- enum-told
     (λ c κs. search needs)  -- refused-requires
     (λ c.
-    let s = c .before .before .before .before .before .before .before .before .before .before .before .before .before .before .before .before .before .before in
+    let s = c .before .before .before .before .before .before .before .before .before .before .before .before .before .before .before .before .before .before .before .before .before .before .before .before .before .before in
     let a = s .args in
     let q = c .before .before .before .before .before .go-on in
     says-declined (calledIn (findIn (a .rules .now)) (a .session) (a .further)) (a .session) (a .answer .now) 42
@@ -73,27 +72,26 @@ further-run-spec =
     (λ c. search needs)  -- slice-aggregate-conclude
     (λ c. search needs)  -- slice-aggregate-conclude-2
     (λ c κs.
-    let s = c .before .before .before .before .before .before .before .before .before .before .before .before .before .before .before .before .before .before .before .before .before .before in
+    let s = c .before .before .before .before .before .before .before .before .before .before .before .before .before .before .before .before .before .before .before .before .before .before .before .before .before .before .before .before .before in
     let a = s .args in
-    let q = c .before .before .before .before .before .before .before .before .before .go-on in
-    let g = c .before .before .before .before .before .went .given in (
+    let q = c .before .before .before .before .before .before .before .before .go-on in
+    let g = c .before .before .before .before .went .given in
+    let u = c .before .before .before .before .before .before .before .before .before .before .before .before .before .before .root-alternatives in
+    let b = c .before .before .before .before .before .before .before .before .before .before .before .before .before .before .before .before .before .before .root in (
       s .pre .0,
       (
-        (c .before .before .before .before .before .before .before .before .before .before .before .before .before .before .before .before .before .before .before) .build .ensures,
-        (
-          (s .pre .1 .0, q .kept .1 .1 .0 ∙ length-replicate {A = ℕ} 55302 0, q .kept .1 .1 .1 .0 ∙ length-replicate {A = ℕ} 9225 0),
-          further-walks (magicWalker (a .rules .now)) (a .session) (a .further) (kept s) (s .pre .1 .1 .2) (a .session .count + a .further) (q .result) (q .last .1 .1 .0) (q .last .1 .1 .1 .0) (q .ensures) (g .0 .0) (g .1),
-        ),
+        (s .pre .1 .0, q .kept .1 .1 .0 ∙ b .kept .1 .1 .0 ∙ length-replicate {A = ℕ} 55302 0),
+        (further-walks (magicWalker (a .rules .now)) (a .session) (a .further) (kept s) (s .pre .1 .1 .2) (a .session .count + a .further) (q .result) (q .last .1 .1 .0) (q .last .1 .1 .1 .0) (q .ensures) (g .0 .0) (g .1), u .ensures),
       ),
     ))  -- conclude-requires
     (λ c. search needs)  -- same-length
     (λ c.
-    let s = c .before .before .before .before .before .before .before .before .before .before .before .before .before .before .before .before .before .before .before .before .before .before .before .before .before .before .before in
+    let s = c .before .before .before .before .before .before .before .before .before .before .before .before .before .before .before .before .before .before .before .before .before .before .before .before .before .before .before .before .before .before .before .before in
     let a = s .args in
-    let q = c .before .before .before .before .before .before .before .before .before .before .before .before .before .before .go-on in
-    let g = c .before .before .before .before .before .before .before .before .before .before .went .given in
-    let d = c .before .before .before .before .conclude in
+    let q = c .before .before .before .before .before .before .before .before .before .before .before .go-on in
+    let g = c .before .before .before .before .before .before .before .went .given in
+    let d = c .before .before .conclude in
     let said =
     further-concluded (magicWalker (a .rules .now)) (a .session) (a .further) (kept s) (s .pre .1 .1 .2) (a .session .count + a .further) (q .result) (q .last .1 .1 .0) (q .last .1 .1 .1 .0) (q .ensures) (g .0 .0) (g .1) refl
-    (a .answer .now) zeros (length-replicate {A = ℕ} 65536 0) (d .result) (d .last .1 .1 .1 .1 .0) zeros (d .ensures) zeros-long in
+    (a .answer .now) zeros (length-replicate {A = ℕ} 65536 0) (d .result) (d .last .1 .1 .1 .0) zeros (d .ensures) zeros-long in
     (said .0, said .1, said .2)))  -- returns-2

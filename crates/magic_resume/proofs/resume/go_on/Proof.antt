@@ -12,20 +12,18 @@ pub go-on-spec : {M : Type 1} → statement M
 go-on-spec =
     tie.close
     (tie.spec
-    (λ c κs. let s = c .before .before .before .before .before .before .before in (s .pre .0, (s .pre .1 .0, s .pre .1 .1 .0)))  -- root-requires
     (λ c κs.
-    let s = c .before .before .before .before .before .before .before .before .before .before .before .before .before .before in
+    let s = c .before .before .before .before .before .before .before in
     let w = magicWalker (s .args .rules .now) in
-    let b = c .before .before .before .before .before .before .root in
     let sizes = s .pre .1 .1 .1 .0 in
-    let so-far = root-so-far w (b .last .1 .1 .1 .0) (s .args .atoms .now) (s .args .nexts .now) in
-    (s .pre .0, (s .pre .1 .0, (b .ensures .0 .reached, (so-far, ((omega arith, sizes .0, sizes .1), s .pre .1 .1 .1 .1))))))  -- resume-requires
+    let so-far = root-so-far w (s .args .path .now) (s .args .atoms .now) (s .args .nexts .now) in
+    (s .pre .0, (s .pre .1 .0, (s .pre .1 .1 .0 .reached, (so-far, ((omega arith, sizes .0, sizes .1), s .pre .1 .1 .1 .1))))))  -- resume-requires
     (λ c. search needs)  -- same-length
     (λ c. search needs)  -- same-length-2
     (λ c.
-    let s = c .before .before .before .before .before .before .before .before .before .before .before .before .before .before .before .before .before .before .before in
-    let w = magicWalker (s .args .rules .now) in
-    let b = c .before .before .before .before .before .before .before .before .before .before .before .root in
+    let s = c .before .before .before .before .before .before .before .before .before .before .before .before in
+    let a = s .args in
+    let w = magicWalker (a .rules .now) in
     let q = c .before .before .before .before .resume in
-    let place = placeOf (w .find) (sessionOf (s .args .standing) (s .args .count) (s .args .atoms .now) (s .args .nexts .now) (s .args .steps) (s .args .next)) in
-    goes-on w place (s .args .count) (s .args .limit) (b .last .1 .1 .0) (b .last .1 .1 .1 .0) 0 (q .result) (q .last .1 .1 .0) (q .last .1 .1 .1 .0) (q .ensures)))  -- returns
+    let place = placeOf (w .find) (sessionOf (a .standing) (a .count) (a .atoms .now) (a .nexts .now) (a .steps) (a .next)) in
+    goes-on w place (a .count) (a .limit) (a .facts .now) (a .path .now) 0 (q .result) (q .last .1 .1 .0) (q .last .1 .1 .1 .0) (q .ensures)))  -- returns

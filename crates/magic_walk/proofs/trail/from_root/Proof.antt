@@ -12,18 +12,16 @@ pub from-root-spec : {M : Type 1} → statement M
 from-root-spec =
     tie.close
     (tie.spec
-    (λ c κs. search needs)  -- root-requires
     (λ c κs.
-    let s = c .before .before .before .before .before .before .before .before .before .before .before .before in
-    let b = c .before .before .before .before .before .before .root in
-    (s .pre .0, (s .pre .1 .0, ((b .ensures .0 .reached, b .ensures .1), omega arith))))  -- visit-requires
+    let s = c .before .before .before .before .before in
+    (s .pre .0, (s .pre .1 .0, ((s .pre .1 .1 .0 .reached, s .pre .1 .1 .1), omega arith))))  -- visit-requires
     (λ c. search needs)  -- same-length
     (λ c. search needs)  -- same-length-2
     (λ c.
-    let s = c .before .before .before .before .before .before .before .before .before .before .before .before .before .before .before .before .before in
-    let b = c .before .before .before .before .before .before .before .before .before .before .before .root in
+    let s = c .before .before .before .before .before .before .before .before .before .before in
+    let a = s .args in
     let v = c .before .before .before .before .visit in
-    let w = magicWalker (s .args .rules .now) in
-    let r = fromRoot w (s .args .limit) in
-    root-walks w r (b .last .1 .1 .0) (b .last .1 .1 .1 .0) 0 0 (v .result) (v .last .1 .1 .0) (v .last .1 .1 .1 .0) (v .ensures .0)
-    (v .ensures .1 r refl (start-visiting w (s .args .limit) (b .last .1 .1 .0) (b .last .1 .1 .1 .0) (b .result) (b .ensures .0)))))  -- returns
+    let w = magicWalker (a .rules .now) in
+    let r = fromRoot w (a .limit) in
+    root-walks w r (a .facts .now) (a .path .now) 0 0 (v .result) (v .last .1 .1 .0) (v .last .1 .1 .1 .0) (v .ensures .0)
+    (v .ensures .1 r refl (start-visiting w (a .limit) (a .facts .now) (a .path .now) (a .found) (s .pre .1 .1 .0)))))  -- returns
