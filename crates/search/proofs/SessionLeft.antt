@@ -18,7 +18,7 @@ use Rattle.search.proofs.Machine.{entries-zero, entries-none, entries-s
 use Rattle.search.proofs.Path.{withTried, Reached, place-reached, next-genuine, last-reached}
 use Rattle.search.proofs.Session.{next-after, Stands, at-stands, stands-reached}
 use Rattle.search.proofs.SessionRest.{after-made, rests}
-use Rattle.search.proofs.SessionRight.{path-right, right-stands, stands-right}
+use Rattle.search.proofs.SessionRight.{path-right, right-stands, stands-right, stands-there}
 use Rattle.search.proofs.SessionWalk.{session-none}
 
 -- the alternative that is due at a node
@@ -189,8 +189,7 @@ module _ {I : Type 0} (find : List ℕ → Found I) where
         place = t;
         outcome = proceed find further (s .count) t;
         left = sessionAfter find further (s .count) t;
-        stands = w .1;
-        path-is = (path-right find (s .path) (t .path) ((at-stands find s t (w .1)) .path-of)) .entered-is;
+        there = stands-there find s t (w .1);
         calls = call-told s further t h (w .1);
         runs = run-left t (s .count) further (stands-reached find s t (w .1));
         again = again s further t (w .1);

@@ -12,8 +12,8 @@ use borrow.Author.Tests.{le-leb, leb-true, eq-eqb, eqb-true}
 use Rattle.search.specs.Ground.{Found, closed, opened, split}
 use Rattle.search.specs.Machine.{Branch, Place, entered}
 use Rattle.search.specs.Session.{Step, Standing, refuted, satisfied, exhausted, Session, altsFound, nodeTaken, isOpen, isOver, isRoot, standsAt, pathOf, placeOf, stepsOf}
-use Rattle.search.specs.SessionRight.{atomsOf, StepsRight, Right}
-use Rattle.search.proofs.Session.{cond-some, node-tried, is-taken, next-after, step-off, Stands, stands-at, at-stands}
+use Rattle.search.specs.SessionRight.{atomsOf, StepsRight, Right, StandsThere}
+use Rattle.search.proofs.Session.{cond-some, node-tried, is-taken, next-after, step-off, path-genuine, Stands, stands-at, at-stands}
 use Rattle.search.proofs.SessionRest.{tried-open}
 
 -- ---- its path
@@ -125,6 +125,12 @@ module _ {I : Type 0} where
   node-after (opened bits) next h = rw (eq-eqb next 0 (omega arith))
   node-after (split i ds) next h = rw (le-leb next (length ds) h)
 
+  -- and no other
+  taken-after : (f h : Found I) (next : ℕ) → nodeTaken f next ≡ some h → h ≡ nodeAfter f next
+  taken-after closed h next e = sym ((cond-some (eqb next 0) closed h e) .1)
+  taken-after (opened bits) h next e = sym ((cond-some (eqb next 0) (opened bits) h e) .1)
+  taken-after (split i ds) h next e = sym ((cond-some (leb next (length ds)) (split i (drop next ds)) h e) .1)
+
   after-over : (f : Found I) (next : ℕ) → next ≡ length (altsFound f) → ((bits : List Bool) → f ≡ opened bits → ⊥) → isOver (nodeAfter f next) ≡ true
   after-over closed next e s = refl
   after-over (opened bits) next e s = absurd (s bits refl)
@@ -186,4 +192,21 @@ module _ {I : Type 0} (find : List ℕ → Found I) where
         refuted-root = λ q. sym (p .steps-are) ∙ ap (stepsOf find) (n .refuted-root q);
         refuted-over = n .refuted-over;
         refuted-shut = n .refuted-shut;
+      }
+
+  pub stands-there : (s : Session) (t : Place I) → placeOf find s ≡ some t → StandsThere find s t
+  stands-there s t e =
+      let w : Stands find s t = at-stands find s t e in
+      let p = path-right find (s .path) (t .path) (w .path-of) in
+      let found : t .found ≡ nodeAfter (find (atomsOf (s .path))) (s .next) =
+      taken-after (find (entered (t .path))) (t .found) (s .next) (w .node-of) ∙ ap (λ (l : List ℕ). nodeAfter (find l) (s .next)) (p .entered-is) in
+      let so : (f : Found I) → find (atomsOf (s .path)) ≡ f → t .found ≡ nodeAfter f (s .next) = λ f q. found ∙ ap (λ (g : Found I). nodeAfter g (s .next)) q in
+      record {
+        stands = e;
+        path-is = p .entered-is;
+        genuine = path-genuine find (s .path) (t .path) (w .path-of);
+        steps-are = p .steps-are;
+        found-closed = so closed;
+        found-open = λ bits. so (opened bits);
+        found-split = λ i ds. so (split i ds);
       }

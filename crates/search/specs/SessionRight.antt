@@ -5,10 +5,10 @@ use mathlib.Core.List.{List, [], _∷_, _++_, map}
 use mathlib.Core.Logic.{_↔_}
 use mathlib.Core.Option.{some}
 use mathlib.Core.Path.{_≡_}
-use lib.ListN.{length, getD}
-use Rattle.search.specs.Ground.{Found, opened, split}
-use Rattle.search.specs.Machine.{Branch, Place, entered, nextPath, Outcome, Satisfied, Refuted, Exhausted, last, root, entries, proceed}
-use Rattle.search.specs.Session.{Step, Standing, refuted, satisfied, exhausted, Session, altsFound, placeOf, sessionAfter, declined, told, called}
+use lib.ListN.{length, drop, getD}
+use Rattle.search.specs.Ground.{Found, closed, opened, split}
+use Rattle.search.specs.Machine.{Branch, Place, entered, nextPath, Outcome, Satisfied, Refuted, Exhausted, last, root, entries, proceed, Genuine}
+use Rattle.search.specs.Session.{Step, Standing, refuted, satisfied, exhausted, Session, altsFound, placeOf, stepsOf, sessionAfter, declined, told, called}
 
 -- the atoms that the steps of a path enter
 abbrev pub atomsOf : List Step → List ℕ
@@ -66,13 +66,22 @@ module _ {I : Type 0} (find : List ℕ → Found I) where
     -- fits at the last entry
     pub satisfied-last : left .standing ≡ satisfied → atomsOf (left .path) ≡ entered ((last t (entries find limit t)) .path)
 
+  -- the place where a session stands: the entries of its path are the steps', and its node is the one found there, without the alternatives before the next one
+  pub record StandsThere (s : Session) (place : Place I) : Type 0 where
+    pub stands : placeOf find s ≡ some place
+    pub path-is : entered (place .path) ≡ atomsOf (s .path)
+    pub genuine : Genuine find (place .path)
+    pub steps-are : stepsOf find (place .path) ≡ s .path
+    pub found-closed : find (atomsOf (s .path)) ≡ closed → place .found ≡ closed
+    pub found-open : (bits : List Bool) → find (atomsOf (s .path)) ≡ opened bits → place .found ≡ opened bits
+    pub found-split : (i : I) (ds : List ℕ) → find (atomsOf (s .path)) ≡ split i ds → place .found ≡ split i (drop (s .next) ds)
+
   -- what a call that is not refused says and leaves
   pub record CallTold (s : Session) (further : ℕ) : Type 0 where
     pub place : Place I
     pub outcome : Outcome
     pub left : Session
-    pub stands : placeOf find s ≡ some place
-    pub path-is : entered (place .path) ≡ atomsOf (s .path)
+    pub there : StandsThere s place
     pub calls : called find s further ≡ told outcome left
     pub runs : RunLeft place (s .count) further outcome left
     -- "A finished session answers again as before."
