@@ -10,7 +10,7 @@ use Rattle.lists.proofs.Test.{T-true, lt-or-le}
 use Rattle.search.specs.Ground.{Found}
 use Rattle.search.specs.Magic.{Magic, rewriting, holds, findM}
 use Rattle.search.specs.Machine.{Outcome, outcome}
-use Rattle.search.specs.Session.{Session, firstSession, declined, told}
+use Rattle.search.specs.Session.{Session, firstSession, Called, declined, told}
 use Rattle.search.specs.Sound.{SoundFind}
 use Rattle.problem.specs.Problem.{Problem, Fits}
 use Rattle.problem.specs.Layout.{problemIn}
@@ -28,7 +28,8 @@ use Rattle.rewriting.specs.Facts.{falseIn, magicIn, findIn}
 use Rattle.rewriting.specs.Rewrite.{rulesOver}
 use Rattle.rewriting.proofs.RegroupLaws.{find-by, rules-sound, holds-by}
 use Rattle.session.specs.declared.record.Session.{Session as Record}
-use Rattle.session.specs.Calls.{begunBy}
+use Rattle.session.specs.Calls.{begunBy, verdictTold}
+use Rattle.session.proofs.CallLaws.{declined-by}
 use Rattle.magic.specs.Engine.{rulesOutcome, magicTooShort, magicOutcome, magicResult, magicRules, magicAnswer}
 use Rattle.magic.specs.Sessions.{magicBegun, magicResumed, rulesLeft}
 use Rattle.magic.specs.Claims.{MagicTaken, Theorems}
@@ -146,6 +147,9 @@ module _ (r : Record) (further : ℕ) (tb rules answer work : List ℕ) where
       go (inr (inl f)) = inr (inl (first 11 f))
       go (inr (inr f)) = inr (inr (first 31 f))
 
+refused-kept : (c : Called) (e : ℕ) → verdictTold c ≡ Refused e → (tb rules : List ℕ) → rulesLeft c tb rules ≡ rules
+refused-kept c e refused tb rules = ap (λ (x : Called). rulesLeft x tb rules) (declined-by c e refused)
+
 pub theorems : Theorems
 theorems =
     record {
@@ -156,4 +160,5 @@ theorems =
       resumed-or-refused = resumed-or-refused;
       resumed-first = first;
       rules-left = rules-left;
+      refused-kept = refused-kept;
     }

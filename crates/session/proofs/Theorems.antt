@@ -3,18 +3,20 @@ use Prim.Native.Nat.{ℕ, _≤_}
 use mathlib.Core.List.{List, [], _∷_, _++_}
 use mathlib.Core.Logic.{_↔_}
 use mathlib.Core.Option.{some}
-use mathlib.Core.Path.{_≡_, sym, ap, subst}
+use mathlib.Core.Path.{_≡_, refl, sym, ap, subst}
 use lib.Dec.{T, leb, leb→le}
 use lib.ListN.{length, getD}
 use Rattle.lists.specs.Test.{T-left, T-right}
-use Rattle.search.specs.Session.{Step, Session}
+use Rattle.search.specs.Session.{Step, Session, Called, declined}
 use Rattle.search.proofs.Session.{cond-some}
+use Rattle.ground.specs.declared.verdict.Verdict.the-variants.{Refused}
 use Rattle.walk.specs.Numbers.{stepsIn, sessionOf}
 use Rattle.session.specs.declared.record.Session.{Session as Record}
 use Rattle.session.specs.Record.{isKept, sessionIn, laid}
+use Rattle.session.specs.Calls.{verdictTold, recordLeft, answerLeft, workLeft}
 use Rattle.session.specs.Claims.{SameSeen, Theorems}
 use Rattle.session.proofs.RecordLaws.{slots-end, steps-same, held-laid}
-use Rattle.session.proofs.CallLaws.{is-kept}
+use Rattle.session.proofs.CallLaws.{is-kept, declined-by}
 
 -- the session in a record's numbers
 abbrev inNumbers : Record → Session
@@ -63,5 +65,11 @@ slots-in-order s l later t earlier e =
     let steps : stepsIn (r .atoms) (r .nexts) (length (s .path)) ≡ s .path = ap (λ (x : Session). x .path) back in
     slot-of (r .atoms) (r .nexts) later t earlier (subst (λ (ss : List Step). stepsIn (r .atoms) (r .nexts) (length ss) ≡ ss) e steps)
 
+-- ---- a refusal
+
+refused-kept : (c : Called) (e : ℕ) → verdictTold c ≡ Refused e → (r : Record) (answer work : List ℕ)
+    → (recordLeft c r ≡ r) × (answerLeft c answer ≡ answer) × (workLeft c work ≡ work)
+refused-kept c e refused r answer work = rw (declined-by c e refused) (refl, refl, refl)
+
 pub theorems : Theorems
-theorems = record { held-when = held-when; past-unseen = past-unseen; laid-held = held-laid; zeros-past = zeros-past; slots-in-order = slots-in-order }
+theorems = record { held-when = held-when; past-unseen = past-unseen; laid-held = held-laid; zeros-past = zeros-past; slots-in-order = slots-in-order; refused-kept = refused-kept }

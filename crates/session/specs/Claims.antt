@@ -1,13 +1,15 @@
--- What is claimed of a session's record: when it holds a session, and what stands where in that of one. `proofs/Theorems.antt` proves `Theorems`.
+-- What is claimed of a session's record: when it holds a session, and what stands where in that of one; and of a call that is refused. `proofs/Theorems.antt` proves `Theorems`.
 use Prim.Native.Nat.{ℕ, _≤_, _<_}
 use mathlib.Core.List.{List, _∷_, _++_}
 use mathlib.Core.Logic.{_↔_}
 use mathlib.Core.Option.{some}
 use mathlib.Core.Path.{_≡_}
 use lib.ListN.{length, getD}
-use Rattle.search.specs.Session.{Step, Session}
+use Rattle.search.specs.Session.{Step, Session, Called}
+use Rattle.ground.specs.declared.verdict.Verdict.the-variants.{Refused}
 use Rattle.session.specs.declared.record.Session.{Session as Record}
 use Rattle.session.specs.Record.{sessionIn, laid}
+use Rattle.session.specs.Calls.{verdictTold, recordLeft, answerLeft, workLeft}
 
 -- two records agree in all but the slots past the path
 pub record SameSeen (r q : Record) : Type 0 where
@@ -30,3 +32,6 @@ pub record Theorems : Type 0 where
   -- an entry stands in the slot numbered by the entries before it
   pub slots-in-order : (s : Session) → length (s .path) ≤ 1024 → (later : List Step) (t : Step) (earlier : List Step) → s .path ≡ later ++ (t ∷ earlier)
       → (getD ((laid s) .atoms) (length earlier) 0 ≡ t .atom) × (getD ((laid s) .nexts) (length earlier) 0 ≡ t .next)
+  -- whatever a call says, where its verdict is a refusal it leaves all as it was
+  pub refused-kept : (c : Called) (e : ℕ) → verdictTold c ≡ Refused e → (r : Record) (answer work : List ℕ)
+      → (recordLeft c r ≡ r) × (answerLeft c answer ≡ answer) × (workLeft c work ≡ work)
