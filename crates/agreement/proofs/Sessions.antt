@@ -39,12 +39,12 @@ use Rattle.judging.proofs.Theorems.{theorems as judgings}
 use Rattle.rewriting.specs.RulesLayout.{rulesLayout}
 use Rattle.rewriting.specs.Facts.{findIn}
 use Rattle.rewriting.specs.Rewrite.{rulesOver}
-use Rattle.rewriting.proofs.RegroupLaws.{find-by}
+use Rattle.rewriting.proofs.RegroupLaws.{find-by, rules-sound}
 use Rattle.session.specs.declared.record.Session.{Session as Record}
 use Rattle.session.specs.Record.{sessionIn, laid}
 use Rattle.session.specs.Calls.{calledIn, begunBy, screened}
 use Rattle.session.proofs.RecordLaws.{held-laid}
-use Rattle.session.proofs.CallLaws.{screened-valid, screened-told, held-count, called-held, called-none, called-over, called-empty}
+use Rattle.session.proofs.CallLaws.{screened-on, screened-told, held-count, called-held, called-none, called-over, called-empty}
 use Rattle.relevancy.specs.Engine.{tooShort}
 use Rattle.relevancy.specs.Sessions.{begun, resumed}
 use Rattle.relevancy.proofs.EngineLaws as relevancy-ways
@@ -82,9 +82,12 @@ module _ {I : Type 0} (p : Ground I) (find : List ℕ → Found I) (sound : Soun
 
 -- ---- a ticket
 
--- a call is refused by 11, or it is this one
-abbrev ShortOr : Called → Called → Type 0
-ShortOr x y = (x ≡ declined 11) ⊎ (x ≡ y)
+-- a call is refused by 11 or 31, or it is this one
+abbrev EarlyOr : Called → Called → Type 0
+EarlyOr x y = (x ≡ declined 11) ⊎ (x ≡ declined 31) ⊎ (x ≡ y)
+
+is-valid : (t : List ℕ) → isValid t ≡ true → Valid t
+is-valid t v = tables .valid t .0 (subst T (sym v) tt)
 
 module _ (tb : List ℕ) (valid : Valid (take 4096 tb)) where
   abbrev own : List ℕ
@@ -111,29 +114,39 @@ module _ (tb : List ℕ) (valid : Valid (take 4096 tb)) where
   unfolding magic
   rules-find rules = find-by (problemIn own) fits (drop (length (rulesLayout (problemIn own))) rules)
 
+  rules-right : (rules : List ℕ) → SoundFind (groundLent tb) (findIn (rulesOver (take 4096 tb) rules))
+  rules-right rules = rules-sound (problemIn own) fits (drop (length (rulesLayout (problemIn own))) rules)
+
   -- comes to the same outcome as the table's own
   magic-outcome : (rules : List ℕ) (limit : ℕ) → outcome (findIn (rulesOver (take 4096 tb) rules)) limit ≡ outcome (walkOf tb) limit
   magic-outcome rules limit =
       ap (λ (f : List ℕ → Found Instance). outcome f limit) (rules-find rules) ∙ walks .one-walk-kept instanceKey (groundLent tb) true limit [] .answer-is
 
-  -- a call on the ticket is refused by 11, or goes on by its engine's walk
-  goes-on : (r : Record) (c : Lent) → SameTicket tb c → ShortOr (goesOn r c) (calledIn (walkBy tb (c .magic)) r (c .further))
-  unfolding resumed magicResumed
-  goes-on r c same = go (c .magic)
-    where
-      by-walk : (short : Bool) (f g : List ℕ → Found Instance) → f ≡ g
-          → ShortOr (screened short (isValid (take 4096 (c .table))) (calledIn f r (c .further))) (calledIn g r (c .further))
-      by-walk short f g e =
-          subst (λ (h : List ℕ → Found Instance). ShortOr (screened short (isValid (take 4096 (c .table))) (calledIn f r (c .further))) (calledIn h r (c .further))) e
-          (screened-valid short (isValid (take 4096 (c .table))) (calledIn f r (c .further)) (ap isValid same ∙ good))
+-- a call on the ticket is refused by 11 or 31, or goes on by its engine's walk
+goes-on : (tb : List ℕ) (r : Record) (c : Lent) → SameTicket tb c → EarlyOr (goesOn r c) (calledIn (walkBy tb (c .magic)) r (c .further))
+unfolding resumed magicResumed
+goes-on tb r c same = go (c .magic)
+  where
+    by-walk : (short : Bool) (f g : List ℕ → Found Instance) → (isValid (take 4096 (c .table)) ≡ true → f ≡ g)
+        → EarlyOr (screened short (isValid (take 4096 (c .table))) (calledIn f r (c .further))) (calledIn g r (c .further))
+    by-walk short f g e = at (screened-on short (isValid (take 4096 (c .table))) (calledIn f r (c .further)))
+      where
+        x : Called
+        x = screened short (isValid (take 4096 (c .table))) (calledIn f r (c .further))
 
-      go : (m : Bool)
-          → ShortOr (byEngine m (magicResumed r (c .further) (c .table) (c .rules) (c .answer) (c .work)) (resumed r (c .further) (c .table) (c .answer) (c .work)))
-          (calledIn (walkBy tb m) r (c .further))
-      go true =
-          by-walk (magicTooShort (c .table) (c .rules) (c .answer) (c .work)) (findIn (rulesOver (take 4096 (c .table)) (take 16384 (c .rules)))) (walkBy tb true)
-          (ap (λ (t : List ℕ). findIn (rulesOver t (take 16384 (c .rules)))) same ∙ rules-find (take 16384 (c .rules)))
-      go false = by-walk (tooShort (c .table) (c .answer) (c .work)) (findR (groundIn (take 4096 (c .table)))) (walkOf tb) (ap (λ (t : List ℕ). findR (groundIn t)) same)
+        at : (x ≡ declined 11) ⊎ (x ≡ declined 31) ⊎ ((isValid (take 4096 (c .table)) ≡ true) × (x ≡ calledIn f r (c .further))) → EarlyOr x (calledIn g r (c .further))
+        at (inl q) = inl q
+        at (inr (inl q)) = inr (inl q)
+        at (inr (inr q)) = inr (inr (q .1 ∙ ap (λ (h : List ℕ → Found Instance). calledIn h r (c .further)) (e (q .0))))
+
+    go : (m : Bool)
+        → EarlyOr (byEngine m (magicResumed r (c .further) (c .table) (c .rules) (c .answer) (c .work)) (resumed r (c .further) (c .table) (c .answer) (c .work)))
+        (calledIn (walkBy tb m) r (c .further))
+    go true =
+        by-walk (magicTooShort (c .table) (c .rules) (c .answer) (c .work)) (findIn (rulesOver (take 4096 (c .table)) (take 16384 (c .rules)))) (walkBy tb true)
+        (λ v. rules-find (c .table) (is-valid (take 4096 (c .table)) v) (take 16384 (c .rules)) ∙ ap (λ (p : Ground Instance). findBy instanceKey p true) same)
+    go false =
+        by-walk (tooShort (c .table) (c .answer) (c .work)) (findR (groundIn (take 4096 (c .table)))) (walkOf tb) (λ v. ap (λ (p : Ground Instance). findR p) same)
 
 -- ---- a first run that is not refused
 
@@ -149,9 +162,6 @@ began first o s = go (first .magic)
     tb : List ℕ
     tb = first .table
 
-    is-valid : isValid (take 4096 tb) ≡ true → Valid (take 4096 tb)
-    is-valid v = tables .valid (take 4096 tb) .0 (subst T (sym v) tt)
-
     long : (b : Bool) → b ≡ false → (length tb < 4096 → b ≡ true) → 4096 ≤ length tb
     long b e short = at (lt-or-le (length tb) 4096)
       where
@@ -165,13 +175,13 @@ began first o s = go (first .magic)
         let h = screened-told short (isValid (take 4096 tb)) (begunBy (findIn (rulesOver (take 4096 tb) (take 16384 (first .rules)))) (limitLent tb)) o s e in
         record {
           long = long short (h .0) (magic-ways.short-table tb (first .rules) (first .answer) (first .work));
-          valid = is-valid (h .1);
-          start = ap (λ (f : List ℕ → Found Instance). begunBy f (limitLent tb)) (sym (rules-find tb (is-valid (h .1)) (take 16384 (first .rules)))) ∙ h .2;
+          valid = is-valid (take 4096 tb) (h .1);
+          start = ap (λ (f : List ℕ → Found Instance). begunBy f (limitLent tb)) (sym (rules-find tb (is-valid (take 4096 tb) (h .1)) (take 16384 (first .rules)))) ∙ h .2;
         }
     go false e =
         let short : Bool = tooShort tb (first .answer) (first .work) in
         let h = screened-told short (isValid (take 4096 tb)) (begunBy (walkOf tb) (limitLent tb)) o s e in
-        record { long = long short (h .0) (relevancy-ways.short-table tb (first .answer) (first .work)); valid = is-valid (h .1); start = h .2 }
+        record { long = long short (h .0) (relevancy-ways.short-table tb (first .answer) (first .work)); valid = is-valid (take 4096 tb) (h .1); start = h .2 }
 
 -- ---- lists of calls
 
@@ -192,7 +202,7 @@ module _ {I : Type 0} (k : Key I) (p : Ground I) where
   calls-more (d ∷ cs) c was = calls-more cs c (keptAfter was (d .further) (called (findBy k p (d .magic)) (was .session) (d .further)))
 
 module _ (tb : List ℕ) (long : 4096 ≤ length tb) (valid : Valid (take 4096 tb)) (m : Bool) where
-  -- after a first run and these calls, none refused by 11
+  -- after a first run and these calls, none refused by 11 or 31
   abbrev keptBy : List Call → Kept
   keptBy cs = keptCalls instanceKey (groundLent tb) cs (firstKept instanceKey (groundLent tb) m (limitLent tb))
 
@@ -208,16 +218,17 @@ module _ (tb : List ℕ) (long : 4096 ≤ length tb) (valid : Valid (take 4096 t
       subst (λ (s : Session). sessionIn (laid s) ≡ some s) (sym (one-walk cs .session-is))
       (right-held tb valid (firstSession (walkOf tb) ((keptBy cs) .sum)) (walks .any-session (walkOf tb) .first-left ((keptBy cs) .sum) .right))
 
-  -- a call then is refused by 11, or goes on with that session
+  -- a call then is refused by 11 or 31, or goes on with that session
   abbrev CallIs : List Call → Lent → Type 0
-  CallIs cs c = ShortOr (goesOn (laid (sessionBy cs)) c) (called (walkBy tb (c .magic)) (sessionBy cs) (c .further))
+  CallIs cs c = EarlyOr (goesOn (laid (sessionBy cs)) c) (called (walkBy tb (c .magic)) (sessionBy cs) (c .further))
 
   call-is : (cs : List Call) (c : Lent) → SameTicket tb c → CallIs cs c
-  call-is cs c same = go (goes-on tb valid (laid (sessionBy cs)) c same)
+  call-is cs c same = go (goes-on tb (laid (sessionBy cs)) c same)
     where
-      go : ShortOr (goesOn (laid (sessionBy cs)) c) (calledIn (walkBy tb (c .magic)) (laid (sessionBy cs)) (c .further)) → CallIs cs c
+      go : EarlyOr (goesOn (laid (sessionBy cs)) c) (calledIn (walkBy tb (c .magic)) (laid (sessionBy cs)) (c .further)) → CallIs cs c
       go (inl e) = inl e
-      go (inr e) = inr (e ∙ called-held (walkBy tb (c .magic)) (laid (sessionBy cs)) (c .further) (sessionBy cs) (kept-held cs))
+      go (inr (inl e)) = inr (inl e)
+      go (inr (inr e)) = inr (inr (e ∙ called-held (walkBy tb (c .magic)) (laid (sessionBy cs)) (c .further) (sessionBy cs) (kept-held cs)))
 
   call-kept : (cs : List Call) (c : Lent) → SameTicket tb c
       → (ds : List Call) × (carriedBy (carriedOf (keptBy cs)) (c .further) (goesOn (laid (sessionBy cs)) c) ≡ carriedOf (keptBy ds))
@@ -226,7 +237,8 @@ module _ (tb : List ℕ) (long : 4096 ≤ length tb) (valid : Valid (take 4096 t
       go : CallIs cs c
           → (ds : List Call) × (carriedBy (carriedOf (keptBy cs)) (c .further) (goesOn (laid (sessionBy cs)) c) ≡ carriedOf (keptBy ds))
       go (inl e) = (cs, ap (carriedBy (carriedOf (keptBy cs)) (c .further)) e)
-      go (inr e) =
+      go (inr (inl e)) = (cs, ap (carriedBy (carriedOf (keptBy cs)) (c .further)) e)
+      go (inr (inr e)) =
           let d : Call = record { magic = c .magic; further = c .further } in (
             cs ++ (d ∷ []),
             ap (carriedBy (carriedOf (keptBy cs)) (c .further)) e
@@ -240,7 +252,7 @@ module _ (tb : List ℕ) (long : 4096 ≤ length tb) (valid : Valid (take 4096 t
   call-on cs c k e (inl same) = let w = call-kept cs c same in (w .0, ap (λ (x : Carried). carriedBy x (c .further) (goesOn (x .kept) c)) e ∙ w .1)
   call-on cs c k e (inr refused) = (cs, ap (carriedBy k (c .further)) (refused .1) ∙ e)
 
-  -- so all calls together keep what those do that are on the ticket and not refused by 11
+  -- so all calls together keep what those do that are on the ticket and not refused by 11 or 31
   calls-kept : (calls : List Lent) (k : Carried) → OnTicket tb k calls → (cs : List Call) → k ≡ carriedOf (keptBy cs) → (ds : List Call) × (carriedAfter calls k ≡ carriedOf (keptBy ds))
   calls-kept [] k on cs e = (cs, e)
   calls-kept (c ∷ calls) k on cs e =
@@ -259,33 +271,41 @@ module _ (tb : List ℕ) (long : 4096 ≤ length tb) (valid : Valid (take 4096 t
             (λ (o : Outcome). Demand2 (walkOf tb) (groundLent tb) ((keptBy cs) .sum) tb (verdictOf o) (answerOf o answer))
             (sym (w .answer-is))
             (judgings .demand-2 (walkOf tb) ((keptBy cs) .sum) tb answer long wide valid (sound tb valid));
-        never-foreign = λ c same e. not-foreign c e (call-is cs c same);
+        magic-demand-2 = λ rules answer wide.
+            subst
+            (λ (o : Outcome). Demand2 (findIn (rulesOver (take 4096 tb) rules)) (groundLent tb) ((keptBy cs) .sum) tb (verdictOf o) (answerOf o answer))
+            (magic-outcome tb valid rules ((keptBy cs) .sum) ∙ sym (w .answer-is))
+            (judgings .demand-2 (findIn (rulesOver (take 4096 tb) rules)) ((keptBy cs) .sum) tb answer long wide valid (rules-right tb valid rules));
+        always-stands = λ c same e. not-nowhere c e (call-is cs c same);
         finished-again = λ over c same o s e. again over c o s e (call-is cs c same);
       }
     where
-      not-foreign : (c : Lent) → goesOn (laid (sessionBy cs)) c ≡ declined 42 → CallIs cs c → ⊥
-      not-foreign c e (inl h) = let z : _≡_ {A = ℕ} 11 42 = cc in omega arith
-      not-foreign c e (inr h) = one-walk cs .never-foreign (c .magic) (c .further) (sym h ∙ e)
+      not-nowhere : (c : Lent) → goesOn (laid (sessionBy cs)) c ≡ declined 42 → CallIs cs c → ⊥
+      not-nowhere c e (inl h) = let z : _≡_ {A = ℕ} 11 42 = cc in omega arith
+      not-nowhere c e (inr (inl h)) = let z : _≡_ {A = ℕ} 31 42 = cc in omega arith
+      not-nowhere c e (inr (inr h)) = one-walk cs .always-stands (c .magic) (c .further) (sym h ∙ e)
 
       again : ((n : ℕ) → (keptBy cs) .answered ≡ Exhausted n → ⊥) → (c : Lent) (o : Outcome) (s : Session) → goesOn (laid (sessionBy cs)) c ≡ told o s → CallIs cs c
           → (o ≡ (keptBy cs) .answered) × (laid s ≡ laid (sessionBy cs))
       again over c o s e (inl h) = let z : _≡_ {A = ℕ} 0 1 = cc in absurd (omega arith)
-      again over c o s e (inr h) =
+      again over c o s e (inr (inl h)) = let z : _≡_ {A = ℕ} 0 1 = cc in absurd (omega arith)
+      again over c o s e (inr (inr h)) =
           let q = one-walk cs .finished-again over (c .magic) (c .further) o s (sym h ∙ e) in
           (q .0, ap laid (q .1))
 
 told-parts : (x o : Outcome) (y s : Session) → told x y ≡ told o s → (o ≡ x) × (s ≡ y)
 told-parts x o y s e = (cc, cc)
 
-brought-back : (first : Lent) (o : Outcome) (s : Session) → begins first ≡ told o s → (calls : List Lent) → OnTicket (first .table) (carriedFirst (first .table) o s) calls
-    → BroughtBack (first .table) (carriedAfter calls (carriedFirst (first .table) o s))
-brought-back first o s e calls on =
+brought-back : (first : Lent) (o : Outcome) (s : Session) → begins first ≡ told o s → (r : Record) (calls : List Lent)
+    → OnTicket (first .table) (carriedFirst (first .table) o s r) calls → BroughtBack (first .table) (carriedAfter calls (carriedFirst (first .table) o s r))
+brought-back first o s e r calls on =
     let tb : List ℕ = first .table in
     let b = began first o s e in
     let find : List ℕ → Found Instance = walkBy tb (first .magic) in
     let parts = told-parts (outcome find (limitLent tb)) o (firstSession find (limitLent tb)) s (b .start) in
-    let start : carriedFirst tb o s ≡ carriedOf (keptBy tb (b .long) (b .valid) (first .magic) []) = ap₂ (carriedFirst tb) (parts .0) (parts .1) in
-    let w = calls-kept tb (b .long) (b .valid) (first .magic) calls (carriedFirst tb o s) on [] start in
+    let start : carriedFirst tb o s r ≡ carriedOf (keptBy tb (b .long) (b .valid) (first .magic) []) =
+    ap₂ (λ (x : Outcome) (y : Session). carriedFirst tb x y r) (parts .0) (parts .1) in
+    let w = calls-kept tb (b .long) (b .valid) (first .magic) calls (carriedFirst tb o s r) on [] start in
     subst (BroughtBack tb) (sym (w .1)) (kept-back tb (b .long) (b .valid) (first .magic) (w .0))
 
 -- ---- a model is judged one
@@ -369,7 +389,7 @@ module _ (tb rules answer work₁ work₂ : List ℕ) (taken : BothTaken tb rule
       by-rules = find-is tb rules answer work₁ work₂ taken
 
       magic-stands : placeOf (walkBy tb true) s ≡ some (call .place)
-      magic-stands = origin s .places ∙ call .stands
+      magic-stands = origin s .places ∙ call .there .stands
 
       from-there : FromThere tb (magicRules tb rules answer work₂) answer r further (call .outcome) (call .left)
       from-there =
@@ -377,21 +397,21 @@ module _ (tb rules answer work₁ work₂ : List ℕ) (taken : BothTaken tb rule
             session = s;
             held = held;
             place = call .place;
-            stands = call .stands;
-            path-is = call .path-is;
-            runs = runs false (call .stands) (call .calls);
+            there = call .there;
+            runs = runs false (call .there .stands) (call .calls);
             magic-stands = ap (λ (f : List ℕ → Found Instance). placeOf f s) by-rules ∙ magic-stands;
             magic-runs =
                 runs true magic-stands (origin s .calls ∙ call .calls) ∙ sym (ap (λ (f : List ℕ → Found Instance). proceed f further (s .count) (call .place)) by-rules);
             leaves = call .runs;
             trails =
-                ap (λ (f : List ℕ → Found Instance). entries f further (call .place)) by-rules ∙ origin s .trails (call .place) (call .stands);
-            facts = facts-over tb rules answer work₁ work₂ taken (call .place ∷ entries (walkOf tb) further (call .place)) (origin s .facts (call .place) (call .stands));
+                ap (λ (f : List ℕ → Found Instance). entries f further (call .place)) by-rules ∙ origin s .trails (call .place) (call .there .stands);
+            facts = facts-over tb rules answer work₁ work₂ taken (call .place ∷ entries (walkOf tb) further (call .place)) (origin s .facts (call .place) (call .there .stands));
             judged = λ n bits e.
                 ap (λ (x : Outcome). judgeResult tb (answerOf x answer)) e
                 ∙ model-judged tb answer (taken .by-relevancy .table-long) (taken .by-relevancy .answer-long) table-valid bits
                 (origin s .models n bits (call .left) (call .calls ∙ ap (λ (x : Outcome). told x (call .left)) e)) n;
             left-held = right-held tb table-valid (call .left) (call .runs .right);
+            again = call .again;
           }
 
   any-record : AnyRecord tb rules answer work₁ work₂ (magicRules tb rules answer work₂) r further

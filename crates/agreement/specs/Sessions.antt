@@ -9,9 +9,9 @@ use mathlib.Core.Path.{_≡_}
 use lib.ListN.{length, take}
 use Rattle.lists.specs.Member.{All}
 use Rattle.search.specs.Relevancy.{findR}
-use Rattle.search.specs.Machine.{Place, entered, Outcome, Satisfied, Exhausted, entries, outcome, proceed}
-use Rattle.search.specs.Session.{Session, placeOf, firstSession, Called, declined, told}
-use Rattle.search.specs.SessionRight.{atomsOf, Right, RunLeft}
+use Rattle.search.specs.Machine.{Place, Outcome, Satisfied, Exhausted, entries, outcome, proceed}
+use Rattle.search.specs.Session.{exhausted, Session, placeOf, firstSession, Called, declined, told}
+use Rattle.search.specs.SessionRight.{Right, RunLeft, StandsThere}
 use Rattle.ground.specs.Instance.{Instance}
 use Rattle.ground.specs.Verdict.{verdictOf, answerOf}
 use Rattle.judging.specs.declared.judge.Judging.the-variants.{Model as IsModel}
@@ -21,6 +21,7 @@ use Rattle.rewriting.specs.Facts.{findIn}
 use Rattle.rewriting.specs.Rewrite.{rulesOver}
 use Rattle.session.specs.declared.record.Session.{Session as Record}
 use Rattle.session.specs.Record.{sessionIn, laid}
+use Rattle.session.specs.Calls.{recordLeft}
 use Rattle.relevancy.specs.Claims.{Taken}
 use Rattle.relevancy.specs.Sessions.{begun, resumed}
 use Rattle.magic.specs.Engine.{magicRules}
@@ -56,21 +57,21 @@ pub record Carried : Type 0 where
   pub sum : ℕ
 
 abbrev pub carriedBy : Carried → ℕ → Called → Carried
-carriedBy k further (declined e) = k
-carriedBy k further (told o s) = record { answered = o; kept = laid s; sum = k .sum + further }
+carriedBy k further (declined e) = record { answered = k .answered; kept = recordLeft (declined e) (k .kept); sum = k .sum }
+carriedBy k further (told o s) = record { answered = o; kept = recordLeft (told o s) (k .kept); sum = k .sum + further }
 
--- after a first run on a table
-abbrev pub carriedFirst : List ℕ → Outcome → Session → Carried
-carriedFirst tb o s = record { answered = o; kept = laid s; sum = limitLent tb }
+-- after a first run on a table, with the record that was lent to it
+abbrev pub carriedFirst : List ℕ → Outcome → Session → Record → Carried
+carriedFirst tb o s r = record { answered = o; kept = recordLeft (told o s) r; sum = limitLent tb }
 
 -- and then these calls, the first one first
 abbrev pub carriedAfter : List Lent → Carried → Carried
 carriedAfter [] k = k
 carriedAfter (c ∷ cs) k = carriedAfter cs (carriedBy k (c .further) (goesOn (k .kept) c))
 
--- a call is on the ticket of a table
+-- a call is on the ticket of a table, whatever its limit: the ground problem has all of a ticket but that
 abbrev pub SameTicket : List ℕ → Lent → Type 0
-SameTicket tb c = take 4096 (c .table) ≡ take 4096 tb
+SameTicket tb c = groundLent (c .table) ≡ groundLent tb
 
 -- a session is moved by these calls "always on that run's ticket": a call on any other is refused, and moves nothing
 abbrev pub OnTicket : List ℕ → Carried → List Lent → Type 0
@@ -86,11 +87,13 @@ pub record BroughtBack (tb : List ℕ) (k : Carried) : Type 1 where
   -- so it is right by the logic, and the count is that of the whole walk
   pub demand-2 : (answer : List ℕ) → 1024 ≤ length answer
       → Demand2 (findR (groundLent tb)) (groundLent tb) (k .sum) tb (verdictOf (k .answered)) (answerOf (k .answered) answer)
+  pub magic-demand-2 : (rules answer : List ℕ) → 1024 ≤ length answer
+      → Demand2 (findIn (rulesOver (take 4096 tb) rules)) (groundLent tb) (k .sum) tb (verdictOf (k .answered)) (answerOf (k .answered) answer)
   -- it is never taken for a session of other origin that stands nowhere
-  pub never-foreign : (c : Lent) → SameTicket tb c → goesOn (k .kept) c ≡ declined 42 → ⊥
+  pub always-stands : (c : Lent) → SameTicket tb c → goesOn (k .kept) c ≡ declined 42 → ⊥
   -- "A finished session answers again as before."
   pub finished-again : ((n : ℕ) → k .answered ≡ Exhausted n → ⊥) → (c : Lent) → SameTicket tb c → (o : Outcome) (s : Session) → goesOn (k .kept) c ≡ told o s
-      → (o ≡ k .answered) × (laid s ≡ k .kept)
+      → (o ≡ k .answered) × (recordLeft (told o s) (k .kept) ≡ k .kept)
 
 -- ---- a session of any origin
 
@@ -99,8 +102,7 @@ pub record FromThere (tb bs answer : List ℕ) (r : Record) (further : ℕ) (o :
   pub session : Session
   pub held : sessionIn r ≡ some session
   pub place : Place Instance
-  pub stands : placeOf (findR (groundLent tb)) session ≡ some place
-  pub path-is : entered (place .path) ≡ atomsOf (session .path)
+  pub there : StandsThere (findR (groundLent tb)) session place
   pub runs : o ≡ proceed (findR (groundLent tb)) further (session .count) place
   pub magic-stands : placeOf (findIn bs) session ≡ some place
   pub magic-runs : o ≡ proceed (findIn bs) further (session .count) place
@@ -110,7 +112,9 @@ pub record FromThere (tb bs answer : List ℕ) (r : Record) (further : ℕ) (o :
   -- fits comes with a fitting
   pub judged : (n : ℕ) (bits : List Bool) → o ≡ Satisfied n bits → judgeResult tb (answerOf o answer) ≡ IsModel
   -- the record that is left holds the session left
-  pub left-held : sessionIn (laid left) ≡ some left
+  pub left-held : sessionIn (recordLeft (told o left) r) ≡ some left
+  -- "A finished session answers again as before."
+  pub again : (session .standing ≡ exhausted → ⊥) → left ≡ session
 
 -- whatever the record holds; bs are the rules that the magic engine walks by
 pub record AnyRecord (tb rules answer work₁ work₂ bs : List ℕ) (r : Record) (further : ℕ) : Type 1 where
@@ -126,8 +130,8 @@ pub record AnyRecord (tb rules answer work₁ work₂ bs : List ℕ) (r : Record
 
 pub record Theorems : Type 1 where
   -- over every list of calls, each by either engine, with its own further limit and its own buffers
-  pub brought-back : (first : Lent) (o : Outcome) (s : Session) → begins first ≡ told o s → (calls : List Lent) → OnTicket (first .table) (carriedFirst (first .table) o s) calls
-      → BroughtBack (first .table) (carriedAfter calls (carriedFirst (first .table) o s))
+  pub brought-back : (first : Lent) (o : Outcome) (s : Session) → begins first ≡ told o s → (r : Record) (calls : List Lent)
+      → OnTicket (first .table) (carriedFirst (first .table) o s r) calls → BroughtBack (first .table) (carriedAfter calls (carriedFirst (first .table) o s r))
   pub any-record : (tb rules answer work₁ work₂ : List ℕ) → BothTaken tb rules answer work₁ work₂ → (r : Record) (further : ℕ)
       → AnyRecord tb rules answer work₁ work₂ (magicRules tb rules answer work₂) r further
   -- every session of the walk has room in the record

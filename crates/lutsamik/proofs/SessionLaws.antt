@@ -1,4 +1,4 @@
--- An exported function over a session that is lent: `let m = inner(*session, …); *session = m.session; m.answer`, with the other parameters handed on in their order. What the walks of such functions share.
+-- An exported function over a session that is lent: `let m = inner(*session, …); *session = m.session; m.number`, with the other parameters handed on in their order. What the walks of such functions share.
 --     Passed, shared, lent, number     a parameter that is handed on: a `&[u8]` and a `&mut [u8]` at the lifetime 'j, and an unsigned number. ps has the parameters after the session
 --     ended, stayed, vals      the function's signature, what it has of its parameters at exit, and their machine values. Of a parameter that is handed on it has what the callee says of its last value, whatever its type is
 --     Walk f               what is left to show of f, from where its borrow is open to its end.        meets    f meets its contract, from that
@@ -48,9 +48,9 @@ use denote.Triple.Walked.{Stay, Stays, stay-ref, fitsOf, hasOf, walkOf, AllGo, g
 use Rattle.session.specs.declared.record.Session.{Session}
 use Rattle.session.proofs.record.Session as S
 use Rattle.session.proofs.record.Session.Laws as S′
-use Rattle.lutsamik.specs.declared.calls.Told.{Told}
-use Rattle.lutsamik.proofs.calls.Told as T
-use Rattle.lutsamik.proofs.calls.Told.Laws as T′
+use Rattle.lutsamik.specs.declared.calls.Returned.{Returned}
+use Rattle.lutsamik.proofs.calls.Returned as T
+use Rattle.lutsamik.proofs.calls.Returned.Laws as T′
 use Rattle.lutsamik.proofs.LocalLaws.{past, result, others, Blocks, made, entered, Fitting, Values, held, enters, leaves, from-spot, look-part}
 
 -- ---- a parameter that is handed on
@@ -131,12 +131,12 @@ module _ {M : Type 1} (𝓤 : URA M) (H : Heap 𝓤) (A : Atoms 𝓤) (W : Given
 abbrev pub session-vals : Session → List Val
 session-vals = LL.vals S.the-type S′.the-laws
 
--- what whoever holds a `Told` knows of its fields
-told-session : (r : Told) (vs : List Val) → Is T.the-row r vs → Is S.the-row (r .session) (session-vals (r .session))
-told-session r vs is = LL.owed T.the-type T′.the-laws r vs is .0
+-- what whoever holds a `Returned` knows of its fields
+returned-session : (r : Returned) (vs : List Val) → Is T.the-row r vs → Is S.the-row (r .session) (session-vals (r .session))
+returned-session r vs is = LL.owed T.the-type T′.the-laws r vs is .0
 
-told-answer : (r : Told) (vs : List Val) → Is T.the-row r vs → r .answer < 2 ^ 64
-told-answer r vs is = LL.owed T.the-type T′.the-laws r vs is .1 .0 .1
+returned-number : (r : Returned) (vs : List Val) → Is T.the-row r vs → r .number < 2 ^ 64
+returned-number r vs is = LL.owed T.the-type T′.the-laws r vs is .1 .0 .1
 
 -- ---- the function: n lifetimes beside the session's
 module _ (n : ℕ) (ps : List (Passed (suc n))) where
@@ -165,8 +165,8 @@ module _ (n : ℕ) (ps : List (Passed (suc n))) where
       Owned = owns (typesAt (slots ps) κs) (a .1) (vals κs a .1)
 
       -- what the callee ensures, with the last values of the parameters that it was handed
-      abbrev pub Ensured : Told → SProp 𝓤
-      Ensured r = ex 𝓤 (λ (ws : Unit {0} × Fins κs (slots ps) (kepts ps) (a .1)). sep 𝓤 (sem 𝓤 H A (fsep ftrue (lastsOf κs (slots ps) (kepts ps) (a .1) (ws .1)))) (c κs a .ensures g (r .answer) (atExit ended κs a (r .session, ws .1))))
+      abbrev pub Ensured : Returned → SProp 𝓤
+      Ensured r = ex 𝓤 (λ (ws : Unit {0} × Fins κs (slots ps) (kepts ps) (a .1)). sep 𝓤 (sem 𝓤 H A (fsep ftrue (lastsOf κs (slots ps) (kepts ps) (a .1) (ws .1)))) (c κs a .ensures g (r .number) (atExit ended κs a (r .session, ws .1))))
 
       -- the session's borrow, open, before Γ: its cell, and what closes it. And closed, at another session
       abbrev pub Opened : List (Item 𝓤) → List (Item 𝓤)
@@ -174,7 +174,7 @@ module _ (n : ℕ) (ps : List (Passed (suc n))) where
           ‵ (fat fullShare (rawTy S′.mir) (a .0 .ptr .0) (a .0 .ptr .1) (LL.val S.the-type S′.the-laws (a .0 .now))) ∷ ‵ (fobor (κs .0) (qs .0) (Body (mem S.the-row) (a .0 .ptr .0) (a .0 .ptr .1) (a .0 .name)))
           ∷ ‵ (fobs (a .0 .name) (S.the-row .coded .code (a .0 .now))) ∷ ‵ (fauth (a .0 .name) (S.the-row .coded .code (a .0 .now))) ∷ Γ
 
-      abbrev Closed : Told → List (Item 𝓤)
+      abbrev Closed : Returned → List (Item 𝓤)
       Closed r =
           ‵ (fobs (a .0 .name) (S.the-row .coded .code (r .session))) ∷ ‵ (fbor (κs .0) (Body (mem S.the-row) (a .0 .ptr .0) (a .0 .ptr .1) (a .0 .name))) ∷ ‵ (flft (κs .0) (qs .0)) ∷ raw Tokens ∷ raw (Ensured r) ∷ []
 
@@ -182,14 +182,14 @@ module _ (n : ℕ) (ps : List (Passed (suc n))) where
       abbrev pub Ready : List (Item 𝓤) → List (Item 𝓤)
       Ready Γ = raw Tokens ∷ ‵ (S.the-row .own (a .0 .now) (session-vals (a .0 .now))) ∷ ‵ Owned ∷ Opened Γ
 
-      exits : (r : Told) → r .answer < 2 ^ 64 → ent 𝓤 (⋆ 𝓤 H A (Closed r)) (Post (vint w64 (r .answer)))
+      exits : (r : Returned) → r .number < 2 ^ 64 → ent 𝓤 (⋆ 𝓤 H A (Closed r)) (Post (vint w64 (r .number)))
       exits r fits =
           qed W (Closed r) ∵ move ! (4 ∷ []) $
-          use1 W (some (λ (ws : Unit {0} × Fins κs (slots ps) (kepts ps) (a .1)). (‵ ftrue ⊛ ‵ (lastsOf κs (slots ps) (kepts ps) (a .1) (ws .1))) ⊛ raw (c κs a .ensures g (r .answer) (atExit ended κs a (r .session, ws .1))))) (id⊢ 𝓤 _) $ pick ! (λ ws.
-          suffices ! _ (ends-at 𝓤 H A ended stayed c W ((κs, qs, tt, a, vals κs a), g) (vint w64 (r .answer)) (r .answer) (r .session, ws .1) (tt, fit-all κs ps (a .1) (ws .1))) $
+          use1 W (some (λ (ws : Unit {0} × Fins κs (slots ps) (kepts ps) (a .1)). (‵ ftrue ⊛ ‵ (lastsOf κs (slots ps) (kepts ps) (a .1) (ws .1))) ⊛ raw (c κs a .ensures g (r .number) (atExit ended κs a (r .session, ws .1))))) (id⊢ 𝓤 _) $ pick ! (λ ws.
+          suffices ! _ (ends-at 𝓤 H A ended stayed c W ((κs, qs, tt, a, vals κs a), g) (vint w64 (r .number)) (r .number) (r .session, ws .1) (tt, fit-all κs ps (a .1) (ws .1))) $
           split ! $ split ! $ drop ! $ use1 W (‵ (hasOf κs (slots ps) (kepts ps) (stays ps) (a .1) (ws .1) (vals κs a .1))) (had 𝓤 H A W κs ps (a .1) (ws .1) (vals κs a .1)) $ move ! (2 ∷ 3 ∷ []) $
           feqI ! (List Val) (ptr-vals (a .0)) (ptr-vals (a .0)) refl $ fjoin3 ! $ fjoin ! $
-          owned ! u64 (Is u64) (uint-makes 𝓤 H A W w64) (r .answer) (vint w64 (r .answer) ∷ []) (refl, fits) $ move ! (1 ∷ 0 ∷ []) $ join ! $ move ! (2 ∷ 3 ∷ []) $ join ! $ join ! $ frame ! $ done !)
+          owned ! u64 (Is u64) (uint-makes 𝓤 H A W w64) (r .number) (vint w64 (r .number) ∷ []) (refl, fits) $ move ! (1 ∷ 0 ∷ []) $ join ! $ move ! (2 ∷ 3 ∷ []) $ join ! $ join ! $ frame ! $ done !)
 
       -- the session is copied into the local s
       pub takes : {K : Type 0} → K → {E : Env 𝓤 H} {q : Ending 𝓤 H} {Γ : List (Item 𝓤)} {rest : Code} {i s l : ℕ} → Is S.the-row (a .0 .now) (session-vals (a .0 .now))
@@ -211,30 +211,30 @@ module _ (n : ℕ) (ps : List (Passed (suc n))) where
       abbrev After : ℕ → Code
       After d = seq (assign (place 1 (deref S′.mir ∷ [])) (rvOpd (copy (place d (field 0 ∷ []))))) (seq (assign (place 0 []) (rvOpd (copy (place d (field 1 ∷ []))))) return)
 
-      stores : {K : Type 0} → K → {l₀ l₁ : ℕ} {τ : Ty} {E : Env 𝓤 H} {d l : ℕ} (r : Told) (vs : Values 𝓤 H A E) → Is T.the-row r (LL.vals T.the-type T′.the-laws r) → spotOf 𝓤 H (Locals l₀ l₁ τ E) d ≡ (T′.mir, l, 0)
+      stores : {K : Type 0} → K → {l₀ l₁ : ℕ} {τ : Ty} {E : Env 𝓤 H} {d l : ℕ} (r : Returned) (vs : Values 𝓤 H A E) → Is T.the-row r (LL.vals T.the-type T′.the-laws r) → spotOf 𝓤 H (Locals l₀ l₁ τ E) d ≡ (T′.mir, l, 0)
           → nth 𝓤 H A (d + d) (Filled l₀ l₁ τ E vs) ≡ ‵ (fat fullShare T′.mir l 0 (LL.val T.the-type T′.the-laws r))
           → Seq K W (raw Tokens ∷ raw (Ensured r) ∷ Opened (Filled l₀ l₁ τ E vs)) (runs (𝓣 .C) (𝓣 .Λ) (Locals l₀ l₁ τ E) (After d) (atRet (Locals l₀ l₁ τ E) Post))
       stores t {l₀} {l₁} {τ} {E} {d} r vs is at-d cell =
-          let put-back = told-session r _ is in
-          let fits = told-answer r _ is in
+          let put-back = returned-session r _ is in
+          let fits = returned-number r _ is in
           assigns t (of-opd t (load t (from-spot t at-d (fld t refl (stop t))) (look-part t (past 6 (d + d)) cell (sub t 0 refl (whole t))))) (from t (hop t (look t 8 refl) (stop t)))
           (store-raw t 2 refl (LL.lawful S.the-type S′.the-laws 𝓤 H A W .typed (r .session) _ put-back .0)) $
           assigns t (of-opd t (load t (from-spot t at-d (fld t refl (stop t))) (look-part t (past 6 (d + d)) cell (sub t 1 refl (whole t))))) (from t (stop t)) (init t 6 refl (tt, record { fits = fits })) $
           owned t S.the-row (Is S.the-row) (LL.makes S.the-type S′.the-plain 𝓤 H A) (r .session) (session-vals (r .session)) put-back $
           move t (3 ∷ 0 ∷ 4 ∷ 5 ∷ 6 ∷ []) $ closes t tt S.the-row (r .session) (session-vals (r .session)) (a .0 .ptr .0) (a .0 .ptr .1) $
-          returns t (look t 5 refl) $ leaves t (Closed r) (Locals l₀ l₁ τ E) (vint w64 (r .answer), (vptr (a .0 .ptr .0) (a .0 .ptr .1), vs)) _ (by t (exits r fits))
+          returns t (look t 5 refl) $ leaves t (Closed r) (Locals l₀ l₁ τ E) (vint w64 (r .number), (vptr (a .0 .ptr .0) (a .0 .ptr .1), vs)) _ (by t (exits r fits))
 
       -- the callee is called at the other lifetimes and shares, with the session and the other parameters
-      pub turns : {K : Type 0} → K → {l₀ l₁ : ℕ} {τ : Ty} {E : Env 𝓤 H} {d l : ℕ} {f : Name} {xs : List Operand} {Γ : List (Item 𝓤)} (inner : Contract 𝓤) → Triple 𝓤 (𝓣 .C f) inner → (y : inner .Ghost) (vs : Told → Values 𝓤 H A E)
+      pub turns : {K : Type 0} → K → {l₀ l₁ : ℕ} {τ : Ty} {E : Env 𝓤 H} {d l : ℕ} {f : Name} {xs : List Operand} {Γ : List (Item 𝓤)} (inner : Contract 𝓤) → Triple 𝓤 (𝓣 .C f) inner → (y : inner .Ghost) (vs : Returned → Values 𝓤 H A E)
           → ent 𝓤 (sep 𝓤 (sep 𝓤 Tokens (sep 𝓤 (sem 𝓤 H A (S.the-row .own (a .0 .now) (session-vals (a .0 .now)))) (sem 𝓤 H A Owned))) (emp 𝓤)) (inner .pre y)
-          → ((v : Val) → ent 𝓤 (inner .post y v) (H .⇛ (ex 𝓤 (λ (r : Told). sep 𝓤 (sep 𝓤 Tokens (sem 𝓤 H A (T.the-row .own r (v ∷ [])))) (Ensured r)))))
+          → ((v : Val) → ent 𝓤 (inner .post y v) (H .⇛ (ex 𝓤 (λ (r : Returned). sep 𝓤 (sep 𝓤 Tokens (sem 𝓤 H A (T.the-row .own r (v ∷ [])))) (Ensured r)))))
           → Opds K W (raw (inner .pre y) ∷ Opened Γ) (Locals l₀ l₁ τ E) xs (inner .args y) → spotOf 𝓤 H (Locals l₀ l₁ τ E) d ≡ (T′.mir, l, 0) → nth 𝓤 H A (d + d) Γ ≡ ‵ (froom T′.mir l 0)
-          → ((r : Told) → put 𝓤 H A (d + d) (‵ (fat fullShare T′.mir l 0 (LL.val T.the-type T′.the-laws r))) Γ ≡ Filled l₀ l₁ τ E (vs r))
-          → ((r : Told) → nth 𝓤 H A (d + d) (Filled l₀ l₁ τ E (vs r)) ≡ ‵ (fat fullShare T′.mir l 0 (LL.val T.the-type T′.the-laws r)))
+          → ((r : Returned) → put 𝓤 H A (d + d) (‵ (fat fullShare T′.mir l 0 (LL.val T.the-type T′.the-laws r))) Γ ≡ Filled l₀ l₁ τ E (vs r))
+          → ((r : Returned) → nth 𝓤 H A (d + d) (Filled l₀ l₁ τ E (vs r)) ≡ ‵ (fat fullShare T′.mir l 0 (LL.val T.the-type T′.the-laws r)))
           → Seq K W (Ready Γ) (runs (𝓣 .C) (𝓣 .Λ) (Locals l₀ l₁ τ E) (seq (call f xs (place d [])) (After d)) (atRet (Locals l₀ l₁ τ E) Post))
       turns {K} t {l₀} {l₁} {τ} {E} {d} {l} {Γ = Γ} inner known y vs goes comes opds at-d room filled cell =
           use3 W (raw (inner .pre y)) (via 𝓤 _ (pop 𝓤 H A (raw _) []) goes) $ calls-at t (fmOf 𝓤 H (W .laws) 𝓣) inner known y opds (λ v.
-          use1 W (later (some (λ (r : Told). (raw Tokens ⊛ ‵ (T.the-row .own r (v ∷ []))) ⊛ raw (Ensured r)))) (comes v) $ await t tt $ pick t (λ r. split t $ split t $ move t (1 ∷ []) $
+          use1 W (later (some (λ (r : Returned). (raw Tokens ⊛ ‵ (T.the-row .own r (v ∷ []))) ⊛ raw (Ensured r)))) (comes v) $ await t tt $ pick t (λ r. split t $ split t $ move t (1 ∷ []) $
           peeks t T.the-row (Is T.the-row) (shows 𝓤 H A T.the-row) r (v ∷ []) (λ is. drop t $
           let e = LL.tells T.the-type T′.the-laws r (v ∷ []) is in
           let is′ = subst (Is T.the-row r) e is in

@@ -11,24 +11,24 @@ ghost use Rattle.magic.specs.Sessions.{magicBegun, magicResumed, rulesLeft};
 ghost use Rattle.lutsamik.specs.Pack.{packVerdict};
 
 // What a call gives back, its verdict as one number.
-pub struct Told {
+pub struct Returned {
     pub session: Session,
-    pub answer: u64,
+    pub number: u64,
 }
 
-fn pack_moved(moved: Moved) -> Told
-    ensures { λ r. ⌜ (r .answer ≡ packVerdict (moved .verdict)) × (r .session ≡ moved .session) ⌝ }
+fn pack_moved(moved: Moved) -> Returned
+    ensures { λ r. ⌜ (r .number ≡ packVerdict (moved .verdict)) × (r .session ≡ moved .session) ⌝ }
 {
     let session = moved.session;
     let verdict = moved.verdict;
-    Told {
+    Returned {
         session: session,
-        answer: pack_verdict(verdict),
+        number: pack_verdict(verdict),
     }
 }
 
-fn begin_relevancy(session: Session, table: &[u8], answer: &mut [u8], work: &mut [u8]) -> Told
-    ensures { λ r. ⌜ (r .answer ≡ packVerdict (fitResult (now (table .entry)) (now (answer .entry)) (now (work .entry)))) × (r .session ≡ recordLeft (begun (now (table .entry)) (now (answer .entry)) (now (work .entry))) session) × (now (answer .exit) ≡ fitAnswer (now (table .entry)) (now (answer .entry)) (now (work .entry))) × (now (work .exit) ≡ fitWork (now (table .entry)) (now (answer .entry)) (now (work .entry))) ⌝ }
+fn begin_relevancy(session: Session, table: &[u8], answer: &mut [u8], work: &mut [u8]) -> Returned
+    ensures { λ r. ⌜ (r .number ≡ packVerdict (fitResult (now (table .entry)) (now (answer .entry)) (now (work .entry)))) × (r .session ≡ recordLeft (begun (now (table .entry)) (now (answer .entry)) (now (work .entry))) session) × (now (answer .exit) ≡ fitAnswer (now (table .entry)) (now (answer .entry)) (now (work .entry))) × (now (work .exit) ≡ fitWork (now (table .entry)) (now (answer .entry)) (now (work .entry))) ⌝ }
 {
     pack_moved(relevancy::engine::begin(session, table, answer, work))
 }
@@ -39,8 +39,8 @@ fn resume_relevancy(
     table: &[u8],
     answer: &mut [u8],
     work: &mut [u8],
-) -> Told
-    ensures { λ r. ⌜ (r .answer ≡ packVerdict (verdictTold (resumed session further (now (table .entry)) (now (answer .entry)) (now (work .entry))))) × (r .session ≡ recordLeft (resumed session further (now (table .entry)) (now (answer .entry)) (now (work .entry))) session) × (now (answer .exit) ≡ answerLeft (resumed session further (now (table .entry)) (now (answer .entry)) (now (work .entry))) (now (answer .entry))) × (now (work .exit) ≡ workLeft (resumed session further (now (table .entry)) (now (answer .entry)) (now (work .entry))) (now (work .entry))) ⌝ }
+) -> Returned
+    ensures { λ r. ⌜ (r .number ≡ packVerdict (verdictTold (resumed session further (now (table .entry)) (now (answer .entry)) (now (work .entry))))) × (r .session ≡ recordLeft (resumed session further (now (table .entry)) (now (answer .entry)) (now (work .entry))) session) × (now (answer .exit) ≡ answerLeft (resumed session further (now (table .entry)) (now (answer .entry)) (now (work .entry))) (now (answer .entry))) × (now (work .exit) ≡ workLeft (resumed session further (now (table .entry)) (now (answer .entry)) (now (work .entry))) (now (work .entry))) ⌝ }
 {
     pack_moved(relevancy::engine::resume(session, further, table, answer, work))
 }
@@ -51,8 +51,8 @@ fn begin_magic(
     rules: &mut [u8],
     answer: &mut [u8],
     work: &mut [u8],
-) -> Told
-    ensures { λ r. ⌜ (r .answer ≡ packVerdict (magicResult (now (table .entry)) (now (rules .entry)) (now (answer .entry)) (now (work .entry)))) × (r .session ≡ recordLeft (magicBegun (now (table .entry)) (now (rules .entry)) (now (answer .entry)) (now (work .entry))) session) × (now (rules .exit) ≡ magicRules (now (table .entry)) (now (rules .entry)) (now (answer .entry)) (now (work .entry))) × (now (answer .exit) ≡ magicAnswer (now (table .entry)) (now (rules .entry)) (now (answer .entry)) (now (work .entry))) × (now (work .exit) ≡ magicWork (now (table .entry)) (now (rules .entry)) (now (answer .entry)) (now (work .entry))) ⌝ }
+) -> Returned
+    ensures { λ r. ⌜ (r .number ≡ packVerdict (magicResult (now (table .entry)) (now (rules .entry)) (now (answer .entry)) (now (work .entry)))) × (r .session ≡ recordLeft (magicBegun (now (table .entry)) (now (rules .entry)) (now (answer .entry)) (now (work .entry))) session) × (now (rules .exit) ≡ magicRules (now (table .entry)) (now (rules .entry)) (now (answer .entry)) (now (work .entry))) × (now (answer .exit) ≡ magicAnswer (now (table .entry)) (now (rules .entry)) (now (answer .entry)) (now (work .entry))) × (now (work .exit) ≡ magicWork (now (table .entry)) (now (rules .entry)) (now (answer .entry)) (now (work .entry))) ⌝ }
 {
     pack_moved(magic::engine::begin(session, table, rules, answer, work))
 }
@@ -64,8 +64,8 @@ fn resume_magic(
     rules: &mut [u8],
     answer: &mut [u8],
     work: &mut [u8],
-) -> Told
-    ensures { λ r. ⌜ (r .answer ≡ packVerdict (verdictTold (magicResumed session further (now (table .entry)) (now (rules .entry)) (now (answer .entry)) (now (work .entry))))) × (r .session ≡ recordLeft (magicResumed session further (now (table .entry)) (now (rules .entry)) (now (answer .entry)) (now (work .entry))) session) × (now (rules .exit) ≡ rulesLeft (magicResumed session further (now (table .entry)) (now (rules .entry)) (now (answer .entry)) (now (work .entry))) (now (table .entry)) (now (rules .entry))) × (now (answer .exit) ≡ answerLeft (magicResumed session further (now (table .entry)) (now (rules .entry)) (now (answer .entry)) (now (work .entry))) (now (answer .entry))) × (now (work .exit) ≡ workLeft (magicResumed session further (now (table .entry)) (now (rules .entry)) (now (answer .entry)) (now (work .entry))) (now (work .entry))) ⌝ }
+) -> Returned
+    ensures { λ r. ⌜ (r .number ≡ packVerdict (verdictTold (magicResumed session further (now (table .entry)) (now (rules .entry)) (now (answer .entry)) (now (work .entry))))) × (r .session ≡ recordLeft (magicResumed session further (now (table .entry)) (now (rules .entry)) (now (answer .entry)) (now (work .entry))) session) × (now (rules .exit) ≡ rulesLeft (magicResumed session further (now (table .entry)) (now (rules .entry)) (now (answer .entry)) (now (work .entry))) (now (table .entry)) (now (rules .entry))) × (now (answer .exit) ≡ answerLeft (magicResumed session further (now (table .entry)) (now (rules .entry)) (now (answer .entry)) (now (work .entry))) (now (answer .entry))) × (now (work .exit) ≡ workLeft (magicResumed session further (now (table .entry)) (now (rules .entry)) (now (answer .entry)) (now (work .entry))) (now (work .entry))) ⌝ }
 {
     pack_moved(magic::engine::resume(session, further, table, rules, answer, work))
 }
@@ -82,7 +82,7 @@ pub extern "C" fn lutsamik_begin_relevancy(
 {
     let m = begin_relevancy(*session, table, answer, work);
     *session = m.session;
-    m.answer
+    m.number
 }
 
 // The relevancy engine goes on with a session, under a further limit.
@@ -98,7 +98,7 @@ pub extern "C" fn lutsamik_resume_relevancy(
 {
     let m = resume_relevancy(*session, further, table, answer, work);
     *session = m.session;
-    m.answer
+    m.number
 }
 
 // A first run by the magic engine, which leaves a session.
@@ -114,7 +114,7 @@ pub extern "C" fn lutsamik_begin_magic(
 {
     let m = begin_magic(*session, table, rules, answer, work);
     *session = m.session;
-    m.answer
+    m.number
 }
 
 // The magic engine goes on with a session, under a further limit.
@@ -131,5 +131,5 @@ pub extern "C" fn lutsamik_resume_magic(
 {
     let m = resume_magic(*session, further, table, rules, answer, work);
     *session = m.session;
-    m.answer
+    m.number
 }

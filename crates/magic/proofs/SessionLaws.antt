@@ -46,12 +46,12 @@ module _ (tb rules answer work : List ℕ) where
   begun-runs e v = screened-through (magicTooShort tb rules answer work) (isValid own) run e v
 
   -- its other statements are those of a run without a session
-  pub begun-fits : (verdictTold (magicBegun tb rules answer work) ≡ magicResult tb rules answer work)
+  pub begun-same : (verdictTold (magicBegun tb rules answer work) ≡ magicResult tb rules answer work)
       × (rulesLeft (magicBegun tb rules answer work) tb rules ≡ magicRules tb rules answer work)
       × (answerLeft (magicBegun tb rules answer work) answer ≡ magicAnswer tb rules answer work)
       × (workLeft (magicBegun tb rules answer work) work ≡ magicWork tb rules answer work)
   unfolding rulesOutcome
-  begun-fits = go (magicTooShort tb rules answer work) (isValid own) refl refl
+  begun-same = go (magicTooShort tb rules answer work) (isValid own) refl refl
     where
       Says : Called → Type 0
       Says c = Fitted tb rules answer work (verdictTold c) (rulesLeft c tb rules) (answerLeft c answer) (workLeft c work)
@@ -95,4 +95,4 @@ module _ (tb rules answer work : List ℕ) where
     unfolding magicBegun magicResumed
     resumed-first e f =
         screened-first (findIn bs) (limitOf ((problemIn own) .limit)) (magicTooShort tb rules answer work) (isValid own) on e
-        (declined-by (magicBegun tb rules answer work) e (begun-fits .0 ∙ f))
+        (declined-by (magicBegun tb rules answer work) e (begun-same .0 ∙ f))

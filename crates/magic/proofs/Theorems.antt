@@ -34,7 +34,7 @@ use Rattle.magic.specs.Engine.{rulesOutcome, magicTooShort, magicOutcome
 use Rattle.magic.specs.Sessions.{magicBegun, magicResumed, rulesLeft}
 use Rattle.magic.specs.Claims.{MagicTaken, Theorems}
 use Rattle.magic.proofs.EngineLaws.{short-table, short-rules, short-answer, short-work, long-enough, fit-short, fit-invalid}
-use Rattle.magic.proofs.SessionLaws.{begun-runs, begun-fits, resumed-first}
+use Rattle.magic.proofs.SessionLaws.{begun-runs, begun-same, resumed-first}
 
 -- ---- a call that is taken
 
@@ -155,7 +155,7 @@ theorems =
     record {
       demand-2 = demand-2;
       taken-or-refused = taken-or-refused;
-      begun-fits = begun-fits;
+      begun-same = begun-same;
       begun-told = begun-told;
       resumed-or-refused = resumed-or-refused;
       resumed-first = first;

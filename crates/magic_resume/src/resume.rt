@@ -81,7 +81,7 @@ fn stand(
         Found::Split(n) => {
             let all = alternatives_at(rules, path, depth);
             if !split_stands(all, depth, standing, next) {
-                return Resumed::Foreign;
+                return Resumed::Nowhere;
             }
             rewind(facts, path, 18434, depth, n, next);
             let walked = work_off(rules, index, facts, path, depth, done, count, limit);
@@ -89,7 +89,7 @@ fn stand(
         }
         Found::Closed(n) => {
             if !closed_stands(depth, standing, next) {
-                return Resumed::Foreign;
+                return Resumed::Nowhere;
             }
             undo(facts, 18434, n, done);
             return Resumed::On(Walked::Shut(count));
@@ -97,7 +97,7 @@ fn stand(
         _ => {}
     }
     if !open_stands(standing, next) {
-        return Resumed::Foreign;
+        return Resumed::Nowhere;
     }
     Resumed::On(Walked::Opened(count, depth))
 }
@@ -143,13 +143,13 @@ fn resume(
         );
     }
     let Found::Split(n) = found else {
-        return Resumed::Foreign;
+        return Resumed::Nowhere;
     };
     let a = atoms[depth] as usize;
     let j = nexts[depth];
     let all = alternatives_at(rules, path, depth);
     if !is_taken(all, j, a) {
-        return Resumed::Foreign;
+        return Resumed::Nowhere;
     }
     rewind(facts, path, 18434, depth, n, j - 1);
     let own = mark(path, depth);
@@ -171,7 +171,7 @@ fn resume(
         limit,
     );
     let Resumed::On(walked) = below else {
-        return Resumed::Foreign;
+        return Resumed::Nowhere;
     };
     let Walked::Shut(shut) = walked else {
         return Resumed::On(walked);

@@ -20,7 +20,7 @@ use Rattle.session.proofs.CallLaws.{CallLeft, left-told}
 use Rattle.session.proofs.EndLaws.{left-refused, left-called, left-back}
 use Rattle.relevancy.specs.Engine.{outcomeIn, tooShort, fitResult, fitAnswer, fitWork}
 use Rattle.relevancy.specs.Sessions.{begun, resumed}
-use Rattle.relevancy.proofs.SessionLaws.{begun-short, begun-invalid, begun-runs, begun-fits, resumed-short, resumed-invalid, resumed-runs}
+use Rattle.relevancy.proofs.SessionLaws.{begun-short, begun-invalid, begun-runs, begun-same, resumed-short, resumed-invalid, resumed-runs}
 
 module _ (tb answer work : List ℕ) (r : Record) where
   abbrev own : List ℕ
@@ -33,7 +33,7 @@ module _ (tb answer work : List ℕ) (r : Record) where
       (m .verdict ≡ fitResult tb answer work) × (m .session ≡ recordLeft (begun tb answer work) r) × (left ≡ fitAnswer tb answer work) × (rest ≡ fitWork tb answer work)
 
   as-fitted : (m : Moved) (left rest : List ℕ) → CallLeft (begun tb answer work) r answer work (m .verdict) (m .session) left rest → Begins m left rest
-  as-fitted m left rest h = (h .0 ∙ begun-fits tb answer work .0, h .1, h .2 ∙ begun-fits tb answer work .1, h .3 ∙ begun-fits tb answer work .2)
+  as-fitted m left rest h = (h .0 ∙ begun-same tb answer work .0, h .1, h .2 ∙ begun-same tb answer work .1, h .3 ∙ begun-same tb answer work .2)
 
   begin-refused : (e : ℕ) → begun tb answer work ≡ declined e → (m : Moved) → (m .verdict ≡ Refused e) × (m .session ≡ r) → Begins m answer work
   begin-refused e so m is = as-fitted m answer work (left-refused (begun tb answer work) r answer work e so m is)

@@ -42,10 +42,10 @@ module _ (tb answer work : List ℕ) where
   begun-runs e v = screened-through (tooShort tb answer work) (isValid own) run e v
 
   -- its other statements are those of a run without a session
-  pub begun-fits : (verdictTold (begun tb answer work) ≡ fitResult tb answer work) × (answerLeft (begun tb answer work) answer ≡ fitAnswer tb answer work)
+  pub begun-same : (verdictTold (begun tb answer work) ≡ fitResult tb answer work) × (answerLeft (begun tb answer work) answer ≡ fitAnswer tb answer work)
       × (workLeft (begun tb answer work) work ≡ fitWork tb answer work)
   unfolding outcomeIn
-  begun-fits = go (tooShort tb answer work) (isValid own) refl refl
+  begun-same = go (tooShort tb answer work) (isValid own) refl refl
     where
       Says : Called → Type 0
       Says c = Fitted tb answer work (verdictTold c) (answerLeft c answer) (workLeft c work)
@@ -84,4 +84,4 @@ module _ (tb answer work : List ℕ) where
     unfolding begun resumed
     resumed-first e f =
         screened-first (findR (groundIn own)) (limitOf ((problemIn own) .limit)) (tooShort tb answer work) (isValid own) on e
-        (declined-by (begun tb answer work) e (begun-fits .0 ∙ f))
+        (declined-by (begun tb answer work) e (begun-same .0 ∙ f))

@@ -28,7 +28,7 @@ pub record Theorems : Type 1 where
   -- every other call is refused
   pub taken-or-refused : (tb answer work : List ℕ) → Taken tb answer work ⊎ (fitResult tb answer work ≡ Refused 11) ⊎ (fitResult tb answer work ≡ Refused 31)
   -- a first run's other statements stay: with a session it says the same, and leaves the same in the buffers
-  pub begun-fits : (tb answer work : List ℕ)
+  pub begun-same : (tb answer work : List ℕ)
       → (verdictTold (begun tb answer work) ≡ fitResult tb answer work) × (answerLeft (begun tb answer work) answer ≡ fitAnswer tb answer work)
       × (workLeft (begun tb answer work) work ≡ fitWork tb answer work)
   -- a first run that is taken tells the outcome of the table's walk under its own limit, and leaves the session of it

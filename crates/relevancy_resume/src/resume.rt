@@ -84,7 +84,7 @@ fn stand(
         Found::Split(n) => {
             let all = alternatives_at(table, path, depth);
             if !split_stands(all, depth, standing, next) {
-                return Resumed::Foreign;
+                return Resumed::Nowhere;
             }
             rewind(facts, path, 2050, depth, n, next);
             let walked = work_off(table, conds, alts, facts, path, depth, done, count, limit);
@@ -92,7 +92,7 @@ fn stand(
         }
         Found::Closed(n) => {
             if !closed_stands(depth, standing, next) {
-                return Resumed::Foreign;
+                return Resumed::Nowhere;
             }
             undo(facts, 2050, n, done);
             return Resumed::On(Walked::Shut(count));
@@ -100,7 +100,7 @@ fn stand(
         _ => {}
     }
     if !open_stands(standing, next) {
-        return Resumed::Foreign;
+        return Resumed::Nowhere;
     }
     Resumed::On(Walked::Opened(count, depth))
 }
@@ -148,13 +148,13 @@ fn resume(
         );
     }
     let Found::Split(n) = found else {
-        return Resumed::Foreign;
+        return Resumed::Nowhere;
     };
     let a = atoms[depth] as usize;
     let j = nexts[depth];
     let all = alternatives_at(table, path, depth);
     if !is_taken(all, j, a) {
-        return Resumed::Foreign;
+        return Resumed::Nowhere;
     }
     rewind(facts, path, 2050, depth, n, j - 1);
     let own = mark(path, depth);
@@ -177,7 +177,7 @@ fn resume(
         limit,
     );
     let Resumed::On(walked) = below else {
-        return Resumed::Foreign;
+        return Resumed::Nowhere;
     };
     let Walked::Shut(shut) = walked else {
         return Resumed::On(walked);

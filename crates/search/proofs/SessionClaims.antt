@@ -65,9 +65,9 @@ module _ {I : Type 0} (k : Key I) (p : Ground I) where
       (w .0)
       (ap (λ (x : Kept). keptAfter x (c .further) (called (findBy k p (c .magic)) (x .session) (c .further))) e ∙ w .1)
 
-  not-foreign : (b : Bool) (o : Outcome) (s : Session) → cond b (declined 41) (told o s) ≡ declined 42 → ⊥
-  not-foreign true o s e = let z : _≡_ {A = ℕ} 41 42 = cc in omega arith
-  not-foreign false o s e = let z : _≡_ {A = ℕ} 0 1 = cc in omega arith
+  not-nowhere : (b : Bool) (o : Outcome) (s : Session) → cond b (declined 41) (told o s) ≡ declined 42 → ⊥
+  not-nowhere true o s e = let z : _≡_ {A = ℕ} 41 42 = cc in omega arith
+  not-nowhere false o s e = let z : _≡_ {A = ℕ} 0 1 = cc in omega arith
 
   told-is : (b : Bool) (x o : Outcome) (y s : Session) → cond b (declined 41) (told x y) ≡ told o s → (o ≡ x) × (s ≡ y)
   told-is true x o y s e = let z : _≡_ {A = ℕ} 0 1 = cc in absurd (omega arith)
@@ -91,8 +91,8 @@ module _ {I : Type 0} (k : Key I) (p : Ground I) where
       record {
         answer-is = subst (λ (x : Kept). x .answered ≡ outcome (findR p) (x .sum)) (sym (w .1)) refl;
         session-is = subst (λ (x : Kept). x .session ≡ firstSession (findR p) (x .sum)) (sym (w .1)) refl;
-        never-foreign = λ by further e.
-            not-foreign
+        always-stands = λ by further e.
+            not-nowhere
             (ltb 4294967295 ((firstSession (findR p) (w .0)) .count + further))
             (outcome (findR p) (w .0 + further))
             (firstSession (findR p) (w .0 + further))

@@ -150,7 +150,7 @@ module _ {I : Type 0} (find : List ℕ → Found I) where
       go refuted e = r .refuted-over e
       go satisfied e =
           let unsplit : length (altsHere find s) ≡ 0 = ap (λ (f : Found I). length (altsFound f)) ((r .satisfied-open e) .1) in
-          omega (arith, r .next-fits)
+          omega (arith, r .next-within)
       go exhausted e = absurd (h e)
 
   again : (s : Session) (further : ℕ) (t : Place I) → placeOf find s ≡ some t → (s .standing ≡ exhausted → ⊥) → sessionAfter find further (s .count) t ≡ s
@@ -173,9 +173,9 @@ module _ {I : Type 0} (find : List ℕ → Found I) where
   unfolding called
   call-told s further t h e = rw (called, le-ltb 4294967295 (s .count + further) h, e)
 
-  call-foreign : (s : Session) (further : ℕ) → s .count + further ≤ 4294967295 → placeOf find s ≡ none → called find s further ≡ declined 42
+  call-nowhere : (s : Session) (further : ℕ) → s .count + further ≤ 4294967295 → placeOf find s ≡ none → called find s further ≡ declined 42
   unfolding called
-  call-foreign s further h e = rw (called, le-ltb 4294967295 (s .count + further) h, e)
+  call-nowhere s further h e = rw (called, le-ltb 4294967295 (s .count + further) h, e)
 
   call-large : (s : Session) (further : ℕ) → 4294967295 < s .count + further → called find s further ≡ declined 41
   unfolding called
@@ -195,11 +195,11 @@ module _ {I : Type 0} (find : List ℕ → Found I) where
         again = again s further t (w .1);
       }
 
-  foreign : (s : Session) (further : ℕ) → s .count + further ≤ 4294967295 → (Right find s → ⊥) → called find s further ≡ declined 42
-  foreign s further h wrong = go (placeOf find s) refl
+  nowhere : (s : Session) (further : ℕ) → s .count + further ≤ 4294967295 → (Right find s → ⊥) → called find s further ≡ declined 42
+  nowhere s further h wrong = go (placeOf find s) refl
     where
       go : (o : Option (Place I)) → placeOf find s ≡ o → called find s further ≡ declined 42
-      go none e = call-foreign s further h e
+      go none e = call-nowhere s further h e
       go (some t) e = absurd (wrong (stands-right find s t e))
 
   told-no : (o : Outcome) (s : Session) → told o s ≡ declined 42 → ⊥
@@ -209,7 +209,7 @@ module _ {I : Type 0} (find : List ℕ → Found I) where
   any-session =
       record {
         refused-41 = call-large;
-        refused-42 = λ s further h. (λ e r. let w = told-right s further h r in told-no (w .outcome) (w .left) (sym (w .calls) ∙ e), foreign s further h);
+        refused-42 = λ s further h. (λ e r. let w = told-right s further h r in told-no (w .outcome) (w .left) (sym (w .calls) ∙ e), nowhere s further h);
         told-right = told-right;
         first-left = λ limit. run-left (root find) 0 limit (place-reached find [] tt);
       }

@@ -63,7 +63,7 @@ and-parts false b e = absurd (subst T (sym e) tt)
 module _ {I : Type 0} where
   -- what `Right` says of the node that a path leads to
   record NodeRight (f : Found I) (next : ℕ) (standing : Standing) (bs : List (Branch I)) : Type 0 where
-    next-fits : next ≤ length (altsFound f)
+    next-within : next ≤ length (altsFound f)
     satisfied-open : standing ≡ satisfied → (bits : List Bool) × (f ≡ opened bits)
     refuted-root : standing ≡ refuted → bs ≡ []
     refuted-over : standing ≡ refuted → next ≡ length (altsFound f)
@@ -107,7 +107,7 @@ module _ {I : Type 0} where
       let n = node-tried f h next e in
       let at : (x : Standing) → standing ≡ x → standsAt x (record { path = bs; found = h }) ≡ true = λ x q. ap (λ (y : Standing). standsAt y (record { path = bs; found = h })) (sym q) ∙ t in
       record {
-        next-fits = node-fits f h next e;
+        next-within = node-fits f h next e;
         satisfied-open = λ q. open-is f (ap isOpen (n .1) ∙ tried-open (n .0) h ∙ at satisfied q);
         refuted-root = λ q. root-is bs ((and-parts (isRoot bs) (isOver h) (at refuted q)) .0);
         refuted-over = λ q. over-next f h next e ((and-parts (isRoot bs) (isOver h) (at refuted q)) .1);
@@ -155,7 +155,7 @@ module _ {I : Type 0} (find : List ℕ → Found I) where
       let p = path-right find (s .path) (w .0) (w .1) in
       let there : NodeRight (find (atomsOf (s .path))) (s .next) (s .standing) (w .0) =
       record {
-        next-fits = r .next-fits;
+        next-within = r .next-within;
         satisfied-open = r .satisfied-open;
         refuted-root = λ q. root-steps (w .0) (p .steps-are ∙ r .refuted-root q);
         refuted-over = r .refuted-over;
@@ -171,7 +171,7 @@ module _ {I : Type 0} (find : List ℕ → Found I) where
             t
             (record {
               path-of = w .1;
-              node-of = node-after (find (entered (w .0))) (s .next) (n .next-fits);
+              node-of = node-after (find (entered (w .0))) (s .next) (n .next-within);
               right-there = right-node (find (entered (w .0))) (s .next) (s .standing) (w .0) n;
             }),
       )
@@ -187,7 +187,7 @@ module _ {I : Type 0} (find : List ℕ → Found I) where
       (node-right (find (entered (t .path))) (t .found) (s .next) (s .standing) (t .path) (w .node-of) (w .right-there)) in
       record {
         steps = p .right;
-        next-fits = n .next-fits;
+        next-within = n .next-within;
         satisfied-open = n .satisfied-open;
         refuted-root = λ q. sym (p .steps-are) ∙ ap (stepsOf find) (n .refuted-root q);
         refuted-over = n .refuted-over;

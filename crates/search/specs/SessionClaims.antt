@@ -50,7 +50,7 @@ module _ {I : Type 0} (k : Key I) (p : Ground I) where
   pub record OneWalkKept (magic : Bool) (limit : ℕ) (calls : List Call) : Type 0 where
     pub answer-is : (afterCalls calls (firstKept magic limit)) .answered ≡ outcome (findR p) ((afterCalls calls (firstKept magic limit)) .sum)
     pub session-is : (afterCalls calls (firstKept magic limit)) .session ≡ firstSession (findR p) ((afterCalls calls (firstKept magic limit)) .sum)
-    pub never-foreign : (by : Bool) (further : ℕ) → called (findBy k p by) ((afterCalls calls (firstKept magic limit)) .session) further ≡ declined 42 → ⊥
+    pub always-stands : (by : Bool) (further : ℕ) → called (findBy k p by) ((afterCalls calls (firstKept magic limit)) .session) further ≡ declined 42 → ⊥
     -- a finished session answers again as before, and is left as it was
     pub finished-again : ((n : ℕ) → (afterCalls calls (firstKept magic limit)) .answered ≡ Exhausted n → ⊥) → (by : Bool) (further : ℕ) (o : Outcome) (s : Session)
         → called (findBy k p by) ((afterCalls calls (firstKept magic limit)) .session) further ≡ told o s

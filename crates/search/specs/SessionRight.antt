@@ -45,7 +45,7 @@ module _ {I : Type 0} (find : List ℕ → Found I) where
   -- has no split), fits stands at an open node, and none at a root that is closed or split to its end"
   pub record Right (s : Session) : Type 0 where
     pub steps : StepsRight (s .path)
-    pub next-fits : s .next ≤ length (altsHere s)
+    pub next-within : s .next ≤ length (altsHere s)
     pub satisfied-open : s .standing ≡ satisfied → (bits : List Bool) × (find (atomsOf (s .path)) ≡ opened bits)
     pub refuted-root : s .standing ≡ refuted → s .path ≡ []
     pub refuted-over : s .standing ≡ refuted → s .next ≡ length (altsHere s)

@@ -32,10 +32,12 @@ module _ (short valid : Bool) (c : Called) where
   pub screened-through : short ≡ false → valid ≡ true → screened short valid c ≡ c
   screened-through e v = rw (e, v)
 
--- where the table is valid, 11 alone comes before the call
-pub screened-valid : (short valid : Bool) (c : Called) → valid ≡ true → (screened short valid c ≡ declined 11) ⊎ (screened short valid c ≡ c)
-screened-valid true valid c v = inl refl
-screened-valid false valid c v = inr (rw v)
+-- 11, then 31, then the call
+pub screened-on : (short valid : Bool) (c : Called)
+    → (screened short valid c ≡ declined 11) ⊎ (screened short valid c ≡ declined 31) ⊎ ((valid ≡ true) × (screened short valid c ≡ c))
+screened-on true valid c = inl refl
+screened-on false false c = inr (inl refl)
+screened-on false true c = inr (inr (refl, refl))
 
 -- a call that is not refused has come through
 pub screened-told : (short valid : Bool) (c : Called) (o : Outcome) (s : Session) → screened short valid c ≡ told o s → (short ≡ false) × (valid ≡ true) × (c ≡ told o s)
@@ -104,9 +106,9 @@ module _ {I : Type 0} (find : List ℕ → Found I) (r : Record) (further : ℕ)
     unfolding sessionIn
     called-unkept e = called-empty (rw e)
 
-    pub called-foreign : placeOf find session ≡ none → calledIn find r further ≡ declined 42
+    pub called-nowhere : placeOf find session ≡ none → calledIn find r further ≡ declined 42
     unfolding called
-    called-foreign nowhere = go (isKept r) refl
+    called-nowhere nowhere = go (isKept r) refl
       where
         go : (b : Bool) → isKept r ≡ b → calledIn find r further ≡ declined 42
         go true e = called-by true e ∙ rw (le-ltb 4294967295 (r .count + further) within, nowhere)

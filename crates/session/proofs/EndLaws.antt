@@ -26,7 +26,7 @@ use Rattle.walk.specs.Numbers.{sessionOf}
 use Rattle.walk.specs.contracts.Resume.{WalksOn, GoesOn}
 use Rattle.walk.specs.contracts.Left.{Tied, StepsLeft, sessionLeft}
 use Rattle.walk.specs.declared.answer.Resumed.{Resumed}
-use Rattle.walk.specs.declared.answer.Resumed.the-variants.{Foreign, On}
+use Rattle.walk.specs.declared.answer.Resumed.the-variants.{Nowhere, On}
 use Rattle.walk.specs.declared.answer.Walked.{Walked}
 use Rattle.walk.specs.declared.answer.Walked.the-variants.{Shut, Opened, Exhausted as LimitMet}
 use Rattle.walk.proofs.answer.Resumed.{the-type as resumed-type}
@@ -41,7 +41,7 @@ use Rattle.session.specs.Record.{isKept, slots, laid}
 use Rattle.session.specs.Calls.{calledIn, workLeft}
 use Rattle.session.specs.contracts.End.{depthOf, answerBy, movedBy, PathLaid, LeftBy, comesOut, Concluded}
 use Rattle.session.proofs.RecordLaws.{laid-as, slots-left}
-use Rattle.session.proofs.CallLaws.{called-foreign, called-on, CallLeft, left-declined, left-told}
+use Rattle.session.proofs.CallLaws.{called-nowhere, called-on, CallLeft, left-declined, left-told}
 
 -- ---- the answer
 
@@ -213,11 +213,11 @@ module _ {I : Type 0} (w : Walker I) (r : Record) (further : ℕ) (kept : isKept
   module _ (limit : ℕ) (x : Resumed) (facts path : List ℕ)
       (goes : GoesOn w (placeOf (w .find) (sessionOf (r .verdict) (r .count) (r .atoms) (r .nexts) (r .length) (r .next))) (r .count) limit x facts path) where
     -- it is none of the walk
-    pub further-foreign : OneOf (0 ∷ []) (tagOf resumed-type x) → calledIn (w .find) r further ≡ declined 42
-    further-foreign tag = called-foreign (w .find) r further within (go x tag goes)
+    pub further-nowhere : OneOf (0 ∷ []) (tagOf resumed-type x) → calledIn (w .find) r further ≡ declined 42
+    further-nowhere tag = called-nowhere (w .find) r further within (go x tag goes)
       where
         go : (z : Resumed) → OneOf (0 ∷ []) (tagOf resumed-type z) → GoesOn w place (r .count) limit z facts path → place ≡ none
-        go Foreign tag h = h
+        go Nowhere tag h = h
         go (On y) tag h = let z : _≡_ {A = ℕ} 1 0 = tag in absurd (omega arith)
 
     module _ (y : Walked) (on : x ≡ On y) where

@@ -24,7 +24,7 @@ use Rattle.walk.specs.contracts.Resume.{isTaken, closedStands, openStand
 use Rattle.walk.specs.declared.answer.Found.{Found as Told}
 use Rattle.walk.specs.declared.answer.Found.the-variants.{Closed as ToldClosed, Open as ToldOpen, Split as ToldSplit}
 use Rattle.walk.specs.declared.answer.Resumed.{Resumed}
-use Rattle.walk.specs.declared.answer.Resumed.the-variants.{Foreign, On}
+use Rattle.walk.specs.declared.answer.Resumed.the-variants.{Nowhere, On}
 use Rattle.walk.specs.declared.answer.Walked.{Walked}
 use Rattle.walk.specs.declared.answer.Walked.the-variants.{Shut, Opened, Exhausted as LimitMet}
 use Rattle.walk.proofs.PathLaws.{site-same, path-same}
@@ -166,14 +166,14 @@ module _ {I : Type 0} (find : List ℕ → Found I) where
 
     module _ (standing count steps next depth : ℕ) (bs : List (Branch I)) (so-far : pathOf find (stepsIn atoms nexts depth) ≡ some bs) (more : depth < steps) where
       -- the next entry is none of the walk
-      foreign : stepTaken (find (entered bs)) (record { atom = getD atoms depth 0; next = getD nexts depth 0 }) bs ≡ none → placeOf find (sessionOf standing count atoms nexts steps next) ≡ none
-      foreign e =
+      nowhere : stepTaken (find (entered bs)) (record { atom = getD atoms depth 0; next = getD nexts depth 0 }) bs ≡ none → placeOf find (sessionOf standing count atoms nexts steps next) ≡ none
+      nowhere e =
           place-none (sessionOf standing count atoms nexts steps next)
           (none-on (suc depth) (steps-on depth (some bs) so-far ∙ e) (steps - suc depth) steps (omega arith))
 
-      pub foreign-entry : (i : I) (ds : List ℕ) → find (entered bs) ≡ split i ds → isTaken ds (getD nexts depth 0) (getD atoms depth 0) ≡ false
+      pub nowhere-entry : (i : I) (ds : List ℕ) → find (entered bs) ≡ split i ds → isTaken ds (getD nexts depth 0) (getD atoms depth 0) ≡ false
           → placeOf find (sessionOf standing count atoms nexts steps next) ≡ none
-      foreign-entry i ds e out = foreign (rw (e, out))
+      nowhere-entry i ds e out = nowhere (rw (e, out))
 
     pub entry-again : (depth : ℕ) (bs : List (Branch I)) → pathOf find (stepsIn atoms nexts depth) ≡ some bs
         → (i : I) (ds : List ℕ) → find (entered bs) ≡ split i ds → isTaken ds (getD nexts depth 0) (getD atoms depth 0) ≡ true
@@ -343,8 +343,8 @@ module _ {I : Type 0} (w : Walker I) (facts path : List ℕ) (depth done count l
       as-told closed (at .found) (cond {A = Option (Place I)} b (some (placeIn w facts path depth (ToldClosed n))) none)
       (last-closed (pathIn w path depth) depth (root-at w path depth) (standingBy standing) next ∙ ap (λ (t : Bool). cond {A = Option (Place I)} t (some (placeIn w facts path depth (ToldClosed n))) none) (sym e))
 
-  pub closed-foreign : (n : ℕ) → Reached w facts path depth done (ToldClosed n) → false ≡ closedStands (standingBy standing) depth next → lastIn w path depth standing next ≡ none
-  closed-foreign n at e = closed-as n at false e
+  pub closed-nowhere : (n : ℕ) → Reached w facts path depth done (ToldClosed n) → false ≡ closedStands (standingBy standing) depth next → lastIn w path depth standing next ≡ none
+  closed-nowhere n at e = closed-as n at false e
 
   pub closed-goes : (n : ℕ) → Reached w facts path depth done (ToldClosed n) → true ≡ closedStands (standingBy standing) depth next → count ≤ limit
       → (left : List ℕ) → Undone (w .capacity) facts done left → GoneOn w (lastIn w path depth standing next) facts path depth done count limit (Shut count) left path
@@ -364,8 +364,8 @@ module _ {I : Type 0} (w : Walker I) (facts path : List ℕ) (depth done count l
       (last-open (pathIn w path depth) depth (root-at w path depth) (bitsIn w facts) (standingBy standing) next
       ∙ ap (λ (t : Bool). cond {A = Option (Place I)} t (some (placeIn w facts path depth (ToldOpen n))) none) (sym e))
 
-  pub open-foreign : (n : ℕ) → Reached w facts path depth done (ToldOpen n) → false ≡ openStands (standingBy standing) next → lastIn w path depth standing next ≡ none
-  open-foreign n at e = open-as n at false e
+  pub open-nowhere : (n : ℕ) → Reached w facts path depth done (ToldOpen n) → false ≡ openStands (standingBy standing) next → lastIn w path depth standing next ≡ none
+  open-nowhere n at e = open-as n at false e
 
   pub open-goes : (n : ℕ) → Reached w facts path depth done (ToldOpen n) → true ≡ openStands (standingBy standing) next → count ≤ limit
       → GoneOn w (lastIn w path depth standing next) facts path depth done count limit (Opened count depth) facts path
@@ -383,8 +383,8 @@ module _ {I : Type 0} (w : Walker I) (facts path : List ℕ) (depth done count l
         (last-split (pathIn w path depth) depth (root-at w path depth) (w .instance (siteAt w path depth)) (altsAt w path depth) (standingBy standing) next
         ∙ ap (λ (t : Bool). cond {A = Option (Place I)} t there none) (sym e))
 
-    pub split-foreign : false ≡ splitStands (standingBy standing) depth (altsAt w path depth) next → lastIn w path depth standing next ≡ none
-    split-foreign e = split-as false e
+    pub split-nowhere : false ≡ splitStands (standingBy standing) depth (altsAt w path depth) next → lastIn w path depth standing next ≡ none
+    split-nowhere e = split-as false e
 
     pub split-goes : true ≡ splitStands (standingBy standing) depth (altsAt w path depth) next
         → (own : List ℕ) → Undone (w .capacity) facts (markAt path depth) own → (put : List ℕ) → Turned path depth next put
@@ -489,20 +489,20 @@ module _ {I : Type 0} (w : Walker I) (facts path : List ℕ) (depth done n : ℕ
 -- ---- the answers that a match tells apart
 
 -- a step below a node that is not split
-pub leaf-foreign : {I : Type 0} (w : Walker I) (facts path : List ℕ) (depth done : ℕ) (x : Told) → Reached w facts path depth done x → OneOf (0 ∷ 1 ∷ []) (tagOf found-type x)
+pub leaf-nowhere : {I : Type 0} (w : Walker I) (facts path : List ℕ) (depth done : ℕ) (x : Told) → Reached w facts path depth done x → OneOf (0 ∷ 1 ∷ []) (tagOf found-type x)
     → (atoms nexts : List ℕ) (standing count steps next : ℕ) → pathOf (w .find) (stepsIn atoms nexts depth) ≡ some (pathIn w path depth) → depth < steps
     → placeOf (w .find) (sessionOf standing count atoms nexts steps next) ≡ none
-leaf-foreign w facts path depth done (ToldClosed n) at tag atoms nexts standing count steps next so-far more =
-    foreign (w .find) atoms nexts standing count steps next depth (pathIn w path depth) so-far more (rw (at .found))
-leaf-foreign w facts path depth done (ToldOpen n) at tag atoms nexts standing count steps next so-far more =
-    foreign (w .find) atoms nexts standing count steps next depth (pathIn w path depth) so-far more (rw (at .found))
-leaf-foreign w facts path depth done (ToldSplit n) at (inl z) atoms nexts standing count steps next so-far more = let y : _≡_ {A = ℕ} 2 0 = z in absurd (omega arith)
-leaf-foreign w facts path depth done (ToldSplit n) at (inr z) atoms nexts standing count steps next so-far more = let y : _≡_ {A = ℕ} 2 1 = z in absurd (omega arith)
+leaf-nowhere w facts path depth done (ToldClosed n) at tag atoms nexts standing count steps next so-far more =
+    nowhere (w .find) atoms nexts standing count steps next depth (pathIn w path depth) so-far more (rw (at .found))
+leaf-nowhere w facts path depth done (ToldOpen n) at tag atoms nexts standing count steps next so-far more =
+    nowhere (w .find) atoms nexts standing count steps next depth (pathIn w path depth) so-far more (rw (at .found))
+leaf-nowhere w facts path depth done (ToldSplit n) at (inl z) atoms nexts standing count steps next so-far more = let y : _≡_ {A = ℕ} 2 0 = z in absurd (omega arith)
+leaf-nowhere w facts path depth done (ToldSplit n) at (inr z) atoms nexts standing count steps next so-far more = let y : _≡_ {A = ℕ} 2 1 = z in absurd (omega arith)
 
 module _ {I : Type 0} (w : Walker I) (o : Option (Place I)) (facts path : List ℕ) (depth done count limit : ℕ) (left-facts left : List ℕ) where
-  pub resumes-foreign : (x : Resumed) → OneOf (0 ∷ []) (tagOf resumed-type x) → Resumes w o facts path depth done count limit x left-facts left → o ≡ none
-  resumes-foreign Foreign tag h = h
-  resumes-foreign (On y) tag h = let z : _≡_ {A = ℕ} 1 0 = tag in absurd (omega arith)
+  pub resumes-nowhere : (x : Resumed) → OneOf (0 ∷ []) (tagOf resumed-type x) → Resumes w o facts path depth done count limit x left-facts left → o ≡ none
+  resumes-nowhere Nowhere tag h = h
+  resumes-nowhere (On y) tag h = let z : _≡_ {A = ℕ} 1 0 = tag in absurd (omega arith)
 
   pub resumes-on : (x : Resumed) (y : Walked) → x ≡ On y → Resumes w o facts path depth done count limit x left-facts left → GoneOn w o facts path depth done count limit y left-facts left
   resumes-on x y e h = subst (λ (z : Resumed). Resumes w o facts path depth done count limit z left-facts left) e h
@@ -526,7 +526,7 @@ root-so-far w path atoms nexts = refl
 
 module _ {I : Type 0} (w : Walker I) (o : Option (Place I)) (count limit : ℕ) where
   pub goes-on : (facts path : List ℕ) (done : ℕ) (x : Resumed) (left-facts left : List ℕ) → Resumes w o facts path 0 done count limit x left-facts left → GoesOn w o count limit x left-facts left
-  goes-on facts path done Foreign left-facts left h = h
+  goes-on facts path done Nowhere left-facts left h = h
   goes-on facts path done (On y) left-facts left h =
       record {
         start = h .start;

@@ -16,6 +16,6 @@ pub enum Walked {
 
 // How going on with a session ends: it is none of the walk, or as the walk from where it stands.
 pub enum Resumed {
-    Foreign,
+    Nowhere,
     On(Walked),
 }

@@ -14,7 +14,7 @@ use Rattle.walk.specs.contracts.Walker.{Walker}
 use Rattle.walk.specs.contracts.Path.{pathIn}
 use Rattle.walk.specs.contracts.Walk.{Leaves, Ended, Walks}
 use Rattle.walk.specs.declared.answer.Resumed.{Resumed}
-use Rattle.walk.specs.declared.answer.Resumed.the-variants.{Foreign, On}
+use Rattle.walk.specs.declared.answer.Resumed.the-variants.{Nowhere, On}
 use Rattle.walk.specs.declared.answer.Walked.{Walked}
 
 -- ---- what is asked of it
@@ -62,7 +62,7 @@ module _ {I : Type 0} (w : Walker I) where
     pub ended : Ended w (record { start = start; base = count; limit = limit }) path depth x left-facts left
 
   abbrev pub Resumes : Option (Place I) → List ℕ → List ℕ → ℕ → ℕ → ℕ → ℕ → Resumed → List ℕ → List ℕ → Type 0
-  Resumes o facts path depth done count limit Foreign left-facts left = o ≡ none
+  Resumes o facts path depth done count limit Nowhere left-facts left = o ≡ none
   Resumes o facts path depth done count limit (On x) left-facts left = GoneOn o facts path depth done count limit x left-facts left
 
   -- ---- a whole run on from where a session stands, if it is one of the walk
@@ -73,5 +73,5 @@ module _ {I : Type 0} (w : Walker I) where
     pub walks : Walks w (record { start = start; base = count; limit = limit }) x facts path
 
   abbrev pub GoesOn : Option (Place I) → ℕ → ℕ → Resumed → List ℕ → List ℕ → Type 0
-  GoesOn o count limit Foreign facts path = o ≡ none
+  GoesOn o count limit Nowhere facts path = o ≡ none
   GoesOn o count limit (On x) facts path = WalksOn o count limit x facts path

@@ -11,7 +11,7 @@ use Rattle.walk.proofs.WalkLaws.{blank-store}
 use Rattle.session.specs.Record.{isKept}
 use Rattle.session.specs.Calls.{calledIn}
 use Rattle.session.proofs.CallLaws.{is-kept}
-use Rattle.session.proofs.EndLaws.{further-foreign, further-walks, further-concluded}
+use Rattle.session.proofs.EndLaws.{further-nowhere, further-walks, further-concluded}
 use Rattle.magic_walk.specs.contracts.Place.{magicWalker}
 use Rattle.magic.proofs.FurtherLaws.{says-declined}
 use Rattle.magic.proofs.further.further_run.Statement.{statement}
@@ -67,7 +67,7 @@ further-run-spec =
     let a = s .args in
     let q = c .before .before .before .before .before .go-on in
     says-declined (calledIn (findIn (a .rules .now)) (a .session) (a .further)) (a .session) (a .answer .now) 42
-    (further-foreign (magicWalker (a .rules .now)) (a .session) (a .further) (kept s) (s .pre .1 .1 .2) (a .session .count + a .further) (q .result) (q .last .1 .1 .0) (q .last .1 .1 .1 .0) (q .ensures) ((c .before .before) .match .keys2))
+    (further-nowhere (magicWalker (a .rules .now)) (a .session) (a .further) (kept s) (s .pre .1 .1 .2) (a .session .count + a .further) (q .result) (q .last .1 .1 .0) (q .last .1 .1 .1 .0) (q .ensures) ((c .before .before) .match .keys2))
     (c .refused .result) (c .refused .ensures))  -- returns
     (λ c. search needs)  -- slice-aggregate-conclude
     (λ c. search needs)  -- slice-aggregate-conclude-2

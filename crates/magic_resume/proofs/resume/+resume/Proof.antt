@@ -17,7 +17,7 @@ use Rattle.walk.specs.contracts.Resume.{isTaken}
 use Rattle.walk.specs.declared.answer.Found.the-variants.{Split}
 use Rattle.walk.proofs.PathLaws.{turned}
 use Rattle.walk.proofs.PlaceLaws.{reached-as}
-use Rattle.walk.proofs.ResumeLaws.{taken-some, foreign-entry, split-found, again-parted, again-next, again-path, again-passes, again-within, again-part, again-node, again-on, leaf-foreign, resumes-foreign, resumes-on, resumes-last}
+use Rattle.walk.proofs.ResumeLaws.{taken-some, nowhere-entry, split-found, again-parted, again-next, again-path, again-passes, again-within, again-part, again-node, again-on, leaf-nowhere, resumes-nowhere, resumes-on, resumes-last}
 use Rattle.magic_walk.specs.contracts.Place.{magicWalker}
 use Rattle.magic_resume.proofs.resume.resume.Reads as resume
 use Rattle.magic_resume.proofs.resume.resume.Kinds as resume-kinds
@@ -91,7 +91,7 @@ pub +resume-spec : {M : Type 1} → statement M
     (λ c.
     let s = c .before .before .before .before .before .before .before in
     let w = magicWalker (s .args .rules .now) in
-    leaf-foreign w (s .args .facts .now) (s .args .path .now) (s .args .depth) (s .args .done) (s .args .found) (s .pre .1 .1 .1 .0) (c .match .keys2) (s .args .atoms .now) (s .args .nexts .now) (s .args .standing) (s .args .count) (s .args .steps) (s .args .next) (s .pre .1 .1 .1 .1 .0) (omega (arith, s .pre .1 .1 .1 .1 .1 .0 .0, c .before .if1 .left)))  -- returns-2
+    leaf-nowhere w (s .args .facts .now) (s .args .path .now) (s .args .depth) (s .args .done) (s .args .found) (s .pre .1 .1 .1 .0) (c .match .keys2) (s .args .atoms .now) (s .args .nexts .now) (s .args .standing) (s .args .count) (s .args .steps) (s .args .next) (s .pre .1 .1 .1 .1 .0) (omega (arith, s .pre .1 .1 .1 .1 .1 .0 .0, c .before .if1 .left)))  -- returns-2
     (λ c.
     let s = c .before .before .before .before .before .before .before .before .before in
     let w = magicWalker (s .args .rules .now) in
@@ -122,7 +122,7 @@ pub +resume-spec : {M : Type 1} → statement M
     let g = c .before .before .before .before .before .before .before .found .given in
     let at = reached-as w (s .args .facts .now) (s .args .path .now) (s .args .depth) (s .args .done) (s .args .found) (Split (g .0 .0)) (g .1) (s .pre .1 .1 .1 .0) in
     let b = c .before .is-taken in
-    foreign-entry (w .find) (s .args .atoms .now) (s .args .nexts .now) (s .args .standing) (s .args .count) (s .args .steps) (s .args .next) (s .args .depth) (pathIn w (s .args .path .now) (s .args .depth)) (s .pre .1 .1 .1 .1 .0) (omega (arith, s .pre .1 .1 .1 .1 .1 .0 .0, c .before .before .before .before .before .before .before .before .before .if1 .left)) (w .instance (siteAt w (s .args .path .now) (s .args .depth))) (altsAt w (s .args .path .now) (s .args .depth)) (split-found w (s .args .facts .now) (s .args .path .now) (s .args .depth) (s .args .done) (g .0 .0) at)
+    nowhere-entry (w .find) (s .args .atoms .now) (s .args .nexts .now) (s .args .standing) (s .args .count) (s .args .steps) (s .args .next) (s .args .depth) (pathIn w (s .args .path .now) (s .args .depth)) (s .pre .1 .1 .1 .1 .0) (omega (arith, s .pre .1 .1 .1 .1 .1 .0 .0, c .before .before .before .before .before .before .before .before .before .if1 .left)) (w .instance (siteAt w (s .args .path .now) (s .args .depth))) (altsAt w (s .args .path .now) (s .args .depth)) (split-found w (s .args .facts .now) (s .args .path .now) (s .args .depth) (s .args .done) (g .0 .0) at)
     (sym (taken-here bound (c .before)) ∙ not-true (b .result) (c .if2 .taken)))  -- returns-3
     (λ c.
     let s = c .before .before .before .before .before .before .before .before .before .before .before .before .before .before .before .before .before in
@@ -218,7 +218,7 @@ pub +resume-spec : {M : Type 1} → statement M
     let e = c .before .before .before .before .before .before .before .before .before .before .before .before .before .enter in
     let q = c .before .before .before .before .before .before .resume in
     let place = placeOf (w .find) (sessionOf (s .args .standing) (s .args .count) (s .args .atoms .now) (s .args .nexts .now) (s .args .steps) (s .args .next)) in
-    resumes-foreign w place (e .last .1 .1 .0) (e .last .1 .1 .1 .0) (s .args .depth + 1) (m .result) (s .args .count) (s .args .limit) (q .last .1 .1 .0) (q .last .1 .1 .1 .0) (q .result) (c .before .match2 .keys2) (q .ensures))  -- returns-4
+    resumes-nowhere w place (e .last .1 .1 .0) (e .last .1 .1 .1 .0) (s .args .depth + 1) (m .result) (s .args .count) (s .args .limit) (q .last .1 .1 .0) (q .last .1 .1 .1 .0) (q .result) (c .before .match2 .keys2) (q .ensures))  -- returns-4
     (λ c. search needs)  -- enum-known-walked
     (λ c. search needs)  -- same-length-6
     (λ c. search needs)  -- same-length-7

@@ -12,7 +12,7 @@ use Rattle.walk.proofs.WalkLaws.{blank-store}
 use Rattle.session.specs.Record.{isKept}
 use Rattle.session.specs.Calls.{calledIn}
 use Rattle.session.proofs.CallLaws.{is-kept}
-use Rattle.session.proofs.EndLaws.{left-refused, further-foreign, further-walks, further-concluded}
+use Rattle.session.proofs.EndLaws.{left-refused, further-nowhere, further-walks, further-concluded}
 use Rattle.relevancy_walk.specs.contracts.Place.{relevancyWalker}
 use Rattle.relevancy.proofs.further.further_run.Statement.{statement}
 use Rattle.relevancy.proofs.further.further_run.Tie as tie
@@ -71,7 +71,7 @@ further-run-spec =
     let a = s .args in
     let q = c .before .before .before .before .before .go-on in
     left-refused (calledIn (findR (groundIn (a .table .now))) (a .session) (a .further)) (a .session) (a .answer .now) (a .work .now) 42
-    (further-foreign (relevancyWalker (a .table .now)) (a .session) (a .further) (kept s) (s .pre .1 .1 .2) (a .session .count + a .further) (q .result) (q .last .1 .1 .1 .0) (q .last .1 .1 .1 .1 .0) (q .ensures) ((c .before .before) .match .keys2))
+    (further-nowhere (relevancyWalker (a .table .now)) (a .session) (a .further) (kept s) (s .pre .1 .1 .2) (a .session .count + a .further) (q .result) (q .last .1 .1 .1 .0) (q .last .1 .1 .1 .1 .0) (q .ensures) ((c .before .before) .match .keys2))
     (c .refused .result) (c .refused .ensures))  -- returns
     (λ c κs. search needs)  -- zero-requires
     (λ c. search needs)  -- slice-aggregate-conclude

@@ -12,7 +12,7 @@ use Rattle.walk.specs.declared.answer.Found.the-variants.{Closed, Open, Split}
 use Rattle.walk.proofs.PathLaws.{turned}
 use Rattle.walk.proofs.PlaceLaws.{split-parted, reached-as}
 use Rattle.walk.proofs.WalkLaws.{found-open}
-use Rattle.walk.proofs.ResumeLaws.{turned-parted, closed-foreign, closed-goes, open-foreign, open-goes, split-foreign, split-goes}
+use Rattle.walk.proofs.ResumeLaws.{turned-parted, closed-nowhere, closed-goes, open-nowhere, open-goes, split-nowhere, split-goes}
 use Rattle.relevancy_walk.specs.contracts.Place.{relevancyWalker}
 use Rattle.relevancy_resume.proofs.resume.stand.Statement.{statement}
 use Rattle.relevancy_resume.proofs.resume.stand.Tie as tie
@@ -36,7 +36,7 @@ stand-spec =
     let g = c .before .before .before .before .before .found .given in
     let at = reached-as w (s .args .facts .now) (s .args .path .now) (s .args .depth) (s .args .done) (s .args .found) (Split (g .0 .0)) (g .1) (s .pre .1 .1 .0) in
     let b = c .before .split-stands in
-    split-foreign w (s .args .facts .now) (s .args .path .now) (s .args .depth) (s .args .done) (s .args .count) (s .args .limit) (s .args .standing) (s .args .next) (g .0 .0) at
+    split-nowhere w (s .args .facts .now) (s .args .path .now) (s .args .depth) (s .args .done) (s .args .count) (s .args .limit) (s .args .standing) (s .args .next) (g .0 .0) at
     (sym (not-true (b .result) (c .if1 .taken)) ∙ b .ensures
     ∙ ap (λ (ds : List ℕ). splitStands (standingBy (s .args .standing)) (s .args .depth) ds (s .args .next)) (c .before .before .alternatives-at .ensures .1)))  -- returns
     (λ c κs.
@@ -77,7 +77,7 @@ stand-spec =
     let g = c .before .before .before .found2 .given in
     let at = reached-as w (s .args .facts .now) (s .args .path .now) (s .args .depth) (s .args .done) (s .args .found) (Closed (g .0 .0)) (g .1) (s .pre .1 .1 .0) in
     let b = c .before .closed-stands in
-    closed-foreign w (s .args .facts .now) (s .args .path .now) (s .args .depth) (s .args .done) (s .args .count) (s .args .limit) (s .args .standing) (s .args .next) (g .0 .0) at
+    closed-nowhere w (s .args .facts .now) (s .args .path .now) (s .args .depth) (s .args .done) (s .args .count) (s .args .limit) (s .args .standing) (s .args .next) (g .0 .0) at
     (sym (not-true (b .result) (c .if2 .taken)) ∙ b .ensures))  -- returns-3
     (λ c κs.
     let s = c .before .before .before .before .before .before .before .before .before in
@@ -103,7 +103,7 @@ stand-spec =
     let o = found-open (s .args .found) (c .before .before .before .match .keys3) in
     let at = reached-as w (s .args .facts .now) (s .args .path .now) (s .args .depth) (s .args .done) (s .args .found) (Open (o .0)) (o .1) (s .pre .1 .1 .0) in
     let b = c .before .open-stands in
-    open-foreign w (s .args .facts .now) (s .args .path .now) (s .args .depth) (s .args .done) (s .args .count) (s .args .limit) (s .args .standing) (s .args .next) (o .0) at
+    open-nowhere w (s .args .facts .now) (s .args .path .now) (s .args .depth) (s .args .done) (s .args .count) (s .args .limit) (s .args .standing) (s .args .next) (o .0) at
     (sym (not-true (b .result) (c .if3 .taken)) ∙ b .ensures))  -- returns-5
     (λ c.
     let s = c .before .before .before .before .before .before .before in
