@@ -10,6 +10,14 @@ ghost use Rattle.walk.specs.contracts.Path.{Room, nodeAt, markAt};
 ghost use Rattle.walk.specs.Numbers.{standingBy};
 ghost use Rattle.walk.specs.contracts.Resume.{closedStands, openStands};
 
+// How a session goes on: its verdict, the next alternative of its last node, its count, and the limit, that count included.
+pub struct Onward {
+    pub standing: u8,
+    pub next: u8,
+    pub count: u32,
+    pub limit: u32,
+}
+
 // Whether a session may stand at a closed node at `depth`.
 pub fn closed_stands(depth: usize, standing: u8, next: u8) -> bool
     ensures { λ r. ⌜ r ≡ closedStands (standingBy standing) depth next ⌝ }
