@@ -8,6 +8,7 @@ use session::record::Moved;
 use session::record::Session;
 use session::record::refused;
 use walk::answer::Resumed;
+use walk::standing::Onward;
 ghost use mathlib.Core.Path.{_≡_};
 ghost use Prim.Native.Nat.{_+_, _≤_};
 ghost use lib.ListN.{length};
@@ -39,6 +40,12 @@ fn further_run(
     let limit = session.count + further;
     let found = root(table, &conds, &alts, &mut facts, &mut path);
     let used = root_alternatives(table, &path, found);
+    let on = Onward {
+        standing: session.verdict,
+        next: session.next,
+        count: session.count,
+        limit,
+    };
     let went = go_on(
         table,
         &conds,
@@ -49,10 +56,7 @@ fn further_run(
         &nexts,
         steps,
         found,
-        session.verdict,
-        session.next,
-        session.count,
-        limit,
+        on,
     );
     let Resumed::On(walked) = went else {
         return refused(session, 42);
