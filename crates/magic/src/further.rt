@@ -10,6 +10,7 @@ use session::record::Moved;
 use session::record::Session;
 use session::record::refused;
 use walk::answer::Resumed;
+use walk::standing::Onward;
 ghost use mathlib.Core.Path.{_≡_};
 ghost use Prim.Native.Nat.{_+_, _≤_};
 ghost use lib.ListN.{length, replicate};
@@ -36,6 +37,12 @@ fn further_run(session: Session, further: u32, rules: &[u8], answer: &mut [u8]) 
     let limit = session.count + further;
     let found = root(rules, &index, &mut facts, &mut path);
     let used = root_alternatives(rules, &path, found);
+    let on = Onward {
+        standing: session.verdict,
+        next: session.next,
+        count: session.count,
+        limit,
+    };
     let went = go_on(
         rules,
         &index,
@@ -45,10 +52,7 @@ fn further_run(session: Session, further: u32, rules: &[u8], answer: &mut [u8]) 
         &nexts,
         steps,
         found,
-        session.verdict,
-        session.next,
-        session.count,
-        limit,
+        on,
     );
     let Resumed::On(walked) = went else {
         return refused(session, 42);

@@ -9,6 +9,7 @@ use walk::answer::Found;
 use walk::answer::Resumed;
 use walk::answer::Walked;
 use walk::node::mark;
+use walk::standing::Onward;
 use walk::standing::closed_stands;
 use walk::standing::open_stands;
 use walk::standing::rewind;
@@ -66,40 +67,37 @@ fn stand(
     depth: usize,
     done: usize,
     found: Found,
-    standing: u8,
-    next: u8,
-    count: u32,
-    limit: u32,
+    on: Onward,
 ) -> Resumed
     requires { ⌜ Ruled (now rules) ⌝ }
     requires { ⌜ RulesIndexed (now rules) (now index) ⌝ }
     requires { ⌜ Reached (magicWalker (now rules)) (now facts) (now path) depth done found ⌝ }
-    requires { ⌜ count ≤ limit ⌝ }
-    ensures { λ x. ⌜ Resumes (magicWalker (now (rules .entry))) (lastIn (magicWalker (now (rules .entry))) (now (path .entry)) depth standing next) (now (facts .entry)) (now (path .entry)) depth done count limit x (now (facts .exit)) (now (path .exit)) ⌝ }
+    requires { ⌜ on .count ≤ on .limit ⌝ }
+    ensures { λ x. ⌜ Resumes (magicWalker (now (rules .entry))) (lastIn (magicWalker (now (rules .entry))) (now (path .entry)) depth (on .standing) (on .next)) (now (facts .entry)) (now (path .entry)) depth done (on .count) (on .limit) x (now (facts .exit)) (now (path .exit)) ⌝ }
 {
     match found {
         Found::Split(n) => {
             let all = alternatives_at(rules, path, depth);
-            if !split_stands(all, depth, standing, next) {
+            if !split_stands(all, depth, on.standing, on.next) {
                 return Resumed::Nowhere;
             }
-            rewind(facts, path, 18434, depth, n, next);
-            let walked = work_off(rules, index, facts, path, depth, done, count, limit);
+            rewind(facts, path, 18434, depth, n, on.next);
+            let walked = work_off(rules, index, facts, path, depth, done, on.count, on.limit);
             return Resumed::On(walked);
         }
         Found::Closed(n) => {
-            if !closed_stands(depth, standing, next) {
+            if !closed_stands(depth, on.standing, on.next) {
                 return Resumed::Nowhere;
             }
             undo(facts, 18434, n, done);
-            return Resumed::On(Walked::Shut(count));
+            return Resumed::On(Walked::Shut(on.count));
         }
         _ => {}
     }
-    if !open_stands(standing, next) {
+    if !open_stands(on.standing, on.next) {
         return Resumed::Nowhere;
     }
-    Resumed::On(Walked::Opened(count, depth))
+    Resumed::On(Walked::Opened(on.count, depth))
 }
 
 // Goes on with a session from the node at `depth` on: the steps from there on are entered again, each as the alternative that the walk takes there.
@@ -114,33 +112,18 @@ fn resume(
     depth: usize,
     done: usize,
     found: Found,
-    standing: u8,
-    next: u8,
-    count: u32,
-    limit: u32,
+    on: Onward,
 ) -> Resumed
     requires { ⌜ Ruled (now rules) ⌝ }
     requires { ⌜ RulesIndexed (now rules) (now index) ⌝ }
     requires { ⌜ Reached (magicWalker (now rules)) (now facts) (now path) depth done found ⌝ }
     requires { ⌜ pathOf ((magicWalker (now rules)) .find) (stepsIn (now atoms) (now nexts) depth) ≡ some (pathIn (magicWalker (now rules)) (now path) depth) ⌝ }
     requires { ⌜ (depth ≤ steps) × (steps ≤ length (now atoms)) × (steps ≤ length (now nexts)) ⌝ }
-    requires { ⌜ count ≤ limit ⌝ }
-    ensures { λ x. ⌜ Resumes (magicWalker (now (rules .entry))) (placeOf ((magicWalker (now (rules .entry))) .find) (sessionOf standing count (now (atoms .entry)) (now (nexts .entry)) steps next)) (now (facts .entry)) (now (path .entry)) depth done count limit x (now (facts .exit)) (now (path .exit)) ⌝ }
+    requires { ⌜ on .count ≤ on .limit ⌝ }
+    ensures { λ x. ⌜ Resumes (magicWalker (now (rules .entry))) (placeOf ((magicWalker (now (rules .entry))) .find) (sessionOf (on .standing) (on .count) (now (atoms .entry)) (now (nexts .entry)) steps (on .next))) (now (facts .entry)) (now (path .entry)) depth done (on .count) (on .limit) x (now (facts .exit)) (now (path .exit)) ⌝ }
 {
     if depth == steps {
-        return stand(
-            rules,
-            index,
-            facts,
-            path,
-            depth,
-            done,
-            found,
-            standing,
-            next,
-            count,
-            limit,
-        );
+        return stand(rules, index, facts, path, depth, done, found, on);
     }
     let Found::Split(n) = found else {
         return Resumed::Nowhere;
@@ -165,10 +148,7 @@ fn resume(
         depth + 1,
         own,
         made,
-        standing,
-        next,
-        count,
-        limit,
+        on,
     );
     let Resumed::On(walked) = below else {
         return Resumed::Nowhere;
@@ -176,7 +156,7 @@ fn resume(
     let Walked::Shut(shut) = walked else {
         return Resumed::On(walked);
     };
-    let rest = work_off(rules, index, facts, path, depth, done, shut, limit);
+    let rest = work_off(rules, index, facts, path, depth, done, shut, on.limit);
     Resumed::On(rest)
 }
 
@@ -190,17 +170,14 @@ pub fn go_on(
     nexts: &[u8],
     steps: usize,
     found: Found,
-    standing: u8,
-    next: u8,
-    count: u32,
-    limit: u32,
+    on: Onward,
 ) -> Resumed
     requires { ⌜ Ruled (now rules) ⌝ }
     requires { ⌜ RulesIndexed (now rules) (now index) ⌝ }
     requires { ⌜ Beginning (magicWalker (now rules)) found (now facts) (now path) ⌝ }
     requires { ⌜ (steps ≤ length (now atoms)) × (steps ≤ length (now nexts)) ⌝ }
-    requires { ⌜ count ≤ limit ⌝ }
-    ensures { λ x. ⌜ GoesOn (magicWalker (now (rules .entry))) (placeOf ((magicWalker (now (rules .entry))) .find) (sessionOf standing count (now (atoms .entry)) (now (nexts .entry)) steps next)) count limit x (now (facts .exit)) (now (path .exit)) ⌝ }
+    requires { ⌜ on .count ≤ on .limit ⌝ }
+    ensures { λ x. ⌜ GoesOn (magicWalker (now (rules .entry))) (placeOf ((magicWalker (now (rules .entry))) .find) (sessionOf (on .standing) (on .count) (now (atoms .entry)) (now (nexts .entry)) steps (on .next))) (on .count) (on .limit) x (now (facts .exit)) (now (path .exit)) ⌝ }
 {
     resume(
         rules,
@@ -213,9 +190,6 @@ pub fn go_on(
         0,
         0,
         found,
-        standing,
-        next,
-        count,
-        limit,
+        on,
     )
 }

@@ -86,12 +86,12 @@ pub +resume-spec : {M : Type 1} → statement M
     let s = c .before .before .before .before .before .before .before .before .before .before .before .before .before in
     let w = magicWalker (s .args .rules .now) in
     let y = c .before .before .before .before .stand in
-    resumes-last Instance w (s .args .facts .now) (s .args .path .now) (s .args .depth) (s .args .done) (s .args .count) (s .args .limit) (s .args .atoms .now) (s .args .nexts .now) (s .args .standing) (s .args .steps) (s .args .next) (s .pre .1 .1 .1 .1 .0) (c .before .before .before .before .before .before .before .if1 .taken) (y .result) (y .last .1 .1 .0) (y .last .1 .1 .1 .0) (y .ensures))  -- returns
+    resumes-last Instance w (s .args .facts .now) (s .args .path .now) (s .args .depth) (s .args .done) (s .args .on .count) (s .args .on .limit) (s .args .atoms .now) (s .args .nexts .now) (s .args .on .standing) (s .args .steps) (s .args .on .next) (s .pre .1 .1 .1 .1 .0) (c .before .before .before .before .before .before .before .if1 .taken) (y .result) (y .last .1 .1 .0) (y .last .1 .1 .1 .0) (y .ensures))  -- returns
     (λ c. search needs)  -- enum-known-found
     (λ c.
     let s = c .before .before .before .before .before .before .before in
     let w = magicWalker (s .args .rules .now) in
-    leaf-nowhere w (s .args .facts .now) (s .args .path .now) (s .args .depth) (s .args .done) (s .args .found) (s .pre .1 .1 .1 .0) (c .match .keys2) (s .args .atoms .now) (s .args .nexts .now) (s .args .standing) (s .args .count) (s .args .steps) (s .args .next) (s .pre .1 .1 .1 .1 .0) (omega (arith, s .pre .1 .1 .1 .1 .1 .0 .0, c .before .if1 .left)))  -- returns-2
+    leaf-nowhere w (s .args .facts .now) (s .args .path .now) (s .args .depth) (s .args .done) (s .args .found) (s .pre .1 .1 .1 .0) (c .match .keys2) (s .args .atoms .now) (s .args .nexts .now) (s .args .on .standing) (s .args .on .count) (s .args .steps) (s .args .on .next) (s .pre .1 .1 .1 .1 .0) (omega (arith, s .pre .1 .1 .1 .1 .1 .0 .0, c .before .if1 .left)))  -- returns-2
     (λ c.
     let s = c .before .before .before .before .before .before .before .before .before in
     let w = magicWalker (s .args .rules .now) in
@@ -122,7 +122,7 @@ pub +resume-spec : {M : Type 1} → statement M
     let g = c .before .before .before .before .before .before .before .found .given in
     let at = reached-as w (s .args .facts .now) (s .args .path .now) (s .args .depth) (s .args .done) (s .args .found) (Split (g .0 .0)) (g .1) (s .pre .1 .1 .1 .0) in
     let b = c .before .is-taken in
-    nowhere-entry (w .find) (s .args .atoms .now) (s .args .nexts .now) (s .args .standing) (s .args .count) (s .args .steps) (s .args .next) (s .args .depth) (pathIn w (s .args .path .now) (s .args .depth)) (s .pre .1 .1 .1 .1 .0) (omega (arith, s .pre .1 .1 .1 .1 .1 .0 .0, c .before .before .before .before .before .before .before .before .before .if1 .left)) (w .instance (siteAt w (s .args .path .now) (s .args .depth))) (altsAt w (s .args .path .now) (s .args .depth)) (split-found w (s .args .facts .now) (s .args .path .now) (s .args .depth) (s .args .done) (g .0 .0) at)
+    nowhere-entry (w .find) (s .args .atoms .now) (s .args .nexts .now) (s .args .on .standing) (s .args .on .count) (s .args .steps) (s .args .on .next) (s .args .depth) (pathIn w (s .args .path .now) (s .args .depth)) (s .pre .1 .1 .1 .1 .0) (omega (arith, s .pre .1 .1 .1 .1 .1 .0 .0, c .before .before .before .before .before .before .before .before .before .if1 .left)) (w .instance (siteAt w (s .args .path .now) (s .args .depth))) (altsAt w (s .args .path .now) (s .args .depth)) (split-found w (s .args .facts .now) (s .args .path .now) (s .args .depth) (s .args .done) (g .0 .0) at)
     (sym (taken-here bound (c .before)) ∙ not-true (b .result) (c .if2 .taken)))  -- returns-3
     (λ c.
     let s = c .before .before .before .before .before .before .before .before .before .before .before .before .before .before .before .before .before in
@@ -217,8 +217,8 @@ pub +resume-spec : {M : Type 1} → statement M
     let m = c .before .before .before .before .before .before .before .before .before .before .before .before .before .before .before .before .mark in
     let e = c .before .before .before .before .before .before .before .before .before .before .before .before .before .enter in
     let q = c .before .before .before .before .before .before .resume in
-    let place = placeOf (w .find) (sessionOf (s .args .standing) (s .args .count) (s .args .atoms .now) (s .args .nexts .now) (s .args .steps) (s .args .next)) in
-    resumes-nowhere w place (e .last .1 .1 .0) (e .last .1 .1 .1 .0) (s .args .depth + 1) (m .result) (s .args .count) (s .args .limit) (q .last .1 .1 .0) (q .last .1 .1 .1 .0) (q .result) (c .before .match2 .keys2) (q .ensures))  -- returns-4
+    let place = placeOf (w .find) (sessionOf (s .args .on .standing) (s .args .on .count) (s .args .atoms .now) (s .args .nexts .now) (s .args .steps) (s .args .on .next)) in
+    resumes-nowhere w place (e .last .1 .1 .0) (e .last .1 .1 .1 .0) (s .args .depth + 1) (m .result) (s .args .on .count) (s .args .on .limit) (q .last .1 .1 .0) (q .last .1 .1 .1 .0) (q .result) (c .before .match2 .keys2) (q .ensures))  -- returns-4
     (λ c. search needs)  -- enum-known-walked
     (λ c. search needs)  -- same-length-6
     (λ c. search needs)  -- same-length-7
@@ -236,10 +236,10 @@ pub +resume-spec : {M : Type 1} → statement M
     let m = c .before .before .before .before .before .before .before .before .before .before .before .before .before .before .before .before .before .before .mark in
     let e = c .before .before .before .before .before .before .before .before .before .before .before .before .before .before .before .enter in
     let q = c .before .before .before .before .before .before .before .before .resume in
-    let place = placeOf (w .find) (sessionOf (s .args .standing) (s .args .count) (s .args .atoms .now) (s .args .nexts .now) (s .args .steps) (s .args .next)) in
+    let place = placeOf (w .find) (sessionOf (s .args .on .standing) (s .args .on .count) (s .args .atoms .now) (s .args .nexts .now) (s .args .steps) (s .args .on .next)) in
     let h = c .before .before .below .given in
-    let below = resumes-on w place (e .last .1 .1 .0) (e .last .1 .1 .1 .0) (s .args .depth + 1) (m .result) (s .args .count) (s .args .limit) (q .last .1 .1 .0) (q .last .1 .1 .1 .0) (q .result) (h .0 .0) (h .1) (q .ensures) in
-    again-passes w (s .args .facts .now) (s .args .path .now) (s .args .depth) (s .args .done) (g .0 .0) at (u .last .0) (u .ensures .0) j (u .last .1 .0) t long (e .result) (e .last .1 .1 .0) (e .last .1 .1 .1 .0) (e .ensures .0 0) place (m .result) (s .args .count) (s .args .limit) (m .ensures) (h .0 .0) (q .last .1 .1 .0) (q .last .1 .1 .1 .0) below (c .match3 .keys2))  -- returns-5
+    let below = resumes-on w place (e .last .1 .1 .0) (e .last .1 .1 .1 .0) (s .args .depth + 1) (m .result) (s .args .on .count) (s .args .on .limit) (q .last .1 .1 .0) (q .last .1 .1 .1 .0) (q .result) (h .0 .0) (h .1) (q .ensures) in
+    again-passes w (s .args .facts .now) (s .args .path .now) (s .args .depth) (s .args .done) (g .0 .0) at (u .last .0) (u .ensures .0) j (u .last .1 .0) t long (e .result) (e .last .1 .1 .0) (e .last .1 .1 .1 .0) (e .ensures .0 0) place (m .result) (s .args .on .count) (s .args .on .limit) (m .ensures) (h .0 .0) (q .last .1 .1 .0) (q .last .1 .1 .1 .0) below (c .match3 .keys2))  -- returns-5
     (λ c κs.
     let s = c .before .before .before .before .before .before .before .before .before .before .before .before .before .before .before .before .before .before .before .before .before .before .before .before .before .before .before .before .before .before .before .before .before .before .before .before .before .before .before .before .before .before .before .before .before .before in
     let w = magicWalker (s .args .rules .now) in
@@ -254,11 +254,11 @@ pub +resume-spec : {M : Type 1} → statement M
     let m = c .before .before .before .before .before .before .before .before .before .before .before .before .before .before .before .before .before .before .before .before .before .before .mark in
     let e = c .before .before .before .before .before .before .before .before .before .before .before .before .before .before .before .before .before .before .before .enter in
     let q = c .before .before .before .before .before .before .before .before .before .before .before .before .resume in
-    let place = placeOf (w .find) (sessionOf (s .args .standing) (s .args .count) (s .args .atoms .now) (s .args .nexts .now) (s .args .steps) (s .args .next)) in
+    let place = placeOf (w .find) (sessionOf (s .args .on .standing) (s .args .on .count) (s .args .atoms .now) (s .args .nexts .now) (s .args .steps) (s .args .on .next)) in
     let h = c .before .before .before .before .before .before .below .given in
-    let below = resumes-on w place (e .last .1 .1 .0) (e .last .1 .1 .1 .0) (s .args .depth + 1) (m .result) (s .args .count) (s .args .limit) (q .last .1 .1 .0) (q .last .1 .1 .1 .0) (q .result) (h .0 .0) (h .1) (q .ensures) in
+    let below = resumes-on w place (e .last .1 .1 .0) (e .last .1 .1 .1 .0) (s .args .depth + 1) (m .result) (s .args .on .count) (s .args .on .limit) (q .last .1 .1 .0) (q .last .1 .1 .1 .0) (q .result) (h .0 .0) (h .1) (q .ensures) in
     let k = c .before .before .before .walked .given in
-    (s .pre .1 .0, (s .pre .1 .1 .0, (again-node w (s .args .facts .now) (s .args .path .now) (s .args .depth) (s .args .done) (g .0 .0) at (u .last .0) (u .ensures .0) j (u .last .1 .0) t long (e .result) (e .last .1 .1 .0) (e .last .1 .1 .1 .0) (e .ensures .0 0) place (m .result) (s .args .count) (s .args .limit) (m .ensures) (h .0 .0) (q .last .1 .1 .0) (q .last .1 .1 .1 .0) below (k .0 .0) (k .1) (q .kept .1 .1 .1 .0 ∙ e .ensures .0 0 .reached .room .size), (again-part w (s .args .facts .now) (s .args .path .now) (s .args .depth) (s .args .done) (g .0 .0) at (u .last .0) (u .ensures .0) j (u .last .1 .0) t long (e .result) (e .last .1 .1 .0) (e .last .1 .1 .1 .0) (e .ensures .0 0) place (m .result) (s .args .count) (s .args .limit) (m .ensures) (h .0 .0) (q .last .1 .1 .0) (q .last .1 .1 .1 .0) below (k .0 .0) (k .1) (q .kept .1 .1 .1 .0 ∙ e .ensures .0 0 .reached .room .size), again-within w (s .args .facts .now) (s .args .path .now) (s .args .depth) (s .args .done) (g .0 .0) at (u .last .0) (u .ensures .0) j (u .last .1 .0) t long (e .result) (e .last .1 .1 .0) (e .last .1 .1 .1 .0) (e .ensures .0 0) place (m .result) (s .args .count) (s .args .limit) (m .ensures) (h .0 .0) (q .last .1 .1 .0) (q .last .1 .1 .1 .0) below (k .0 .0) (k .1) (q .kept .1 .1 .1 .0 ∙ e .ensures .0 0 .reached .room .size))))))  -- work-off-requires
+    (s .pre .1 .0, (s .pre .1 .1 .0, (again-node w (s .args .facts .now) (s .args .path .now) (s .args .depth) (s .args .done) (g .0 .0) at (u .last .0) (u .ensures .0) j (u .last .1 .0) t long (e .result) (e .last .1 .1 .0) (e .last .1 .1 .1 .0) (e .ensures .0 0) place (m .result) (s .args .on .count) (s .args .on .limit) (m .ensures) (h .0 .0) (q .last .1 .1 .0) (q .last .1 .1 .1 .0) below (k .0 .0) (k .1) (q .kept .1 .1 .1 .0 ∙ e .ensures .0 0 .reached .room .size), (again-part w (s .args .facts .now) (s .args .path .now) (s .args .depth) (s .args .done) (g .0 .0) at (u .last .0) (u .ensures .0) j (u .last .1 .0) t long (e .result) (e .last .1 .1 .0) (e .last .1 .1 .1 .0) (e .ensures .0 0) place (m .result) (s .args .on .count) (s .args .on .limit) (m .ensures) (h .0 .0) (q .last .1 .1 .0) (q .last .1 .1 .1 .0) below (k .0 .0) (k .1) (q .kept .1 .1 .1 .0 ∙ e .ensures .0 0 .reached .room .size), again-within w (s .args .facts .now) (s .args .path .now) (s .args .depth) (s .args .done) (g .0 .0) at (u .last .0) (u .ensures .0) j (u .last .1 .0) t long (e .result) (e .last .1 .1 .0) (e .last .1 .1 .1 .0) (e .ensures .0 0) place (m .result) (s .args .on .count) (s .args .on .limit) (m .ensures) (h .0 .0) (q .last .1 .1 .0) (q .last .1 .1 .1 .0) below (k .0 .0) (k .1) (q .kept .1 .1 .1 .0 ∙ e .ensures .0 0 .reached .room .size))))))  -- work-off-requires
     (λ c. c .before .before .before .before .work-off .kept .1 .1 .0 ∙ c .before .before .before .before .before .before .before .before .before .before .before .before .before .before .before .before .before .resume .kept .1 .1 .0 ∙ c .before .before .before .before .before .before .before .before .before .before .before .before .before .before .before .before .before .before .before .before .before .before .before .before .enter .kept .1 .1 .0 ∙ c .before .before .before .before .before .before .before .before .before .before .before .before .before .before .before .before .before .before .before .before .before .before .before .before .before .before .before .before .before .before .before .before .before .rewind .kept .0)  -- same-length-8
     (λ c. c .before .before .before .before .work-off .kept .1 .1 .1 .0 ∙ c .before .before .before .before .before .before .before .before .before .before .before .before .before .before .before .before .before .resume .kept .1 .1 .1 .0 ∙ c .before .before .before .before .before .before .before .before .before .before .before .before .before .before .before .before .before .before .before .before .before .before .before .before .enter .kept .1 .1 .1 .0 ∙ c .before .before .before .before .before .before .before .before .before .before .before .before .before .before .before .before .before .before .before .before .before .before .before .before .before .before .before .before .before .before .before .before .before .rewind .kept .1 .0)  -- same-length-9
     (λ c.
@@ -275,9 +275,9 @@ pub +resume-spec : {M : Type 1} → statement M
     let m = c .before .before .before .before .before .before .before .before .before .before .before .before .before .before .before .before .before .before .before .before .before .before .before .before .before .before .before .mark in
     let e = c .before .before .before .before .before .before .before .before .before .before .before .before .before .before .before .before .before .before .before .before .before .before .before .before .enter in
     let q = c .before .before .before .before .before .before .before .before .before .before .before .before .before .before .before .before .before .resume in
-    let place = placeOf (w .find) (sessionOf (s .args .standing) (s .args .count) (s .args .atoms .now) (s .args .nexts .now) (s .args .steps) (s .args .next)) in
+    let place = placeOf (w .find) (sessionOf (s .args .on .standing) (s .args .on .count) (s .args .atoms .now) (s .args .nexts .now) (s .args .steps) (s .args .on .next)) in
     let h = c .before .before .before .before .before .before .before .before .before .before .before .below .given in
-    let below = resumes-on w place (e .last .1 .1 .0) (e .last .1 .1 .1 .0) (s .args .depth + 1) (m .result) (s .args .count) (s .args .limit) (q .last .1 .1 .0) (q .last .1 .1 .1 .0) (q .result) (h .0 .0) (h .1) (q .ensures) in
+    let below = resumes-on w place (e .last .1 .1 .0) (e .last .1 .1 .1 .0) (s .args .depth + 1) (m .result) (s .args .on .count) (s .args .on .limit) (q .last .1 .1 .0) (q .last .1 .1 .1 .0) (q .result) (h .0 .0) (h .1) (q .ensures) in
     let k = c .before .before .before .before .before .before .before .before .walked .given in
     let y = c .before .before .before .before .work-off in
-    again-on w (s .args .facts .now) (s .args .path .now) (s .args .depth) (s .args .done) (g .0 .0) at (u .last .0) (u .ensures .0) j (u .last .1 .0) t long (e .result) (e .last .1 .1 .0) (e .last .1 .1 .1 .0) (e .ensures .0 0) place (m .result) (s .args .count) (s .args .limit) (m .ensures) (h .0 .0) (q .last .1 .1 .0) (q .last .1 .1 .1 .0) below (k .0 .0) (k .1) (q .kept .1 .1 .1 .0 ∙ e .ensures .0 0 .reached .room .size) (y .result) (y .last .1 .1 .0) (y .last .1 .1 .1 .0) (y .ensures .0) (y .ensures .1)))  -- returns-6
+    again-on w (s .args .facts .now) (s .args .path .now) (s .args .depth) (s .args .done) (g .0 .0) at (u .last .0) (u .ensures .0) j (u .last .1 .0) t long (e .result) (e .last .1 .1 .0) (e .last .1 .1 .1 .0) (e .ensures .0 0) place (m .result) (s .args .on .count) (s .args .on .limit) (m .ensures) (h .0 .0) (q .last .1 .1 .0) (q .last .1 .1 .1 .0) below (k .0 .0) (k .1) (q .kept .1 .1 .1 .0 ∙ e .ensures .0 0 .reached .room .size) (y .result) (y .last .1 .1 .0) (y .last .1 .1 .1 .0) (y .ensures .0) (y .ensures .1)))  -- returns-6

@@ -25,5 +25,5 @@ go-on-spec =
     let a = s .args in
     let w = magicWalker (a .rules .now) in
     let q = c .before .before .before .before .resume in
-    let place = placeOf (w .find) (sessionOf (a .standing) (a .count) (a .atoms .now) (a .nexts .now) (a .steps) (a .next)) in
-    goes-on w place (a .count) (a .limit) (a .facts .now) (a .path .now) 0 (q .result) (q .last .1 .1 .0) (q .last .1 .1 .1 .0) (q .ensures)))  -- returns
+    let place = placeOf (w .find) (sessionOf (a .on .standing) (a .on .count) (a .atoms .now) (a .nexts .now) (a .steps) (a .on .next)) in
+    goes-on w place (a .on .count) (a .on .limit) (a .facts .now) (a .path .now) 0 (q .result) (q .last .1 .1 .0) (q .last .1 .1 .1 .0) (q .ensures)))  -- returns
