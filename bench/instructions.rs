@@ -78,7 +78,7 @@ fn count(table: &Table, earlier: Option<&Counts>, counts: &mut Counts) -> bool {
         rows.push(row);
     }
     let mean = |i: usize| Ratios::new(rows.iter().filter_map(|row| Some(((), row[i]?)))).geometric_mean();
-    let means: Vec<Option<f64>> = (0..rows[0].len()).map(|i| Some(mean(i))).collect();
+    let means: Vec<Option<f64>> = (0..rows[0].len()).map(|i| rows.iter().any(|row| row[i].is_some()).then(|| mean(i))).collect();
     print!("{:1$}", "geometric means", NAME + (1 + COUNT) * table.programs.len());
     print_ratios(&means);
     let within = table.most.is_none_or(|most| is_within(most, table, &rows));
