@@ -7,6 +7,7 @@ mod library;
 mod logic;
 mod mangle;
 mod memory;
+mod met;
 mod random;
 mod reference;
 mod report;
@@ -18,12 +19,12 @@ mod walk;
 use by_hand::written;
 use library::packed;
 use memory::{less_than, same_bytes, Memory};
+use met::Required;
 use random::Random;
 use reference::{clause_frame, Clause, Ticket, MOST_CLAUSES, SLIP, TABLE};
 use report::{dump, same, same_answer, Report};
 use slip::{filled, text_with, Why, CLAUSE, ROOM, WHYS};
-use std::collections::{BTreeMap, BTreeSet};
-use threads::{Run, Tally};
+use threads::Run;
 
 const CALLS: u64 = 300_000;
 
@@ -292,12 +293,11 @@ fn nearly_full(random: &mut Random) -> Ticket {
     ticket
 }
 
-/// What a run has met, by kind and name, and the number of its calls.
+/// Of rules offered and set.
 #[derive(Default)]
-struct Met {
-    calls: u64,
-    times: BTreeMap<(&'static str, String), u64>,
-}
+struct Offered;
+
+type Met = met::Met<Offered>;
 
 const OFFERS: &str = "offers";
 const SETTINGS: &str = "settings";
@@ -325,55 +325,29 @@ fn named(why: Option<Why>) -> String {
     why.map_or("done".to_string(), |why| format!("{} {why:?}", why.number()))
 }
 
-/// What each run must meet.
-fn required() -> Vec<(&'static str, String)> {
-    let reasons: Vec<Option<Why>> = WHYS.iter().map(|why| Some(*why)).chain([None]).collect();
-    let of = |kind: &'static str, is_met: fn(Why) -> bool| {
-        let met = reasons.clone().into_iter().filter(move |why| why.is_none_or(is_met));
-        met.map(move |why| (kind, named(why)))
-    };
-    let mut required: Vec<(&str, String)> = of(OFFERS, |why| !matches!(why, Why::Stale | Why::NoRoom)).collect();
-    required.extend(of(SETTINGS, |_| true));
-    required.extend(of(STALE, |why| why >= Why::NoRoom));
-    for length in LENGTHS {
-        required.extend(of(length, |why| why >= Why::OtherKind && !matches!(why, Why::Missing | Why::LeftOver)));
+impl Required for Offered {
+    fn required() -> Vec<(&'static str, String)> {
+        let reasons: Vec<Option<Why>> = WHYS.iter().map(|why| Some(*why)).chain([None]).collect();
+        let of = |kind: &'static str, is_met: fn(Why) -> bool| {
+            let met = reasons.clone().into_iter().filter(move |why| why.is_none_or(is_met));
+            met.map(move |why| (kind, named(why)))
+        };
+        let mut required: Vec<(&str, String)> = of(OFFERS, |why| !matches!(why, Why::Stale | Why::NoRoom)).collect();
+        required.extend(of(SETTINGS, |_| true));
+        required.extend(of(STALE, |why| why >= Why::NoRoom));
+        for length in LENGTHS {
+            required.extend(of(length, |why| why >= Why::OtherKind && !matches!(why, Why::Missing | Why::LeftOver)));
+        }
+        required.push((GROWN, "all".to_string()));
+        required.extend(["another slip", "the same"].map(|name| (BETWEEN, name.to_string())));
+        required.extend(["01", "63", "64"].map(|number| (ADDED, number.to_string())));
+        required
     }
-    required.push((GROWN, "all".to_string()));
-    required.extend(["another slip", "the same"].map(|name| (BETWEEN, name.to_string())));
-    required.extend(["01", "63", "64"].map(|number| (ADDED, number.to_string())));
-    required
 }
 
 impl Met {
-    fn note(&mut self, kind: &'static str, name: String) {
-        *self.times.entry((kind, name)).or_default() += 1;
-    }
-
     fn call(&mut self, kind: &'static str, why: Option<Why>) {
         self.calls += 1;
         self.note(kind, named(why));
-    }
-}
-
-impl Tally for Met {
-    fn add(&mut self, other: &Met) {
-        self.calls += other.calls;
-        other.times.iter().for_each(|(key, times)| *self.times.entry(key.clone()).or_default() += times);
-    }
-
-    fn print(&self) {
-        let kinds: BTreeSet<&str> = self.times.keys().map(|(kind, _)| *kind).collect();
-        for kind in kinds {
-            let met: Vec<String> = self.times.iter().filter(|((by, _), _)| *by == kind).map(|((_, name), times)| format!("{name} {times}")).collect();
-            println!("{kind}: {}", met.join(", "));
-        }
-    }
-
-    fn missing(&self) -> Vec<String> {
-        required().into_iter().filter(|key| !self.times.contains_key(key)).map(|(kind, name)| format!("{kind} {name}")).collect()
-    }
-
-    fn agreed(&self) -> String {
-        format!("{} calls", self.calls)
     }
 }

@@ -10,6 +10,7 @@ mod logic;
 mod magic;
 mod mangle;
 mod memory;
+mod met;
 mod mix;
 mod operations;
 mod oracle;
@@ -31,15 +32,15 @@ use large::FAMILIES;
 use library::{Session, SESSION};
 use magic::{rewritten, Magic};
 use memory::{less_than, Memory};
+use met::Required;
 use operations::{Buffer, Lent, Operation, BUFFERS};
 use random::Random;
 use reference::{Ticket, NO_SESSION, NO_TABLE, SHORT_BUFFER, TABLE, TOO_MANY_ENTRIES};
 use report::{same, Report};
 use session::{begun, bytes, of_bytes, Node, Told, ROOM};
 use std::cmp::Ordering;
-use std::collections::{BTreeMap, BTreeSet};
 use tamper::{changed, further, CHANGES, FIELDS};
-use threads::{Run, Tally};
+use threads::Run;
 use walk::{walk, Engine, Found, Relevancy, Remembering, Verdict};
 
 const CALLS: u64 = 120_000;
@@ -139,7 +140,7 @@ impl Run<Met> {
         self.tampered(&case, &met)?;
         self.other_tickets(&case, &met)?;
         self.in_order(&case, &met)?;
-        self.tally.sessions = met;
+        self.tally.own.sessions = met;
         Ok(())
     }
 
@@ -173,9 +174,9 @@ impl Run<Met> {
     /// A first run by either engine, over a session that holds anything.
     fn begin(&mut self, case: &Case) -> Result<Kept, Report> {
         let held = of_bytes(&arbitrary::bytes(&mut self.random, SESSION));
-        let held = if self.random.once_in(2) { held } else { self.tally.sessions.last().copied().unwrap_or(held) };
-        self.tally.moved = self.random.below(2);
-        let said = self.call(case, BEGIN[self.tally.moved], &held, 0)?;
+        let held = if self.random.once_in(2) { held } else { self.tally.own.sessions.last().copied().unwrap_or(held) };
+        self.tally.own.moved = self.random.below(2);
+        let said = self.call(case, BEGIN[self.tally.own.moved], &held, 0)?;
         let session = said.map_err(|refusal| format!("a first run is refused by {refusal}"))?;
         Ok(Kept { session, sum: u32::from_be_bytes(case.ticket.limit) as u64 })
     }
@@ -190,7 +191,7 @@ impl Run<Met> {
         let sum = kept.sum + further as u64;
         let whole = begun(&case.relevancy, sum.min(u32::MAX as u64) as u32);
         same("the session of the whole walk under the sum", dumped(&whole.session), dumped(&session))?;
-        let moved = std::mem::replace(&mut self.tally.moved, which);
+        let moved = std::mem::replace(&mut self.tally.own.moved, which);
         self.tally.note(MIXED, format!("{} after {}", ENGINES[which], ENGINES[moved]));
         self.tally.note(if further == 0 { WITH_0 } else { WENT_ON }, format!("{} to {}", verdict(&kept.session), verdict(&session)));
         if kept.session.verdict != Verdict::Spent as u8 {
@@ -203,7 +204,7 @@ impl Run<Met> {
     fn go_on_at_end(&mut self, case: &Case, kept: Kept, whole: &Told, cut: u32) -> Result<Kept, Report> {
         let left = u32::MAX - kept.session.count;
         if left < u32::MAX {
-            let said = self.call(case, RESUME[self.tally.moved], &kept.session, left + 1)?;
+            let said = self.call(case, RESUME[self.tally.own.moved], &kept.session, left + 1)?;
             same("one more than there can be", Err(TOO_MANY_ENTRIES), said.map(drop))?;
             self.tally.note(PAST_EDGE, verdict(&kept.session));
         }
@@ -279,7 +280,7 @@ impl Run<Met> {
 
     /// Sessions of an earlier ticket; and this one's with the ticket changed, often only in its limit.
     fn other_tickets(&mut self, case: &Case, met: &[Session]) -> Result<(), Report> {
-        let earlier = self.tally.sessions.clone();
+        let earlier = self.tally.own.sessions.clone();
         for session in earlier.iter().take(2) {
             self.go_on_anyhow(case, session, "earlier ticket")?;
         }
@@ -423,14 +424,14 @@ fn dumped(session: &Session) -> String {
     format!("{count} {entries} {verdict} {next} {:?} {:?} {past}", &session.atoms[..length], &session.nexts[..length])
 }
 
-/// What a run has met, by kind and name, and the number of its calls; with it which engine moved the last session, and the sessions of the last ticket.
+/// Which engine moved the last session, and the sessions of the last ticket.
 #[derive(Default)]
-struct Met {
-    calls: u64,
-    times: BTreeMap<(&'static str, String), u64>,
+struct Brought {
     moved: usize,
     sessions: Vec<Session>,
 }
+
+type Met = met::Met<Brought>;
 
 const ENGINES: [&str; 2] = ["relevancy", "magic"];
 const FIRST: &str = "first runs";
@@ -521,11 +522,13 @@ const REQUIRED: [(&str, &[&str]); 12] = [
     ),
 ];
 
-impl Met {
-    fn note(&mut self, kind: &'static str, name: String) {
-        *self.times.entry((kind, name)).or_default() += 1;
+impl Required for Brought {
+    fn required() -> Vec<(&'static str, String)> {
+        REQUIRED.iter().flat_map(|(kind, names)| names.iter().map(|name| (*kind, name.to_string()))).collect()
     }
+}
 
+impl Met {
     fn call(&mut self, operation: Operation, said: Result<Session, u8>) {
         self.calls += 1;
         let kind = match operation {
@@ -537,29 +540,5 @@ impl Met {
         if let Ok(session) = said {
             self.note(PATHS, class(session.length));
         }
-    }
-}
-
-impl Tally for Met {
-    fn add(&mut self, other: &Met) {
-        self.calls += other.calls;
-        other.times.iter().for_each(|(key, times)| *self.times.entry(key.clone()).or_default() += times);
-    }
-
-    fn print(&self) {
-        let kinds: BTreeSet<&str> = self.times.keys().map(|(kind, _)| *kind).collect();
-        for kind in kinds {
-            let met: Vec<String> = self.times.iter().filter(|((by, _), _)| *by == kind).map(|((_, name), times)| format!("{name} {times}")).collect();
-            println!("{kind}: {}", met.join(", "));
-        }
-    }
-
-    fn missing(&self) -> Vec<String> {
-        let all = REQUIRED.iter().flat_map(|(kind, names)| names.iter().map(|name| (*kind, name.to_string())));
-        all.filter(|key| !self.times.contains_key(key)).map(|(kind, name)| format!("{kind} {name}")).collect()
-    }
-
-    fn agreed(&self) -> String {
-        format!("{} calls", self.calls)
     }
 }
