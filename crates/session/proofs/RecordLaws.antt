@@ -108,13 +108,6 @@ laid-as r s count long verdict next ea en =
     let same : record { count = r .count; length = r .length; verdict = r .verdict; next = r .next; atoms = r .atoms; nexts = r .nexts } ≡ laid s = rw (count, long, verdict, next, ea, en) in
     same
 
--- at the root all slots are zero
-pub root-laid : (r : Record) (s : Session) → s .path ≡ [] → r .length ≡ 0 → r .atoms ≡ replicate 1024 0 → r .nexts ≡ replicate 1024 0
-    → r .count ≡ s .count → r .verdict ≡ verdictNumber (s .standing) → r .next ≡ s .next → r ≡ laid s
-unfolding slots
-root-laid r s there long ea en count verdict next =
-    laid-as r s count (long ∙ ap (λ (ss : List Step). length ss) (sym there)) verdict next (ea ∙ ap (slots (λ t. t .atom)) (sym there)) (en ∙ ap (slots (λ t. t .next)) (sym there))
-
 -- ---- what an engine writes down
 
 -- numbers with zeros after the steps that they stand for are the slots of these
@@ -134,7 +127,7 @@ module _ {I : Type 0} (w : Walker I) (path : List ℕ) (depth : ℕ) (atoms next
   abbrev steps : List Step
   steps = stepsOf (w .find) (pathIn w path depth)
 
-  pub left-length : length (stepsOf (w .find) (pathIn w path depth)) ≡ depth
+  left-length : length (stepsOf (w .find) (pathIn w path depth)) ≡ depth
   left-length = sym (ap (λ (ss : List Step). length ss) (was .steps)) ∙ steps-length atoms nexts depth
 
   -- the steps of the first nodes are the slots of the path that these stand for
@@ -144,10 +137,3 @@ module _ {I : Type 0} (w : Walker I) (path : List ℕ) (depth : ℕ) (atoms next
       subst (λ (k : ℕ). stepsIn (slots (λ t. t .atom) steps) (slots (λ t. t .next) steps) k ≡ steps) left-length (steps-back steps (omega (arith, left-length, deep))) in
       let same = same-steps atoms nexts (slots (λ t. t .atom) steps) (slots (λ t. t .next) steps) depth (was .steps ∙ sym as-slots) in
       (slots-of (λ t. t .atom) steps atoms depth long-a left-length (same .0) (was .atoms-end), slots-of (λ t. t .next) steps nexts depth long-n left-length (same .1) (was .nexts-end))
-
-  -- so a record with these numbers is that of a session which stands at the end of that path
-  pub left-laid : (r : Record) (s : Session) → r .length ≡ depth → r .atoms ≡ atoms → r .nexts ≡ nexts
-      → r .count ≡ s .count → r .verdict ≡ verdictNumber (s .standing) → r .next ≡ s .next → s .path ≡ stepsOf (w .find) (pathIn w path depth) → r ≡ laid s
-  left-laid r s long ea en count verdict next there =
-      laid-as r s count (long ∙ sym left-length ∙ ap (λ (ss : List Step). length ss) (sym there)) verdict next (ea ∙ slots-left .0 ∙ ap (slots (λ t. t .atom)) (sym there))
-      (en ∙ slots-left .1 ∙ ap (slots (λ t. t .next)) (sym there))
