@@ -54,7 +54,7 @@ use Rattle.magic.specs.Sessions.{magicBegun, magicResumed}
 use Rattle.magic.proofs.EngineLaws as magic-ways
 use Rattle.magic.proofs.SessionLaws as magic-calls
 use Rattle.agreement.specs.Claims.{BothTaken}
-use Rattle.agreement.specs.Sessions.{Lent, byEngine, begins, goesOn, Carried, carriedBy, carriedFirst, carriedAfter, SameTicket, OnTicket, BroughtBack, FromThere, AnyRecord, Theorems}
+use Rattle.agreement.specs.Sessions.{Lent, byEngine, begins, goesOn, Carried, carriedBy, carriedFirst, carriedAfter, SameProblem, OnProblem, BroughtBack, FromThere, AnyRecord, Theorems}
 use Rattle.agreement.proofs.Theorems.{find-is, facts-over}
 
 -- the walk of a lent table, and that of an engine
@@ -123,7 +123,7 @@ module _ (tb : List ℕ) (valid : Valid (take 4096 tb)) where
       ap (λ (f : List ℕ → Found Instance). outcome f limit) (rules-find rules) ∙ walks .one-walk-kept instanceKey (groundLent tb) true limit [] .answer-is
 
 -- a call on the ticket is refused by 11 or 31, or goes on by its engine's walk
-goes-on : (tb : List ℕ) (r : Record) (c : Lent) → SameTicket tb c → EarlyOr (goesOn r c) (calledIn (walkBy tb (c .magic)) r (c .further))
+goes-on : (tb : List ℕ) (r : Record) (c : Lent) → SameProblem tb c → EarlyOr (goesOn r c) (calledIn (walkBy tb (c .magic)) r (c .further))
 unfolding resumed magicResumed
 goes-on tb r c same = go (c .magic)
   where
@@ -222,7 +222,7 @@ module _ (tb : List ℕ) (long : 4096 ≤ length tb) (valid : Valid (take 4096 t
   abbrev CallIs : List Call → Lent → Type 0
   CallIs cs c = EarlyOr (goesOn (laid (sessionBy cs)) c) (called (walkBy tb (c .magic)) (sessionBy cs) (c .further))
 
-  call-is : (cs : List Call) (c : Lent) → SameTicket tb c → CallIs cs c
+  call-is : (cs : List Call) (c : Lent) → SameProblem tb c → CallIs cs c
   call-is cs c same = go (goes-on tb (laid (sessionBy cs)) c same)
     where
       go : EarlyOr (goesOn (laid (sessionBy cs)) c) (calledIn (walkBy tb (c .magic)) (laid (sessionBy cs)) (c .further)) → CallIs cs c
@@ -230,7 +230,7 @@ module _ (tb : List ℕ) (long : 4096 ≤ length tb) (valid : Valid (take 4096 t
       go (inr (inl e)) = inr (inl e)
       go (inr (inr e)) = inr (inr (e ∙ called-held (walkBy tb (c .magic)) (laid (sessionBy cs)) (c .further) (sessionBy cs) (kept-held cs)))
 
-  call-kept : (cs : List Call) (c : Lent) → SameTicket tb c
+  call-kept : (cs : List Call) (c : Lent) → SameProblem tb c
       → (ds : List Call) × (carriedBy (carriedOf (keptBy cs)) (c .further) (goesOn (laid (sessionBy cs)) c) ≡ carriedOf (keptBy ds))
   call-kept cs c same = go (call-is cs c same)
     where
@@ -247,13 +247,13 @@ module _ (tb : List ℕ) (long : 4096 ≤ length tb) (valid : Valid (take 4096 t
           )
 
   -- a call on another ticket is refused, and keeps all as it was
-  call-on : (cs : List Call) (c : Lent) (k : Carried) → k ≡ carriedOf (keptBy cs) → SameTicket tb c ⊎ ((n : ℕ) × (goesOn (k .kept) c ≡ declined n))
+  call-on : (cs : List Call) (c : Lent) (k : Carried) → k ≡ carriedOf (keptBy cs) → SameProblem tb c ⊎ ((n : ℕ) × (goesOn (k .kept) c ≡ declined n))
       → (ds : List Call) × (carriedBy k (c .further) (goesOn (k .kept) c) ≡ carriedOf (keptBy ds))
   call-on cs c k e (inl same) = let w = call-kept cs c same in (w .0, ap (λ (x : Carried). carriedBy x (c .further) (goesOn (x .kept) c)) e ∙ w .1)
   call-on cs c k e (inr refused) = (cs, ap (carriedBy k (c .further)) (refused .1) ∙ e)
 
   -- so all calls together keep what those do that are on the ticket and not refused by 11 or 31
-  calls-kept : (calls : List Lent) (k : Carried) → OnTicket tb k calls → (cs : List Call) → k ≡ carriedOf (keptBy cs) → (ds : List Call) × (carriedAfter calls k ≡ carriedOf (keptBy ds))
+  calls-kept : (calls : List Lent) (k : Carried) → OnProblem tb k calls → (cs : List Call) → k ≡ carriedOf (keptBy cs) → (ds : List Call) × (carriedAfter calls k ≡ carriedOf (keptBy ds))
   calls-kept [] k on cs e = (cs, e)
   calls-kept (c ∷ calls) k on cs e =
       let w = call-on cs c k e (on .0) in
@@ -297,7 +297,7 @@ told-parts : (x o : Outcome) (y s : Session) → told x y ≡ told o s → (o �
 told-parts x o y s e = (cc, cc)
 
 brought-back : (first : Lent) (o : Outcome) (s : Session) → begins first ≡ told o s → (r : Record) (calls : List Lent)
-    → OnTicket (first .table) (carriedFirst (first .table) o s r) calls → BroughtBack (first .table) (carriedAfter calls (carriedFirst (first .table) o s r))
+    → OnProblem (first .table) (carriedFirst (first .table) o s r) calls → BroughtBack (first .table) (carriedAfter calls (carriedFirst (first .table) o s r))
 brought-back first o s e r calls on =
     let tb : List ℕ = first .table in
     let b = began first o s e in

@@ -70,13 +70,13 @@ carriedAfter [] k = k
 carriedAfter (c ∷ cs) k = carriedAfter cs (carriedBy k (c .further) (goesOn (k .kept) c))
 
 -- a call is on the ticket of a table, whatever its limit: the ground problem has all of a ticket but that
-abbrev pub SameTicket : List ℕ → Lent → Type 0
-SameTicket tb c = groundLent (c .table) ≡ groundLent tb
+abbrev pub SameProblem : List ℕ → Lent → Type 0
+SameProblem tb c = groundLent (c .table) ≡ groundLent tb
 
 -- a session is moved by these calls "always on that run's ticket": a call on any other is refused, and moves nothing
-abbrev pub OnTicket : List ℕ → Carried → List Lent → Type 0
-OnTicket tb k [] = Unit
-OnTicket tb k (c ∷ cs) = (SameTicket tb c ⊎ ((e : ℕ) × (goesOn (k .kept) c ≡ declined e))) × OnTicket tb (carriedBy k (c .further) (goesOn (k .kept) c)) cs
+abbrev pub OnProblem : List ℕ → Carried → List Lent → Type 0
+OnProblem tb k [] = Unit
+OnProblem tb k (c ∷ cs) = (SameProblem tb c ⊎ ((e : ℕ) × (goesOn (k .kept) c ≡ declined e))) × OnProblem tb (carriedBy k (c .further) (goesOn (k .kept) c)) cs
 
 -- "The last answer that is no refusal has the verdict, count and fitting of the whole walk under the sum of L and the limits not refused, in either engine."
 pub record BroughtBack (tb : List ℕ) (k : Carried) : Type 1 where
@@ -90,9 +90,9 @@ pub record BroughtBack (tb : List ℕ) (k : Carried) : Type 1 where
   pub magic-demand-2 : (rules answer : List ℕ) → 1024 ≤ length answer
       → Demand2 (findIn (rulesOver (take 4096 tb) rules)) (groundLent tb) (k .sum) tb (verdictOf (k .answered)) (answerOf (k .answered) answer)
   -- it is never taken for a session of other origin that stands nowhere
-  pub always-stands : (c : Lent) → SameTicket tb c → goesOn (k .kept) c ≡ declined 42 → ⊥
+  pub always-stands : (c : Lent) → SameProblem tb c → goesOn (k .kept) c ≡ declined 42 → ⊥
   -- "A finished session answers again as before."
-  pub finished-again : ((n : ℕ) → k .answered ≡ Exhausted n → ⊥) → (c : Lent) → SameTicket tb c → (o : Outcome) (s : Session) → goesOn (k .kept) c ≡ told o s
+  pub finished-again : ((n : ℕ) → k .answered ≡ Exhausted n → ⊥) → (c : Lent) → SameProblem tb c → (o : Outcome) (s : Session) → goesOn (k .kept) c ≡ told o s
       → (o ≡ k .answered) × (recordLeft (told o s) (k .kept) ≡ k .kept)
 
 -- ---- a session of any origin
@@ -131,7 +131,7 @@ pub record AnyRecord (tb rules answer work₁ work₂ bs : List ℕ) (r : Record
 pub record Theorems : Type 1 where
   -- over every list of calls, each by either engine, with its own further limit and its own buffers
   pub brought-back : (first : Lent) (o : Outcome) (s : Session) → begins first ≡ told o s → (r : Record) (calls : List Lent)
-      → OnTicket (first .table) (carriedFirst (first .table) o s r) calls → BroughtBack (first .table) (carriedAfter calls (carriedFirst (first .table) o s r))
+      → OnProblem (first .table) (carriedFirst (first .table) o s r) calls → BroughtBack (first .table) (carriedAfter calls (carriedFirst (first .table) o s r))
   pub any-record : (tb rules answer work₁ work₂ : List ℕ) → BothTaken tb rules answer work₁ work₂ → (r : Record) (further : ℕ)
       → AnyRecord tb rules answer work₁ work₂ (magicRules tb rules answer work₂) r further
   -- every session of the walk has room in the record

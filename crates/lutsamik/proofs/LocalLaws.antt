@@ -51,10 +51,10 @@ module _ {M : Type 1} (𝓤 : URA M) (H : Heap 𝓤) (A : Atoms 𝓤) where
   filled (e ∷ E) (v ∷ vs) = ‵ (fat fullShare (e .0) (e .1) 0 v) ∷ ‵ (fdies (e .0) (e .1)) ∷ filled E vs
 
   -- and are of their types
-  abbrev pub Fitting : Env 𝓤 H → List Val → Type 0
-  Fitting E [] = Unit {0}
-  Fitting [] (v ∷ vs) = ⊥
-  Fitting (e ∷ E) (v ∷ vs) = (Holds (hasTy (e .0) v) × WT v) × Fitting E vs
+  abbrev pub WellTyped : Env 𝓤 H → List Val → Type 0
+  WellTyped E [] = Unit {0}
+  WellTyped [] (v ∷ vs) = ⊥
+  WellTyped (e ∷ E) (v ∷ vs) = (Holds (hasTy (e .0) v) × WT v) × WellTyped E vs
 
   -- each holds a value
   abbrev pub Values : Env 𝓤 H → Type 0
@@ -94,7 +94,7 @@ module _ {M : Type 1} {𝓤 : URA M} {H : Heap 𝓤} {A : Atoms 𝓤} {K : Type 
       alloc1 t (λ b. allocs-all t ls (‵ (froom τ b 0) ∷ ‵ (fdies τ b) ∷ Γ) (λ E. Kt ((τ, b) ∷ E)) (λ bs.
       by t (via 𝓤 (⋆ 𝓤 H A (rooms 𝓤 H A (made 𝓤 H A (local τ h ∷ ls) (b, bs)) ++ Γ)) (rises 𝓤 H A W (rooms 𝓤 H A (made 𝓤 H A ls bs)) (‵ (froom τ b 0)) (‵ (fdies τ b)) Γ) (k (b, bs) .prf))))
 
-  passes-all : K → (E : Env 𝓤 H) (vs : List Val) (Γ : List (Item 𝓤)) (g : Goal 𝓤 H) → Fitting 𝓤 H A E vs → Seq K W (filled 𝓤 H A E vs ++ Γ) g → Seq K W (rooms 𝓤 H A E ++ Γ) (passes E vs g)
+  passes-all : K → (E : Env 𝓤 H) (vs : List Val) (Γ : List (Item 𝓤)) (g : Goal 𝓤 H) → WellTyped 𝓤 H A E vs → Seq K W (filled 𝓤 H A E vs ++ Γ) g → Seq K W (rooms 𝓤 H A E ++ Γ) (passes E vs g)
   passes-all t E [] Γ g fits s = pass0 t $ s
   passes-all t [] (v ∷ vs) Γ g fits s = absurd fits
   passes-all t (e ∷ E) (v ∷ vs) Γ g fits s =
@@ -108,7 +108,7 @@ module _ {M : Type 1} {𝓤 : URA M} {H : Heap 𝓤} {A : Atoms 𝓤} {K : Type 
   frees-all t (e ∷ E) vs Γ g s = forget t 0 refl $ free1 t $ frees-all t E (vs .1) Γ g s
 
   -- a function is entered
-  pub enters : K → (C : Calls 𝓤 H) (Λ : Loops 𝓤 H) (f : Fn) (l : Local) (ls : List Local) (vs : List Val) (Kf : Val → SProp 𝓤) (Γ : List (Item 𝓤)) → f .locals ≡ l ∷ ls → ((bs : Blocks ls) → Fitting 𝓤 H A (made 𝓤 H A ls bs) vs)
+  pub enters : K → (C : Calls 𝓤 H) (Λ : Loops 𝓤 H) (f : Fn) (l : Local) (ls : List Local) (vs : List Val) (Kf : Val → SProp 𝓤) (Γ : List (Item 𝓤)) → f .locals ≡ l ∷ ls → ((bs : Blocks ls) → WellTyped 𝓤 H A (made 𝓤 H A ls bs) vs)
       → ((bs : Blocks (l ∷ ls)) → Seq K W (Γ ++ entered 𝓤 H A (made 𝓤 H A (l ∷ ls) bs) vs) (runs C Λ (made 𝓤 H A (l ∷ ls) bs) (f .body) (atRet (made 𝓤 H A (l ∷ ls) bs) Kf))) → Seq K W Γ (prop (WpFn 𝓤 H C Λ f vs Kf))
   enters t C Λ f l ls vs Kf Γ e fits k =
       enter t C Λ f vs Kf $

@@ -51,7 +51,7 @@ use Rattle.session.proofs.record.Session.Laws as S′
 use Rattle.lutsamik.specs.declared.calls.Returned.{Returned}
 use Rattle.lutsamik.proofs.calls.Returned as T
 use Rattle.lutsamik.proofs.calls.Returned.Laws as T′
-use Rattle.lutsamik.proofs.LocalLaws.{past, result, others, Blocks, made, entered, Fitting, Values, held, enters, leaves, from-spot, look-part}
+use Rattle.lutsamik.proofs.LocalLaws.{past, result, others, Blocks, made, entered, WellTyped, Values, held, enters, leaves, from-spot, look-part}
 
 -- ---- a parameter that is handed on
 pub record Passed (n : ℕ) : Type 2 where
@@ -253,7 +253,7 @@ module _ (n : ℕ) (ps : List (Passed (suc n))) where
 
       -- f's locals are the result's and others, of which the first are the parameters'
       pub meets : f .locals ≡ result (f .locals) ∷ others (f .locals)
-          → ((κs : Lfts (suc n)) (a : Args (ended .signature) κs) → Typed (mirs (typesAt (slots ps) κs)) (flat (typesAt (slots ps) κs) (vals κs a .1)) → (bs : Blocks (others (f .locals))) → Fitting 𝓤 H A (made 𝓤 H A (others (f .locals)) bs) (flat (typesAt (ended .signature .params) κs) (vals κs a)))
+          → ((κs : Lfts (suc n)) (a : Args (ended .signature) κs) → Typed (mirs (typesAt (slots ps) κs)) (flat (typesAt (slots ps) κs) (vals κs a .1)) → (bs : Blocks (others (f .locals))) → WellTyped 𝓤 H A (made 𝓤 H A (others (f .locals)) bs) (flat (typesAt (ended .signature .params) κs) (vals κs a)))
           → Walk → Meets 𝓤 H A (ended .signature) (WpFn 𝓤 H (𝓣 .C) (𝓣 .Λ) f) (closing 𝓤 H A ended c)
       meets e fits walk =
           walk-meets 𝓤 H A ended stayed W (goes-ref 𝓤 H A W (suc n) 0 tt (plain (λ _. S.the-row)), go-all 𝓤 H A W ps) c (WpFn 𝓤 H (𝓣 .C) (𝓣 .Λ) f) (WpFn-mono 𝓤 H (W .laws) 𝓣 f)
