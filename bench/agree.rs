@@ -1,5 +1,5 @@
 //! The engine made for speed makes the walk of document 01: on random tickets, small and large, and under limits around
-//! the count, its verdict, count and fitting are those of the tests' independent walk. Usage: agree [NUMBER OF SMALL TICKETS].
+//! the count, its verdict, count, longest path and fitting are those of the tests' independent walk. Usage: agree [NUMBER OF SMALL TICKETS].
 mod grounded;
 #[allow(dead_code)] // the tests use the whole of it
 #[path = "../tests/large.rs"]
@@ -28,7 +28,7 @@ use mix::Mix;
 use reference::Ticket;
 use report::{same, Report};
 use threads::{Run, Tally};
-use walk::{walk, Relevancy};
+use walk::{Relevancy, Whole};
 
 const TICKETS: u64 = 10_000;
 
@@ -60,9 +60,10 @@ fn run(run: &mut Run<Met>, many: u64) -> Result<(), Report> {
 
 /// Without a limit but where the walk is cut, and with limits up to the count.
 fn agrees(ticket: &Ticket, cut: u32, met: &mut Mix) -> Result<(), Report> {
-    let whole = walk(&Relevancy::new(ticket), cut, &mut |_, _| {});
-    met.ticket(&whole);
-    for limit in [cut, whole.count, whole.count.saturating_sub(1), 0] {
+    let whole = Whole::new(&Relevancy::new(ticket), cut, &mut |_, _| {});
+    met.ticket(&whole.outcome);
+    let count = whole.outcome.count;
+    for limit in [cut, count, count.saturating_sub(1), 0] {
         let ticket = Ticket { limit: limit.to_be_bytes(), ..ticket.clone() };
         let found = grounded::fit(&ticket);
         met.limited(found.verdict);

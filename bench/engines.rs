@@ -59,5 +59,5 @@ fn outcome(given: u64, marks: &[u8]) -> Outcome {
     assert!(given as u8 == 0, "refused: {given:X}");
     let verdict = [Verdict::None, Verdict::Fits, Verdict::Spent][(given >> 8) as u8 as usize];
     let fitting = (verdict == Verdict::Fits).then(|| marks.iter().map(|mark| *mark == 1).collect());
-    Outcome { verdict, count: (given >> 32) as u32, fitting }
+    Outcome { verdict, count: (given >> 32) as u32, deepest: given as u32 >> 16, fitting }
 }

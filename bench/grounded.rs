@@ -38,17 +38,18 @@ struct Walk<'a> {
 
 impl Walk<'_> {
     fn run(mut self, limit: u32) -> Outcome {
-        let mut count = 0;
+        let (mut count, mut deepest) = (0, 0);
         let mut goes_on = self.held.begin();
         loop {
             if goes_on && !self.split() {
-                return Outcome { verdict: Verdict::Fits, count, fitting: Some(self.held.fitting()) };
+                return Outcome { verdict: Verdict::Fits, count, deepest, fitting: Some(self.held.fitting()) };
             }
-            let Some(alternative) = self.next_alternative() else { return Outcome { verdict: Verdict::None, count, fitting: None } };
+            let Some(alternative) = self.next_alternative() else { return Outcome { verdict: Verdict::None, count, deepest, fitting: None } };
             if count == limit {
-                return Outcome { verdict: Verdict::Spent, count, fitting: None };
+                return Outcome { verdict: Verdict::Spent, count, deepest, fitting: None };
             }
             count += 1;
+            deepest = deepest.max(self.path.len() as u32);
             goes_on = self.held.enter(alternative);
         }
     }

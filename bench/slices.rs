@@ -17,7 +17,7 @@ pub const MOST: f64 = 1.3;
 const SLICES: u32 = 100;
 
 /// The paths of these walks are shorter.
-const LONG: u16 = 100;
+const LONG: u32 = 100;
 
 /// A walk by one of the library's engines.
 pub struct Walk {
@@ -54,32 +54,31 @@ impl Walk {
             kept.begin(self.engine);
             (1..SLICES).map(|_| kept.resume(self.engine, slice)).last()
         });
-        assert_eq!(given, Some(fit(whole.verdict as u8, whole.count)), "{}: another end", self.name);
-        assert!(kept.longest < LONG, "{}: a path of {} entries", self.name, kept.longest);
+        assert_eq!(given, Some(fit(whole.verdict as u8, whole.count, whole.deepest)), "{}: another end", self.name);
+        assert!(whole.deepest < LONG, "{}: a path of {} entries", self.name, whole.deepest);
         if let (Verdict::Fits, Some(fitting)) = (whole.verdict, whole.fitting) {
             assert!(kept.answer.iter().zip(fitting).all(|(mark, is_in)| *mark == is_in as u8), "{}: another fitting", self.name);
         }
     }
 }
 
-/// A session, with what is lent beside it, and the longest path that it has had.
+/// A session, with what is lent beside it.
 struct Kept {
     session: Session,
     table: Vec<u8>,
     rules: Vec<u8>,
     answer: Vec<u8>,
     work: Vec<u8>,
-    longest: u16,
 }
 
 impl Kept {
     fn new(ticket: &Ticket) -> Kept {
         let (table, rules, answer, work) = (reference::encode(ticket), vec![0; RULES], vec![0; ANSWER], vec![0; WORK]);
-        Kept { session: Session::EMPTY, table, rules, answer, work, longest: 0 }
+        Kept { session: Session::EMPTY, table, rules, answer, work }
     }
 
     fn begin(&mut self, engine: Engine) -> u64 {
-        let Kept { session, table, rules, answer, work, .. } = self;
+        let Kept { session, table, rules, answer, work } = self;
         match engine {
             Engine::Magic => library::begin_magic(session, table, rules, answer, work),
             _ => library::begin_relevancy(session, table, answer, work),
@@ -87,8 +86,7 @@ impl Kept {
     }
 
     fn resume(&mut self, engine: Engine, further: u32) -> u64 {
-        let Kept { session, table, rules, answer, work, longest } = self;
-        *longest = session.length.max(*longest);
+        let Kept { session, table, rules, answer, work } = self;
         match engine {
             Engine::Magic => library::resume_magic(session, further, table, rules, answer, work),
             _ => library::resume_relevancy(session, further, table, answer, work),

@@ -157,7 +157,8 @@ static int bring_back(const struct lent *lent, uint32_t slice, uint64_t *result)
         uint32_t left = UINT32_MAX - lutsamik_count(*result);
         if (left == 0)
             break;
-        fprintf(stderr, "host: spent after %lu entries, and goes on\n", (unsigned long)lutsamik_count(*result));
+        fprintf(stderr, "host: spent after %lu entries, on paths of up to %lu, and goes on\n",
+                (unsigned long)lutsamik_count(*result), (unsigned long)lutsamik_deepest(*result));
         status = go_on(lent, slice < left ? slice : left, result);
     }
     return status;

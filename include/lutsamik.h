@@ -48,7 +48,15 @@
  *
  * An engine runs until its walk ends or has made as many entries as the ticket or a further limit allows, however
  * long that takes. It calls itself along its path of up to 1,024 entries, that of a session too: leave it 1 MB of
- * stack, in which the tests walk such paths.
+ * stack, in which the tests walk such paths. lutsamik_deepest tells the longest path that was entered: the same call
+ * again needs no more stack than a path of that length does; going on with a spent ticket may go deeper. So many bytes
+ * of stack were measured:
+ *
+ *   entries on the path             0       64      256    1,024
+ *   a first run by relevancy   36,000   59,000  151,000  520,000
+ *   a first run by magic       38,000   61,000  153,000  522,000
+ *   going on by relevancy      39,000   62,000  154,000  522,000
+ *   going on by magic         106,000  129,000  221,000  590,000
  */
 #ifndef LUTSAMIK_H
 #define LUTSAMIK_H
@@ -86,7 +94,7 @@ enum {
     LUTSAMIK_NO_TABLE = 31,         /* the first 4,096 bytes are not what some accepted text reads to */
     LUTSAMIK_BAD_ANSWER = 32,       /* one of the answer's first A bytes is neither 0 nor 1 */
     LUTSAMIK_TOO_MANY_ENTRIES = 41, /* the session's count and the further limit together pass FFFFFFFF */
-    LUTSAMIK_NO_SESSION = 42,       /* the session stands nowhere on a walk of the ticket */
+    LUTSAMIK_NO_SESSION = 42,       /* the session is none of the ticket's walk, by where it stands or by its figures */
     LUTSAMIK_STALE_SLIP = 43,       /* the slip's number of clauses is not the ticket's */
     LUTSAMIK_NO_INSTANCE = 44       /* the ticket lacks the clause, or a value of its variables */
 };
@@ -112,16 +120,17 @@ enum {
  * stands at the node whose next alternative would be entered next, one that fits at the open node, and one that ends
  * in none at the root.
  *
- * To keep a session, copy it, or write its bytes to a file and read them back: all of its 3,080 bytes are fields, the
+ * To keep a session, copy it, or write its bytes to a file and read them back: all of its 3,084 bytes are fields, the
  * numbers have the low byte first, as x86-64 has them, and no pointer is among them. A later version of the library
- * may add fields behind these, and moves none of them. Keep the ticket beside it: a session is to be used with the
- * very ticket that it was begun on, and does not say which that is.
+ * may add fields behind these, and moves none of them. deepest was added so: a session of 3,080 bytes, as the version
+ * before left it, lacks it, and what is put behind it is taken for the figure that it brings. Keep the ticket beside a
+ * session: it is to be used with the very ticket that it was begun on, and does not say which that is.
  *
  * A session of other origin, one that was damaged, changed, made up, or begun on another ticket, may be lent all the
- * same. It is answered or refused, never trusted. Where it is answered, the walk has gone on from the path and the
- * count that it held, both engines answer and leave alike, and LUTSAMIK_FITS comes with a fitting of the ticket in
- * the table. But its LUTSAMIK_NONE, its LUTSAMIK_SPENT and its count are not claimed to be right, in this call or a
- * later one. */
+ * same. It is answered or refused, never trusted. Where it is answered, the walk has gone on from the path, the count
+ * and the deepest figure that it held, both engines answer and leave alike, and LUTSAMIK_FITS comes with a fitting of
+ * the ticket in the table. But its LUTSAMIK_NONE, its LUTSAMIK_SPENT and its count are not claimed to be right, in
+ * this call or a later one, and its deepest figure counts the one that it held. */
 struct lutsamik_session {
     uint32_t count;       /* the entries made so far, in all calls since the first run */
     uint16_t length;      /* how many entries the path has that leads to the node where the walk stands */
@@ -129,7 +138,11 @@ struct lutsamik_session {
     uint8_t next;         /* the next alternative of that node */
     uint16_t atoms[1024]; /* the path, from the root on: the atom of each entry; 0 past the path */
     uint8_t nexts[1024];  /* the next alternative of the node that each entry was made from; 0 past the path */
+    uint32_t deepest;     /* how many entries the longest path had, in all calls since the first run; A at most */
 };
+
+/* Where a compiler lays the struct out in another size, this is an error: the library would take other bytes for it. */
+typedef char lutsamik_session_has_3084_bytes[sizeof(struct lutsamik_session) == 3084 ? 1 : -1];
 
 /* Reads a ticket's text into a table. The result is 0, or has a refusal.
  *
@@ -192,25 +205,26 @@ uint64_t lutsamik_rewrite(const uint8_t *table, size_t table_len, uint8_t *rules
  *
  * lutsamik_verdict says LUTSAMIK_NONE, LUTSAMIK_FITS or LUTSAMIK_SPENT, and lutsamik_count how many search entries
  * were made; LUTSAMIK_SPENT has made as many as the ticket allows. An alternative that is equal to an earlier one of
- * the same instance is passed over: it is no entry and is not counted. LUTSAMIK_FITS leaves a fitting in the answer's
- * first A bytes, as lutsamik_judge takes it; the other two leave the answer as it was. */
+ * the same instance is passed over: it is no entry and is not counted. lutsamik_deepest says how many entries the
+ * longest path had that was entered, one that was closed at once counted too: A at most. LUTSAMIK_FITS leaves a
+ * fitting in the answer's first A bytes, as lutsamik_judge takes it; the other two leave the answer as it was. */
 uint64_t lutsamik_fit_relevancy(const uint8_t *table, size_t table_len, uint8_t *answer, size_t answer_len,
                                 uint8_t *work, size_t work_len);
 
 /* Fits the ticket in a table, by the magic engine, which rewrites the ticket and walks by the rules alone. Verdict,
- * count and answer are those of lutsamik_fit_relevancy; the rules are those of lutsamik_rewrite, whatever the
- * verdict. */
+ * count, deepest figure and answer are those of lutsamik_fit_relevancy; the rules are those of lutsamik_rewrite,
+ * whatever the verdict. */
 uint64_t lutsamik_fit_magic(const uint8_t *table, size_t table_len, uint8_t *rules, size_t rules_len,
                             uint8_t *answer, size_t answer_len, uint8_t *work, size_t work_len);
 
-/* Fits the ticket in a table, by the relevancy engine, and leaves a session: a first run. Verdict, count, answer and
- * work are those of lutsamik_fit_relevancy, which is a first run whose session is not kept. What the session held
- * does not matter. */
+/* Fits the ticket in a table, by the relevancy engine, and leaves a session: a first run. Verdict, count, deepest
+ * figure, answer and work are those of lutsamik_fit_relevancy, which is a first run whose session is not kept. What
+ * the session held does not matter. */
 uint64_t lutsamik_begin_relevancy(struct lutsamik_session *session, const uint8_t *table, size_t table_len,
                                   uint8_t *answer, size_t answer_len, uint8_t *work, size_t work_len);
 
-/* A first run by the magic engine. Verdict, count, session and answer are those of lutsamik_begin_relevancy; the
- * rules are those of lutsamik_rewrite, whatever the verdict. */
+/* A first run by the magic engine. Verdict, count, deepest figure, session and answer are those of
+ * lutsamik_begin_relevancy; the rules are those of lutsamik_rewrite, whatever the verdict. */
 uint64_t lutsamik_begin_magic(struct lutsamik_session *session, const uint8_t *table, size_t table_len,
                               uint8_t *rules, size_t rules_len, uint8_t *answer, size_t answer_len, uint8_t *work,
                               size_t work_len);
@@ -219,17 +233,19 @@ uint64_t lutsamik_begin_magic(struct lutsamik_session *session, const uint8_t *t
  * and the session then stands where the walk has come to. The ticket's own limit is not looked at.
  *
  * Let the session be one that only these calls have moved since its first run, by either engine and in any order,
- * always with the table of the same ticket. Then verdict, count, answer and session are those of a first run under
- * the sum of the ticket's limit and the further limits of all calls that were not refused, and lutsamik_count has the
- * entries of all these calls. A finished session answers again as before, with its fitting, whatever the further
- * limit; a spent one with a further limit of 0 stays spent.
+ * always with the table of the same ticket. Then verdict, count, deepest figure, answer and session are those of a
+ * first run under the sum of the ticket's limit and the further limits of all calls that were not refused: so
+ * lutsamik_count has the entries of all these calls, and lutsamik_deepest the longest path of them all. A finished
+ * session answers again as before, with its fitting, whatever the further limit; a spent one with a further limit of
+ * 0 stays spent. A figure that a session of other origin brings counts as a path: what is left is the larger of it
+ * and of the longest path that this call enters.
  *
  * LUTSAMIK_TOO_MANY_ENTRIES goes by the session's count and the further limit alone, for a finished session too; with
  * a smaller limit the call goes on. LUTSAMIK_NO_SESSION comes after it. It is never met by such a session; one of
  * other origin is refused unless each entry of its path is the alternative just before the next one of the split that
  * the walk takes there, next is at most m, a session that fits stands at an open node, and one that ends in none at a
- * root that is closed or has all its alternatives entered. A verdict above LUTSAMIK_SPENT or a length above 1,024 is
- * refused; nothing past the path is looked at.
+ * root that is closed or has all its alternatives entered. A verdict above LUTSAMIK_SPENT, a length above 1,024, and a
+ * deepest figure below the length or above A are refused; nothing past the path is looked at.
  *
  * The path is walked anew first, uncounted, which takes as long as so many entries do; the rest of the work so far is
  * kept. */
@@ -237,8 +253,8 @@ uint64_t lutsamik_resume_relevancy(struct lutsamik_session *session, uint32_t fu
                                    size_t table_len, uint8_t *answer, size_t answer_len, uint8_t *work,
                                    size_t work_len);
 
-/* Goes on with a session, by the magic engine. Refusal, verdict, count, session and answer are those of
- * lutsamik_resume_relevancy; the rules are those of lutsamik_rewrite, whatever the verdict. */
+/* Goes on with a session, by the magic engine. Refusal, verdict, count, deepest figure, session and answer are those
+ * of lutsamik_resume_relevancy; the rules are those of lutsamik_rewrite, whatever the verdict. */
 uint64_t lutsamik_resume_magic(struct lutsamik_session *session, uint32_t further, const uint8_t *table,
                                size_t table_len, uint8_t *rules, size_t rules_len, uint8_t *answer, size_t answer_len,
                                uint8_t *work, size_t work_len);
@@ -259,6 +275,10 @@ static inline uint32_t lutsamik_rules(uint64_t result) { return (uint32_t)(resul
 
 /* Bits 8 to 15 of an engine's result: LUTSAMIK_NONE, LUTSAMIK_FITS or LUTSAMIK_SPENT. */
 static inline unsigned lutsamik_verdict(uint64_t result) { return (unsigned)(result >> 8 & 0xFF); }
+
+/* Bits 16 to 31 of an engine's result: how many entries the longest path had that was entered, A at most; with a
+ * session, in all calls since the first run, and then it is the session's deepest. */
+static inline uint32_t lutsamik_deepest(uint64_t result) { return (uint32_t)(result >> 16 & 0xFFFF); }
 
 /* Bits 32 to 63 of an engine's result: the number of search entries made, the root not among them; with a session, in
  * all calls since the first run. */

@@ -32,7 +32,7 @@ use repeats::{Followed, Repeats};
 use report::{same, Report};
 use sizes::{Drawn, Sizes};
 use threads::{add_each, row, Run, Tally, THREADS};
-use walk::{walk, Outcome, Relevancy};
+use walk::{walk, Outcome, Relevancy, Whole};
 
 const SMALL_TICKETS: u64 = 110_000;
 
@@ -70,11 +70,11 @@ impl Run<Met> {
     fn small(&mut self) -> Result<(), Report> {
         let ticket = if self.random.once_in(5) { tickets::crowded(&mut self.random) } else { tickets::to_walk(&mut self.random) };
         let mut followed = Followed::new(&ticket);
-        let whole = walk(&Relevancy::new(&ticket), LONG, &mut |entered, place| followed.place(entered, place));
-        let rules = also_by_rules(&ticket, LONG, &whole)?;
-        self.tally.small.ticket(&whole);
-        self.tally.repeats.ticket(followed, &whole);
-        let [zero, below, count, above] = around(&whole, LONG);
+        let whole = Whole::new(&Relevancy::new(&ticket), LONG, &mut |entered, place| followed.place(entered, place));
+        let rules = also_by_rules(&ticket, LONG, &whole.outcome)?;
+        self.tally.small.ticket(&whole.outcome);
+        self.tally.repeats.ticket(followed, &whole.outcome);
+        let [zero, below, count, above] = around(&whole.outcome, LONG);
         let limits = match self.random.below(4) {
             0 => vec![zero, below, count, above],
             _ => vec![self.random.pick(&[zero, below]), self.random.pick(&[count, above])],
@@ -82,6 +82,7 @@ impl Run<Met> {
         for limit in distinct(limits) {
             let outcome = whole.under(limit);
             self.tally.small.limited(outcome.verdict);
+            self.tally.end_higher[outcome.verdict as usize] += whole.ends_higher(limit) as u64;
             self.fitting(&ticket, &rules, limit, &outcome)?;
         }
         match self.random.below(8) {
@@ -109,9 +110,9 @@ impl Run<Met> {
     fn large(&mut self, family: usize) -> Result<(), Report> {
         let ticket = (FAMILIES[family].draw)(&mut self.random);
         let (whole, sizes) = Sizes::of(&ticket, FAMILIES[family].cut);
-        let rules = also_by_rules(&ticket, FAMILIES[family].cut, &whole)?;
-        self.tally.large[family].ticket(&whole, sizes);
-        for limit in distinct(around(&whole, FAMILIES[family].cut).to_vec()) {
+        let rules = also_by_rules(&ticket, FAMILIES[family].cut, &whole.outcome)?;
+        self.tally.large[family].ticket(&whole.outcome, sizes);
+        for limit in distinct(around(&whole.outcome, FAMILIES[family].cut).to_vec()) {
             let outcome = whole.under(limit);
             self.tally.large[family].mix.limited(outcome.verdict);
             self.fitting(&ticket, &rules, limit, &outcome)?;
@@ -136,7 +137,7 @@ impl Run<Met> {
             let marks: Vec<u8> = fitting.iter().map(|is_in| *is_in as u8).collect();
             after.answer = after.answer.beginning_with(&marks);
         }
-        let answer = fit(outcome.verdict as u8, outcome.count);
+        let answer = fit(outcome.verdict as u8, outcome.count, outcome.deepest);
         self.tally.calls += 2;
         let left = before.call(By::Relevancy, answer)?;
         before.same_left(By::Relevancy, &after, &left)?;
@@ -194,7 +195,8 @@ fn distinct(mut limits: Vec<u32>) -> Vec<u32> {
     limits
 }
 
-/// What a run has met; with it refusals 11 and 31, and how often each buffer alone was too short.
+/// What a run has met; with it refusals 11 and 31, how often each buffer alone was too short, and by verdict how often a small ticket's last entry was on
+/// a shorter path than the longest.
 #[derive(Default)]
 struct Met {
     calls: u64,
@@ -203,6 +205,7 @@ struct Met {
     large: [Drawn; 4],
     refused: [u64; 2],
     alone: [u64; 4],
+    end_higher: [u64; 3],
 }
 
 impl Tally for Met {
@@ -213,6 +216,7 @@ impl Tally for Met {
         self.large.iter_mut().zip(&other.large).for_each(|(to, from)| to.add(from));
         add_each(&mut self.refused, &other.refused);
         add_each(&mut self.alone, &other.alone);
+        add_each(&mut self.end_higher, &other.end_higher);
     }
 
     fn print(&self) {
@@ -220,6 +224,7 @@ impl Tally for Met {
         self.repeats.print();
         Drawn::print_heading();
         FAMILIES.iter().zip(&self.large).for_each(|(family, drawn)| drawn.print(family.name));
+        println!("small, last entry not on the longest path, none, fits, spent:{}", row(&self.end_higher));
         println!("refusals 11 and 31:{}", row(&self.refused));
         println!("alone too short, table, rules, answer, work:{}", row(&self.alone));
     }
@@ -232,6 +237,8 @@ impl Tally for Met {
             missing.extend(drawn.missing(LARGE_TICKETS, family.aim).into_iter().map(|what| format!("{} in {}", what, family.name)));
         }
         missing.extend(["11", "31"].iter().zip(&self.refused).filter(|(_, times)| **times == 0).map(|(number, _)| format!("refusal {number}")));
+        let seldom = self.end_higher.iter().any(|times| *times < self.small.tickets.div_ceil(50));
+        missing.extend(seldom.then(|| "a last entry that is not on the longest path".to_string()));
         missing.extend(self.alone.contains(&0).then(|| "a buffer that alone is too short".to_string()));
         missing
     }

@@ -39,6 +39,9 @@ const CALLS_A_DAY: usize = 24;
 /// Walks are cut after this many entries.
 const LONG: u64 = 20;
 
+/// For how many atoms a session is made where no ticket is held.
+const FEW_ATOMS: u32 = 6;
+
 /// How many bytes more than required a buffer can have.
 const MORE: usize = 57;
 
@@ -124,7 +127,7 @@ impl Day {
 
     /// Something else in a buffer, and any bytes past what is required, or past the text or the frame.
     fn put(&mut self, buffer: Buffer) {
-        let ticket = if matches!(buffer, Frame | Slip) { reference::ticket_in(&self.held[Table as usize][..TABLE]) } else { None };
+        let ticket = if matches!(buffer, Frame | Slip | Session) { reference::ticket_in(&self.held[Table as usize][..TABLE]) } else { None };
         let (random, held) = (&mut self.random, &mut self.held[buffer as usize]);
         held.truncate(held.len() - MORE);
         *held = match buffer {
@@ -134,7 +137,7 @@ impl Day {
             Answer => arbitrary::answer(random, held),
             Frame => arbitrary::frame(random, ticket.as_ref()),
             Slip => arbitrary::slip(random, held, ticket.as_ref()),
-            Session => tamper::any(random, held),
+            Session => tamper::any(random, held, ticket.map_or(FEW_ATOMS, |ticket| ticket.atoms() as u32)),
             _ => arbitrary::bytes(random, held.len()),
         };
         held.extend(arbitrary::bytes(random, MORE));

@@ -257,17 +257,19 @@ static void refused_session(unsigned refusal, uint32_t further, const struct lut
 
 /* Sessions for K6, by hand. Its root is split, into 10 and 20, which are the atoms 2 and 4, and where 20 is entered it
  * is open: so a session that fits has entered 4, the second of two; what stands past its path does not matter. One
- * field of it is changed, to each of these. */
+ * field of it is changed, to each of these. There are six atoms, so that a deepest figure from 1 to 6 is answered. */
 static void refused_sessions(void) {
     static const uint8_t verdicts[] = {LUTSAMIK_NONE, 3, 4, 0x81, 0x82, 0xFF};
     static const uint8_t nexts[] = {0, 1, 3, 4, 0x82, 0xFF};
     static const uint16_t lengths[] = {0, 2, 3, 1024, 1025, 0x101, 0xFFFF};
     static const uint16_t atoms[] = {0, 2, 3, 5, 6, 0x104, 0x404, 0xFFFF};
+    static const uint32_t figures[] = {0, 7, 8, 0x101, 0x10001, 0x01000001, 0x80000001, UINT32_MAX};
     const struct lutsamik_session fits = {.count = 2,
                                           .length = 1,
                                           .verdict = LUTSAMIK_FITS,
                                           .atoms = {4, [2] = 9, [1023] = 9},
-                                          .nexts = {2, [2] = 9, [1023] = 9}};
+                                          .nexts = {2, [2] = 9, [1023] = 9},
+                                          .deepest = 1};
     struct lutsamik_session other = fits;
     struct lent lent;
     lend(&lent, "K6");
@@ -296,9 +298,18 @@ static void refused_sessions(void) {
     other = fits;
     for (other.next = 1; other.next > 0; other.next++)
         refused_session(LUTSAMIK_NO_SESSION, 0, &other, &lent);
-    *session_of(&lent) = fits;
+    other = fits;
+    for (size_t i = 0; i < sizeof figures / sizeof *figures; i++) {
+        other.deepest = figures[i];
+        refused_session(LUTSAMIK_NO_SESSION, UINT32_MAX - 2, &other, &lent);
+        refused_session(LUTSAMIK_TOO_MANY_ENTRIES, UINT32_MAX - 1, &other, &lent);
+    }
     lent.further = UINT32_MAX - 2;
-    check_result(LUTSAMIK_FITS << 8 | (uint64_t)2 << 32, RESUME_MAGIC, &lent, call(RESUME_MAGIC, &lent));
+    for (other.deepest = 1; other.deepest <= 6; other.deepest++) {
+        *session_of(&lent) = other;
+        check_result(LUTSAMIK_FITS << 8 | other.deepest << 16 | (uint64_t)2 << 32, RESUME_MAGIC, &lent,
+                     call(RESUME_MAGIC, &lent));
+    }
     take_back(&lent);
 }
 

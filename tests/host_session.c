@@ -1,29 +1,32 @@
 /* Sessions from C, in blocks of just their bytes. Tickets are brought back entry by entry, by the engines in turn, and
  * each session on the way is copied, kept in a file and read back. Then sessions are damaged, at every byte: each is
- * refused by 41 or 42, with all that is lent as it was, or answered, by both engines alike. */
+ * refused by 41 or 42, with all that is lent as it was, or answered, by both engines alike. So are sessions that bring
+ * another deepest figure. */
 #include "host_lent.h"
 
 #include <stdio.h>
 #include <string.h>
 
-/* What document 01, or crates/cases/data/README.md, has of a ticket's whole walk; and where its sessions are damaged.
- */
+/* What document 01, or crates/cases/data/README.md, has of a ticket's whole walk; its number of atoms; of each entry
+ * how many its path has, a digit for each, by hand; and where its sessions are damaged. */
 struct whole {
     const char *ticket;
     unsigned verdict;
     uint32_t count;
+    uint32_t atoms;
+    const char *paths;
     enum { NOWHERE, TO_THE_END_OF_THE_PATH, EVERYWHERE } damage;
 };
 
 static const struct whole tickets[] = {
-    {"K1", LUTSAMIK_NONE, 2, TO_THE_END_OF_THE_PATH},
-    {"K5", LUTSAMIK_FITS, 0, NOWHERE},
-    {"K6", LUTSAMIK_FITS, 2, EVERYWHERE},
-    {"K8", LUTSAMIK_NONE, 0, NOWHERE},
-    {"K9", LUTSAMIK_NONE, 1, NOWHERE},
-    {"K10", LUTSAMIK_FITS, 0, TO_THE_END_OF_THE_PATH},
-    {"example_1", LUTSAMIK_NONE, 4, TO_THE_END_OF_THE_PATH},
-    {"example_7", LUTSAMIK_NONE, 6, TO_THE_END_OF_THE_PATH},
+    {"K1", LUTSAMIK_NONE, 2, 6, "11", TO_THE_END_OF_THE_PATH},
+    {"K5", LUTSAMIK_FITS, 0, 6, "", NOWHERE},
+    {"K6", LUTSAMIK_FITS, 2, 6, "11", EVERYWHERE},
+    {"K8", LUTSAMIK_NONE, 0, 1, "", NOWHERE},
+    {"K9", LUTSAMIK_NONE, 1, 1, "1", NOWHERE},
+    {"K10", LUTSAMIK_FITS, 0, 1024, "", TO_THE_END_OF_THE_PATH},
+    {"example_1", LUTSAMIK_NONE, 4, 12, "1122", TO_THE_END_OF_THE_PATH},
+    {"example_7", LUTSAMIK_NONE, 6, 6, "122122", TO_THE_END_OF_THE_PATH},
 };
 
 enum {
@@ -35,7 +38,19 @@ enum {
 /* Above any count here, and with a damaged one more than there can be. */
 static const uint32_t MANY = 0x01000000;
 
-static uint64_t packed(unsigned verdict, uint32_t count) { return (uint64_t)verdict << 8 | (uint64_t)count << 32; }
+/* The larger one of a deepest figure and of the entries of the longest path, from one number of entries to another. */
+static uint32_t deepest_of(const struct whole *whole, uint32_t deepest, uint32_t from, uint32_t to) {
+    for (uint32_t i = from; i < to; i++) {
+        uint32_t path = (uint32_t)(whole->paths[i] - '0');
+        deepest = path > deepest ? path : deepest;
+    }
+    return deepest;
+}
+
+/* What an engine gives after so many entries of a ticket. */
+static uint64_t packed(unsigned verdict, const struct whole *whole, uint32_t count) {
+    return (uint64_t)verdict << 8 | (uint64_t)deepest_of(whole, 0, 0, count) << 16 | (uint64_t)count << 32;
+}
 
 /* Lends a ticket, read with a limit of 0: digits 8 to 15 of its text. */
 static void lend_spent(struct lent *lent, const char *ticket) {
@@ -74,6 +89,7 @@ static void put_path(struct lent *lent, const struct lutsamik_session *session) 
     to->next = session->next;
     memcpy(to->atoms, session->atoms, session->length * sizeof *session->atoms);
     memcpy(to->nexts, session->nexts, session->length * sizeof *session->nexts);
+    to->deepest = session->deepest;
 }
 
 /* Each session on the way, with a limit that lets the walk end, ends like the last one. */
@@ -83,7 +99,7 @@ static void all_end_alike(struct lent *lent, const struct whole *whole, const st
         for (enum operation operation = RESUME_RELEVANCY; operation <= RESUME_MAGIC; operation++) {
             put_path(lent, &on_the_way[count]);
             lent->further = UINT32_MAX - count;
-            check_result(packed(whole->verdict, whole->count), operation, lent, call(operation, lent));
+            check_result(packed(whole->verdict, whole, whole->count), operation, lent, call(operation, lent));
             check_bytes(last, "it ends like the last one", operation, lent);
         }
     }
@@ -97,16 +113,17 @@ static void comes_back(const struct whole *whole, struct lutsamik_session *on_th
     uint64_t result = call(operation, &lent);
     for (uint32_t count = 0; count <= whole->count; count++) {
         unsigned verdict = count < whole->count ? LUTSAMIK_SPENT : whole->verdict;
-        check_result(packed(verdict, count), operation, &lent, result);
+        check_result(packed(verdict, whole, count), operation, &lent, result);
         on_the_way[count] = *session_of(&lent);
-        check(on_the_way[count].verdict == verdict && on_the_way[count].count == count, "so says the session",
-              operation, &lent, 0);
+        check(on_the_way[count].verdict == verdict && on_the_way[count].count == count &&
+                  on_the_way[count].deepest == lutsamik_deepest(result),
+              "so says the session", operation, &lent, result);
         keep_in_file(&lent);
         lent.further = 1;
         operation = count % 2 ? RESUME_MAGIC : RESUME_RELEVANCY;
         result = call(operation, &lent);
     }
-    check_result(packed(whole->verdict, whole->count), operation, &lent, result);
+    check_result(packed(whole->verdict, whole, whole->count), operation, &lent, result);
     check_bytes(&on_the_way[whole->count], "a finished session stays", operation, &lent);
     all_end_alike(&lent, whole, on_the_way);
     take_back(&lent);
@@ -122,6 +139,8 @@ static void check_left(enum operation operation, const struct lent *lent, uint64
     check(verdict == session->verdict && verdict <= LUTSAMIK_SPENT, "the session has the verdict", operation, lent,
           result);
     check(lutsamik_count(result) == session->count, "the session has the count", operation, lent, result);
+    check(lutsamik_deepest(result) == session->deepest, "the session has the deepest figure", operation, lent, result);
+    check(session->length <= session->deepest && session->deepest <= 1024, "it is a path's", operation, lent, result);
     check(session->length <= 1024 && session->next <= 4, "it stands at a node", operation, lent, result);
     for (size_t i = session->length; i < 1024; i++)
         check(session->atoms[i] == 0 && session->nexts[i] == 0, "it is 0 past its path", operation, lent, result);
@@ -168,6 +187,8 @@ static uint64_t alike(struct lent *lent, const struct lutsamik_session *session)
 /* Whether a byte of a session lies past its path. */
 static int is_past(const struct lutsamik_session *session, size_t place) {
     size_t nexts = offsetof(struct lutsamik_session, nexts), atoms = offsetof(struct lutsamik_session, atoms);
+    if (place >= offsetof(struct lutsamik_session, deepest))
+        return 0;
     if (place >= nexts)
         return place - nexts >= session->length;
     return place >= atoms && (place - atoms) / 2 >= session->length;
@@ -195,14 +216,39 @@ static void damaged(struct lent *lent, const struct lutsamik_session *session, i
     }
 }
 
+/* A session with this deepest figure: 42 unless it is at least the path's length and at most the number of atoms. Else
+ * it counts as a path beside those of the entries that are left, and changes nothing else of the answer. */
+static void brings(struct lent *lent, const struct whole *whole, struct lutsamik_session session, uint32_t deepest) {
+    session.deepest = deepest;
+    uint64_t result = alike(lent, &session), left = deepest_of(whole, deepest, session.count, whole->count);
+    uint64_t others = packed(whole->verdict, whole, whole->count) & ~(UINT64_C(0xFFFF) << 16);
+    int is_within = session.length <= deepest && deepest <= whole->atoms;
+    check_result(is_within ? others | left << 16 : LUTSAMIK_NO_SESSION, RESUME_MAGIC, lent, result);
+}
+
+/* Each figure up to one more than the number of atoms, where these are many the first and the last ones; and such of
+ * which only the low bytes are one. */
+static void brings_figures(struct lent *lent, const struct whole *whole, const struct lutsamik_session *session) {
+    for (uint32_t i = 0; i <= whole->atoms + 1; i++) {
+        if (i > 12 && i + 2 < whole->atoms)
+            continue;
+        brings(lent, whole, *session, i);
+        brings(lent, whole, *session, i | 0x10000);
+    }
+}
+
 /* A ticket brought back, and of its sessions the one after half of the entries and the last one damaged. */
 static void tries(const struct whole *whole) {
     struct lutsamik_session on_the_way[MOST_ENTRIES + 1];
     comes_back(whole, on_the_way);
-    if (whole->damage == NOWHERE)
-        return;
     struct lent lent;
     lend_spent(&lent, whole->ticket);
+    brings_figures(&lent, whole, &on_the_way[whole->count / 2]);
+    brings_figures(&lent, whole, &on_the_way[whole->count]);
+    if (whole->damage == NOWHERE) {
+        take_back(&lent);
+        return;
+    }
     damaged(&lent, &on_the_way[whole->count / 2], whole->damage == EVERYWHERE);
     damaged(&lent, &on_the_way[whole->count], whole->damage == EVERYWHERE);
     check(answered > 0 && refused_by[0] > 0 && refused_by[1] > 0, "some are answered, and some refused by 41 and 42",

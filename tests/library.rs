@@ -75,12 +75,13 @@ pub struct Session {
     pub next: u8,
     pub atoms: [u16; 1024],
     pub nexts: [u8; 1024],
+    pub deepest: u32,
 }
 
 pub const SESSION: usize = std::mem::size_of::<Session>();
 
 impl Session {
-    pub const EMPTY: Session = Session { count: 0, length: 0, verdict: 0, next: 0, atoms: [0; 1024], nexts: [0; 1024] };
+    pub const EMPTY: Session = Session { count: 0, length: 0, verdict: 0, next: 0, atoms: [0; 1024], nexts: [0; 1024], deepest: 0 };
 }
 
 pub fn read(text: &[u8], table: &mut [u8]) -> u64 {
@@ -162,7 +163,7 @@ pub fn violated(clause: u8, values: [u8; 4]) -> u64 {
     u64::from_le_bytes([0, 2, 0, clause, a, b, c, d])
 }
 
-/// An answer of an engine that does not refuse.
-pub fn fit(verdict: u8, count: u32) -> u64 {
-    (verdict as u64) << 8 | (count as u64) << 32
+/// An answer of an engine that does not refuse: verdict, count, and how many entries the longest path had.
+pub fn fit(verdict: u8, count: u32, deepest: u32) -> u64 {
+    (verdict as u64) << 8 | (deepest as u64) << 16 | (count as u64) << 32
 }

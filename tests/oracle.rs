@@ -95,7 +95,7 @@ fn ended(outcome: &Outcome, lent: &mut Lent) -> u64 {
     let marks: Vec<u8> = outcome.fitting.iter().flatten().map(|is_in| *is_in as u8).collect();
     begin(lent, Buffer::Answer, &marks);
     begin(lent, Buffer::Work, &[0; WORK]);
-    fit(outcome.verdict as u8, outcome.count)
+    fit(outcome.verdict as u8, outcome.count, outcome.deepest)
 }
 
 /// A first run, or going on with the session lent, by an engine.

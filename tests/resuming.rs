@@ -37,11 +37,11 @@ use operations::{Buffer, Lent, Operation, BUFFERS};
 use random::Random;
 use reference::{Ticket, NO_SESSION, NO_TABLE, SHORT_BUFFER, TABLE, TOO_MANY_ENTRIES};
 use report::{same, Report};
-use session::{begun, bytes, of_bytes, Node, Told, ROOM};
+use session::{begun, bytes, of_bytes, Node, ROOM};
 use std::cmp::Ordering;
 use tamper::{changed, further, CHANGES, FIELDS};
 use threads::Run;
-use walk::{walk, Engine, Found, Relevancy, Remembering, Verdict};
+use walk::{Engine, Found, Relevancy, Remembering, Verdict, Whole};
 
 const CALLS: u64 = 120_000;
 
@@ -72,16 +72,17 @@ fn run(run: &mut Run<Met>, calls: u64) -> Result<(), Report> {
     Ok(())
 }
 
-/// A ticket, its two walks, and what is lent for it.
+/// A ticket, its two walks, the whole of them up to a cut, and what is lent for it.
 struct Case {
     ticket: Ticket,
+    whole: Whole,
     relevancy: Remembering<Relevancy>,
     magic: Remembering<Magic>,
     lent: Lent,
 }
 
 impl Case {
-    fn new(random: &mut Random, ticket: Ticket) -> Case {
+    fn new(random: &mut Random, ticket: Ticket, cut: u32) -> Case {
         let table = reference::encode(&ticket);
         assert!(reference::ticket_in(&table).as_ref() == Some(&ticket), "the ticket is refused");
         let relevancy = Remembering::new(Relevancy::new(&ticket));
@@ -95,9 +96,14 @@ impl Case {
             };
             Memory::random(random, len)
         });
-        let mut case = Case { ticket, relevancy, magic, lent: Lent { buffers, clause: 0, values: [0; 4], further: 0 } };
+        let whole = Whole::new(&relevancy, cut, &mut |_, _| {});
+        let mut case = Case { ticket, whole, relevancy, magic, lent: Lent { buffers, clause: 0, values: [0; 4], further: 0 } };
         case.lent[Buffer::Table] = case.lent[Buffer::Table].beginning_with(&table);
         case
+    }
+
+    fn atoms(&self) -> u32 {
+        self.ticket.atoms() as u32
     }
 
     /// The same ticket with another limit.
@@ -127,11 +133,10 @@ struct Kept {
 impl Run<Met> {
     /// All that is tried with a ticket, whose walk is cut here.
     fn ticket(&mut self, ticket: Ticket, cut: u32) -> Result<(), Report> {
-        let mut case = Case::new(&mut self.random, ticket);
-        let whole = begun(&case.relevancy, cut);
-        same("the two walks of the tests", &walk(&case.relevancy, cut, &mut |_, _| {}), &whole.outcome)?;
-        let mut met = self.list(&mut case, &whole, cut)?;
-        met.extend(self.list(&mut case, &whole, cut)?);
+        let mut case = Case::new(&mut self.random, ticket, cut);
+        let mut met = self.list(&mut case, cut)?;
+        met.extend(self.list(&mut case, cut)?);
+        self.figures(&case, &met)?;
         for _ in 0..4 {
             let session = self.made_up(&case);
             self.go_on_anyhow(&case, &session, "made up")?;
@@ -147,8 +152,8 @@ impl Run<Met> {
     // ---- Lists of calls ----
 
     /// A first run and further limits up to a sum near the whole count, or any below it; then some more. All sessions on the way.
-    fn list(&mut self, case: &mut Case, whole: &Told, cut: u32) -> Result<Vec<Session>, Report> {
-        let count = whole.outcome.count;
+    fn list(&mut self, case: &mut Case, cut: u32) -> Result<Vec<Session>, Report> {
+        let count = case.whole.outcome.count;
         let any = self.random.below(count as usize + 1) as u32;
         let aim = self.random.pick(&[count.saturating_sub(1), count, count + 1, any]).min(cut);
         let first = self.random.below(aim as usize + 1) as u32;
@@ -164,7 +169,7 @@ impl Run<Met> {
         }
         self.tally.note(SUMS, format!("{} the count", how(kept.sum, count)));
         for _ in 0..3 {
-            kept = self.go_on_at_end(case, kept, whole, cut)?;
+            kept = self.go_on_at_end(case, kept, cut)?;
             met.push(kept.session);
         }
         met.dedup();
@@ -189,8 +194,12 @@ impl Run<Met> {
         let which = self.random.below(2);
         let session = self.call(case, RESUME[which], &kept.session, further)?.map_err(|refusal| format!("an own session is refused by {refusal}"))?;
         let sum = kept.sum + further as u64;
-        let whole = begun(&case.relevancy, sum.min(u32::MAX as u64) as u32);
+        let limit = sum.min(u32::MAX as u64) as u32;
+        let whole = begun(&case.relevancy, limit);
+        same("the two walks of the tests", &case.whole.under(limit), &whole.outcome)?;
         same("the session of the whole walk under the sum", dumped(&whole.session), dumped(&session))?;
+        same("the figure of the whole walk under the sum", case.whole.under(limit).deepest, session.deepest)?;
+        self.tally.note(LISTED, figure(kept.session.deepest, &session));
         let moved = std::mem::replace(&mut self.tally.own.moved, which);
         self.tally.note(MIXED, format!("{} after {}", ENGINES[which], ENGINES[moved]));
         self.tally.note(if further == 0 { WITH_0 } else { WENT_ON }, format!("{} to {}", verdict(&kept.session), verdict(&session)));
@@ -201,14 +210,14 @@ impl Run<Met> {
     }
 
     /// After a list: one entry, none, or all that the count allows where the walk is known to end.
-    fn go_on_at_end(&mut self, case: &Case, kept: Kept, whole: &Told, cut: u32) -> Result<Kept, Report> {
+    fn go_on_at_end(&mut self, case: &Case, kept: Kept, cut: u32) -> Result<Kept, Report> {
         let left = u32::MAX - kept.session.count;
         if left < u32::MAX {
             let said = self.call(case, RESUME[self.tally.own.moved], &kept.session, left + 1)?;
             same("one more than there can be", Err(TOO_MANY_ENTRIES), said.map(drop))?;
             self.tally.note(PAST_EDGE, verdict(&kept.session));
         }
-        if whole.outcome.verdict != Verdict::Spent && self.random.once_in(2) {
+        if case.whole.outcome.verdict != Verdict::Spent && self.random.once_in(2) {
             self.tally.note(AT_EDGE, verdict(&kept.session));
             return self.go_on(case, kept, left);
         }
@@ -230,8 +239,14 @@ impl Run<Met> {
 
     // ---- Sessions of other origin ----
 
-    /// A session that stands on the walk, with any alternatives entered and any count.
+    /// A session that stands on the walk, with any alternatives entered, any count and any figure.
     fn made_up(&mut self, case: &Case) -> Session {
+        let session = self.standing(case);
+        let most = self.random.within(session.length as usize, case.atoms() as usize) as u32;
+        Session { deepest: self.random.pick(&[session.length as u32, most, case.atoms()]), ..session }
+    }
+
+    fn standing(&mut self, case: &Case) -> Session {
         let random = &mut self.random;
         let count = random.pick(&[0, 1, 7, 0xFFFF, u32::MAX - 3, u32::MAX]);
         let mut session = Session { count, verdict: Verdict::Spent as u8, ..Session::EMPTY };
@@ -263,11 +278,32 @@ impl Run<Met> {
         Ok(())
     }
 
+    /// A session with figures at and around the path's length and A: it is refused by 42 where it is below the one or above the other, also
+    /// where its low bytes are not; else it counts as a path beside those that the call enters. What these are is told by the call with the least one.
+    fn figures(&mut self, case: &Case, met: &[Session]) -> Result<(), Report> {
+        let session = self.random.pick(met);
+        let (length, atoms) = (session.length as u32, case.atoms());
+        let further = self.random.pick(&[0, 1, 3, SHORT]).min(u32::MAX - session.count);
+        let least = Session { deepest: length, ..session };
+        let own = self.call(case, RESUME[0], &least, further)?.map_err(|refusal| format!("a figure at the length is refused by {refusal}"))?;
+        let past = [length.wrapping_sub(1), atoms + 1, length | 0x10000, atoms | 0x8000_0000, u32::MAX];
+        for deepest in [length, length + 1, own.deepest - (own.deepest > length) as u32, own.deepest + 1, atoms.wrapping_sub(1), atoms].into_iter().chain(past) {
+            let is_within = length <= deepest && deepest <= atoms;
+            let expected = Session { deepest: deepest.max(own.deepest), ..own };
+            let expected = if is_within { Ok(dumped(&expected)) } else { Err(NO_SESSION) };
+            let operation = self.random.pick(&RESUME);
+            let said = self.call(case, operation, &Session { deepest, ..session }, further)?;
+            same(&format!("what is left of a figure of {deepest}"), expected, said.map(|left| dumped(&left)))?;
+            self.tally.note(FIGURES, brought(deepest, length, atoms, said));
+        }
+        Ok(())
+    }
+
     /// Each of some sessions with each change.
     fn tampered(&mut self, case: &Case, met: &[Session]) -> Result<(), Report> {
         for change in CHANGES {
             let session = &met[self.random.below(met.len())];
-            let other = changed(&mut self.random, session, change);
+            let other = changed(&mut self.random, session, change, case.atoms());
             let further = further(&mut self.random, &bytes(&other), SHORT);
             let operation = self.random.pick(&RESUME);
             let said = self.call(case, operation, &other, further)?;
@@ -292,7 +328,7 @@ impl Run<Met> {
             _ => return Ok(()),
         }
         if reference::ticket_in(&reference::encode(&ticket)).as_ref() == Some(&ticket) {
-            let other = Case::new(&mut self.random, ticket);
+            let other = Case::new(&mut self.random, ticket, 0);
             for session in met.iter().rev().take(2) {
                 self.go_on_anyhow(&other, session, "ticket changed")?;
             }
@@ -304,7 +340,9 @@ impl Run<Met> {
 
     /// Which of two refusals comes first: 11, 31, 41, 42.
     fn in_order(&mut self, case: &Case, met: &[Session]) -> Result<(), Report> {
-        let nowhere = Session { verdict: 3 + self.random.below(253) as u8, count: self.random.within(1, u32::MAX as usize) as u32, ..met[0] };
+        let standing = Session { count: self.random.within(1, u32::MAX as usize) as u32, ..met[0] };
+        let by_verdict = Session { verdict: 3 + self.random.below(253) as u8, ..standing };
+        let nowhere = self.random.pick(&[by_verdict, Session { deepest: case.atoms() + 1, ..standing }]);
         let past = u32::MAX - self.random.below(nowhere.count as usize) as u32;
         for operation in RESUME {
             let mut lent = case.lend(&nowhere, u32::MAX - nowhere.count);
@@ -357,7 +395,7 @@ impl Run<Met> {
 
     /// A path of all 1,024 atoms: own sessions with up to 1,023 entries of it, and one of other origin that has them all.
     fn longest_path(&mut self) -> Result<(), Report> {
-        let mut case = Case::new(&mut self.random, tickets::deep(32, 1, 1000));
+        let mut case = Case::new(&mut self.random, tickets::deep(32, 1, 1000), u32::MAX);
         let mut kept = self.begin(&case)?;
         for further in [22, 0, 1] {
             kept = self.go_on(&case, kept, further)?;
@@ -366,13 +404,15 @@ impl Run<Met> {
         let mut full = Session { length: 1024, ..kept.session };
         let entered: Vec<usize> = kept.session.atoms[..1023].iter().map(|atom| *atom as usize).collect();
         (full.atoms[1023], full.nexts[1023]) = (Node::new(case.relevancy.place(&entered)).alternatives[0] as u16, 1);
+        same("a path that is longer than the figure", Err(NO_SESSION), self.call(&case, RESUME[1], &full, 0)?.map(drop))?;
+        full.deepest = 1024;
         self.go_on_anyhow(&case, &full, "full path")?;
         for length in [1025, 1026, 1024 + 256, 2048, 0xFFFF] {
             let longer = Session { length, ..full };
             same("a path that there is no room for", Err(NO_SESSION), self.call(&case, RESUME[length as usize % 2], &longer, 0)?.map(drop))?;
         }
         for change in FIELDS {
-            let other = changed(&mut self.random, &full, change);
+            let other = changed(&mut self.random, &full, *change, 1024);
             self.go_on_anyhow(&case, &other, "full path")?;
         }
         kept = self.go_on(&case, kept, u32::MAX - 1023)?;
@@ -420,8 +460,29 @@ fn told(said: Result<Session, u8>) -> String {
 fn dumped(session: &Session) -> String {
     let length = (session.length as usize).min(ROOM);
     let past = session.atoms[length..].iter().any(|atom| *atom != 0) || session.nexts[length..].iter().any(|next| *next != 0);
-    let Session { count, length: entries, verdict, next, .. } = session;
-    format!("{count} {entries} {verdict} {next} {:?} {:?} {past}", &session.atoms[..length], &session.nexts[..length])
+    let Session { count, length: entries, verdict, next, deepest, .. } = session;
+    format!("{count} {entries} {verdict} {next} {:?} {:?} {past} {deepest}", &session.atoms[..length], &session.nexts[..length])
+}
+
+/// Where the figure of a session comes from that a list of calls has left.
+fn figure(before: u32, session: &Session) -> String {
+    let from = if session.deepest > before { "raised by the call" } else { "from an earlier call" };
+    let path = if session.deepest > session.length as u32 { "above" } else { "at" };
+    format!("{from}, {path} the path's length")
+}
+
+/// A figure that is brought, by its bounds, and what becomes of it.
+fn brought(deepest: u32, length: u32, atoms: u32, said: Result<Session, u8>) -> String {
+    let at = match deepest {
+        _ if deepest < length => "below the length",
+        _ if deepest > atoms && deepest & 0xFFFF <= atoms => "above A but for its low bytes",
+        _ if deepest > atoms => "above A",
+        _ if deepest == length => "at the length",
+        _ if deepest == atoms => "at A",
+        _ => "between",
+    };
+    let left = said.map_or_else(|refusal| refusal.to_string(), |left| if left.deepest > deepest { "passed" } else { "kept" }.to_string());
+    format!("{at}, {left}")
 }
 
 /// Which engine moved the last session, and the sessions of the last ticket.
@@ -443,18 +504,21 @@ const MIXED: &str = "lists, by engines";
 const SUMS: &str = "lists, with a sum";
 const AT_EDGE: &str = "lists, with count and further limit at FFFFFFFF";
 const PAST_EDGE: &str = "lists, with one more than that";
+const LISTED: &str = "lists, with a figure";
 const PATHS: &str = "sessions left with a path of";
+const DEEPEST: &str = "sessions left with a figure of";
+const FIGURES: &str = "figures brought";
 const OTHER_ORIGIN: &str = "sessions of other origin";
 const TAMPERED: &str = "sessions changed in";
 
 /// By the number of a path's entries.
-fn class(length: u16) -> String {
+fn class(length: u32) -> String {
     let names = ["0", "1 to 3", "4 to 9", "10 to 99", "100 to 999", "1,000 on"];
     names[[1, 4, 10, 100, 1000].iter().take_while(|least| length >= **least).count()].to_string()
 }
 
 /// What each run must meet.
-const REQUIRED: [(&str, &[&str]); 12] = [
+const REQUIRED: [(&str, &[&str]); 15] = [
     (BY_RELEVANCY, &["11", "31", "41", "42", "none", "fits", "spent"]),
     (BY_MAGIC, &["11", "31", "41", "42", "none", "fits", "spent"]),
     (FIRST, &["11", "31", "none", "fits", "spent"]),
@@ -464,7 +528,30 @@ const REQUIRED: [(&str, &[&str]); 12] = [
     (SUMS, &["below the count", "at the count", "above the count"]),
     (AT_EDGE, &["none", "fits", "spent"]),
     (PAST_EDGE, &["none", "fits", "spent"]),
+    (
+        LISTED,
+        &[
+            "raised by the call, at the path's length",
+            "raised by the call, above the path's length",
+            "from an earlier call, at the path's length",
+            "from an earlier call, above the path's length",
+        ],
+    ),
     (PATHS, &["0", "1 to 3", "4 to 9", "10 to 99", "100 to 999", "1,000 on"]),
+    (DEEPEST, &["0", "1 to 3", "4 to 9", "10 to 99", "100 to 999", "1,000 on"]),
+    (
+        FIGURES,
+        &[
+            "below the length, 42",
+            "at the length, kept",
+            "at the length, passed",
+            "between, kept",
+            "between, passed",
+            "at A, kept",
+            "above A, 42",
+            "above A but for its low bytes, 42",
+        ],
+    ),
     (
         OTHER_ORIGIN,
         &[
@@ -512,6 +599,10 @@ const REQUIRED: [(&str, &[&str]); 12] = [
             "NextPast none",
             "NextPast fits",
             "NextPast spent",
+            "Deepest 42",
+            "Deepest none",
+            "Deepest fits",
+            "Deepest spent",
             "Several 41",
             "Several 42",
             "All 42",
@@ -538,7 +629,8 @@ impl Met {
         };
         self.note(kind, told(said));
         if let Ok(session) = said {
-            self.note(PATHS, class(session.length));
+            self.note(PATHS, class(session.length as u32));
+            self.note(DEEPEST, class(session.deepest));
         }
     }
 }

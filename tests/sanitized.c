@@ -295,7 +295,8 @@ static void has_fitted(uint64_t answer) {
 static void has_moved(uint64_t answer) {
     const struct lutsamik_session *session = lent_session();
     require(session->verdict == lutsamik_verdict(answer) && session->count == lutsamik_count(answer), "a session says what the answer does");
-    require(session->length <= 1024 && session->next <= 4, "a session stands at a node");
+    require(session->deepest == lutsamik_deepest(answer), "a session has the figure of the answer");
+    require(session->length <= session->deepest && session->deepest <= 1024 && session->next <= 4, "a session stands at a node");
     for (size_t i = session->length; i < 1024; i++)
         require(session->atoms[i] == 0 && session->nexts[i] == 0, "a session is 0 past its path");
     keep(SESSION);
@@ -434,12 +435,13 @@ static void any_slip(void) {
     memcpy(slip + 2, held[FRAME].bytes, len);
 }
 
-/* A session that no call has left: with a byte changed near its beginning or anywhere, or of any bytes. */
+/* A session that no call has left: with a byte changed near its beginning, near its end or anywhere, or of any bytes. */
 static void any_session(void) {
+    size_t len = held[SESSION].len, places[] = {below(16), len - 1 - below(4), below(len), below(len)};
     if (once_in(8))
-        any_bytes(held[SESSION].bytes, held[SESSION].len);
+        any_bytes(held[SESSION].bytes, len);
     else
-        held[SESSION].bytes[below(once_in(2) ? 16 : held[SESSION].len)] ^= (uint8_t)(1 + below(255));
+        held[SESSION].bytes[places[below(4)]] ^= (uint8_t)(1 + below(255));
 }
 
 /* A few entries, or more than the session's count allows: walks stay short. */

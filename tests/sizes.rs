@@ -4,7 +4,7 @@
 use crate::logic::{self, Ground};
 use crate::mix::Mix;
 use crate::reference::{self, Ticket};
-use crate::walk::{walk, Outcome, Relevancy};
+use crate::walk::{Outcome, Relevancy, Whole};
 
 /// Chains are looked at in this many of a walk's first places.
 const FIRST_PLACES: usize = 3;
@@ -19,20 +19,19 @@ pub struct Sizes {
 }
 
 impl Sizes {
-    /// What a walk with this limit ends with, and how large it was.
-    pub fn of(ticket: &Ticket, limit: u32) -> (Outcome, Sizes) {
+    /// A walk with this limit, and how large it was.
+    pub fn of(ticket: &Ticket, limit: u32) -> (Whole, Sizes) {
         assert!(reference::read(&reference::print(ticket)).is_ok(), "a large ticket is refused");
         let mut first = Vec::new();
-        let mut longest_path = 0;
-        let outcome = walk(&Relevancy::new(ticket), limit, &mut |entered, _| {
-            longest_path = longest_path.max(entered.len());
+        let whole = Whole::new(&Relevancy::new(ticket), limit, &mut |entered, _| {
             if first.len() < FIRST_PLACES {
                 first.push(entered.to_vec());
             }
         });
         let ground = logic::ground(ticket);
         let steps = first.iter().map(|entered| steps(&ground, entered)).max().unwrap_or(0);
-        (outcome, Sizes { atoms: ground.atoms, clauses: ticket.clauses.len(), longest_path, steps })
+        let longest_path = whole.outcome.deepest as usize;
+        (whole, Sizes { atoms: ground.atoms, clauses: ticket.clauses.len(), longest_path, steps })
     }
 
     fn numbers(&self) -> [usize; 4] {

@@ -35,7 +35,7 @@ static int read_text(const char *text, size_t len, unsigned refusal, uint32_t li
 static int takes_apart(void) {
     const uint64_t result = UINT64_C(0x0807060504030201);
     if (lutsamik_refusal(result) != 0x01 || lutsamik_verdict(result) != 0x02 || lutsamik_judged(result) != 0x02 ||
-        lutsamik_clause(result) != 0x04)
+        lutsamik_clause(result) != 0x04 || lutsamik_deepest(result) != 0x0403)
         return fail("the low half is not taken apart", result);
     if (lutsamik_line(result) != 0x08070605 || lutsamik_written(result) != 0x08070605 ||
         lutsamik_rules(result) != 0x08070605 || lutsamik_count(result) != 0x08070605 ||
@@ -52,18 +52,20 @@ static int takes_apart(void) {
 static int is_laid_out(void) {
     typedef struct lutsamik_session session;
     if (offsetof(session, count) != 0 || offsetof(session, length) != 4 || offsetof(session, verdict) != 6 ||
-        offsetof(session, next) != 7 || offsetof(session, atoms) != 8 || offsetof(session, nexts) != 2056)
+        offsetof(session, next) != 7 || offsetof(session, atoms) != 8 || offsetof(session, nexts) != 2056 ||
+        offsetof(session, deepest) != 3080)
         return fail("a field of a session is elsewhere", 0);
     session kept;
-    if (sizeof kept != 3080 || sizeof kept.count != 4 || sizeof kept.length != 2 || sizeof kept.verdict != 1 ||
-        sizeof kept.next != 1 || sizeof kept.atoms != 2048 || sizeof kept.nexts != 1024)
+    if (sizeof kept != 3084 || sizeof kept.count != 4 || sizeof kept.length != 2 || sizeof kept.verdict != 1 ||
+        sizeof kept.next != 1 || sizeof kept.atoms != 2048 || sizeof kept.nexts != 1024 || sizeof kept.deepest != 4)
         return fail("a field of a session has another size", sizeof kept);
     uint8_t bytes[sizeof kept];
     for (size_t i = 0; i < sizeof bytes; i++)
         bytes[i] = (uint8_t)(i + 1);
     memcpy(&kept, bytes, sizeof kept);
     if (kept.count != 0x04030201 || kept.length != 0x0605 || kept.verdict != 0x07 || kept.next != 0x08 ||
-        kept.atoms[0] != 0x0A09 || kept.atoms[1023] != 0x0807 || kept.nexts[0] != 0x09 || kept.nexts[1023] != 0x08)
+        kept.atoms[0] != 0x0A09 || kept.atoms[1023] != 0x0807 || kept.nexts[0] != 0x09 || kept.nexts[1023] != 0x08 ||
+        kept.deepest != 0x0C0B0A09)
         return fail("a session's bytes are other numbers", kept.count);
     return 0;
 }
@@ -138,23 +140,25 @@ static int adds(void) {
     return 0;
 }
 
-static int is_fit(uint64_t result, unsigned verdict, uint32_t count) {
+static int is_fit(uint64_t result, unsigned verdict, uint32_t count, uint32_t deepest) {
     return lutsamik_refusal(result) == LUTSAMIK_OK && lutsamik_verdict(result) == verdict &&
-           lutsamik_count(result) == count;
+           lutsamik_count(result) == count && lutsamik_deepest(result) == deepest;
 }
 
-/* K1 has clauses with 0, 1, 1 and 1 conditions, so 1, 2, 2 and 2 rules; and no fitting, after two entries. */
+/* K1 has clauses with 0, 1, 1 and 1 conditions, so 1, 2, 2 and 2 rules; and no fitting, after two entries, each made
+ * from the root. */
 static int rewrites_and_fits_none(void) {
     uint64_t result = lutsamik_rewrite(table, sizeof table, rules, sizeof rules);
     if (lutsamik_refusal(result) != LUTSAMIK_OK || lutsamik_rules(result) != 7)
         return fail("K1 is not rewritten into seven rules", result);
     result = lutsamik_fit_relevancy(table, sizeof table, answer, sizeof answer, work, sizeof work);
-    if (!is_fit(result, LUTSAMIK_NONE, 2))
+    if (!is_fit(result, LUTSAMIK_NONE, 2, 1))
         return fail("K1 is not found to have no fitting", result);
     return 0;
 }
 
-/* K6 with a limit of 1 is spent, and comes back with one further entry, by the other engine; then it is finished. */
+/* K6 with a limit of 1 is spent, and comes back with one further entry, by the other engine; then it is finished. It
+ * has six atoms: a figure of six is kept, and one more is refused. */
 static int comes_back(void) {
     static const char one[] = "0101020300000001\n0201\n0201\n0201\n" THREE "03020002800001\nFF04\n";
     struct lutsamik_session session;
@@ -162,12 +166,21 @@ static int comes_back(void) {
         return 1;
     uint64_t result = lutsamik_begin_magic(&session, table, sizeof table, rules, sizeof rules, answer, sizeof answer,
                                            work, sizeof work);
-    if (!is_fit(result, LUTSAMIK_SPENT, 1) || session.verdict != LUTSAMIK_SPENT || session.length != 0 ||
-        session.next != 1)
+    if (!is_fit(result, LUTSAMIK_SPENT, 1, 1) || session.verdict != LUTSAMIK_SPENT || session.length != 0 ||
+        session.next != 1 || session.deepest != 1)
         return fail("K6 is not spent after one entry, at the root", result);
     result = lutsamik_resume_relevancy(&session, 1, table, sizeof table, answer, sizeof answer, work, sizeof work);
-    if (!is_fit(result, LUTSAMIK_FITS, 2) || session.length != 1 || session.atoms[0] != 4 || session.nexts[0] != 2)
+    if (!is_fit(result, LUTSAMIK_FITS, 2, 1) || session.length != 1 || session.atoms[0] != 4 || session.nexts[0] != 2)
         return fail("K6 does not fit after a further entry, 20", result);
+    session.deepest = 6;
+    result = lutsamik_resume_relevancy(&session, 0, table, sizeof table, answer, sizeof answer, work, sizeof work);
+    if (!is_fit(result, LUTSAMIK_FITS, 2, 6) || session.deepest != 6)
+        return fail("a deepest figure that K6 can have is not kept", result);
+    session.deepest = 7;
+    result = lutsamik_resume_relevancy(&session, 0, table, sizeof table, answer, sizeof answer, work, sizeof work);
+    if (lutsamik_refusal(result) != LUTSAMIK_NO_SESSION || lutsamik_deepest(result) != 0)
+        return fail("a path of seven of K6's six atoms is believed", result);
+    session.deepest = 1;
     result = lutsamik_resume_magic(&session, UINT32_MAX - 1, table, sizeof table, rules, sizeof rules, answer,
                                    sizeof answer, work, sizeof work);
     if (lutsamik_refusal(result) != LUTSAMIK_TOO_MANY_ENTRIES)
@@ -178,7 +191,7 @@ static int comes_back(void) {
     if (lutsamik_refusal(result) != LUTSAMIK_NO_SESSION)
         return fail("K6 is taken to have no fitting because a session says so", result);
     result = lutsamik_begin_relevancy(&session, table, sizeof table, answer, sizeof answer, work, sizeof work);
-    if (!is_fit(result, LUTSAMIK_SPENT, 1))
+    if (!is_fit(result, LUTSAMIK_SPENT, 1, 1))
         return fail("K6 is not begun again", result);
     return 0;
 }
@@ -190,7 +203,7 @@ static int fits_and_judges(void) {
         return 1;
     uint64_t result =
         lutsamik_fit_magic(table, sizeof table, rules, sizeof rules, answer, sizeof answer, work, sizeof work);
-    if (!is_fit(result, LUTSAMIK_FITS, 2))
+    if (!is_fit(result, LUTSAMIK_FITS, 2, 1))
         return fail("K6 is not fitted", result);
     if (memcmp(answer, fitting, sizeof fitting) != 0)
         return fail("K6 is fitted otherwise", result);

@@ -95,7 +95,7 @@ impl Job {
     fn of_ticket(ticket: &Ticket) -> Job {
         let outcome = walk(&Relevancy::new(ticket), u32::from_be_bytes(ticket.limit), &mut |_, _| {});
         let rules: usize = magic::rewritten(ticket).iter().map(Vec::len).sum();
-        let (rewrite, fit, verdict) = (packed(0, rules as u32), fit(outcome.verdict as u8, outcome.count), outcome.verdict);
+        let (rewrite, fit, verdict) = (packed(0, rules as u32), fit(outcome.verdict as u8, outcome.count, outcome.deepest), outcome.verdict);
         let text = reference::print(ticket);
         let rule = ticket.clauses.first().map_or(vec![slip::CLAUSE, 0, 0], reference::clause_frame);
         let offer = packed(slip::next_clause(ticket, &rule).map_or_else(slip::Why::number, |_| 0), 0);

@@ -1,5 +1,6 @@
 //! How much stack each operation needs, and the engines on the longest paths there are, in one go and going on with a session: in a thread
-//! of 1 MB, and on a stack of this program's own, painted beforehand, so that the bytes used can be counted; they must be within a bound.
+//! of 1 MB, and on a stack of this program's own, painted beforehand, so that the bytes used can be counted; they must be within a bound. On
+//! paths of some lengths they must be what the header's table says, or a little less.
 //! Usage: stack [BYTES OF STACK]. Where the stack is too small, a signal ends the program.
 mod host;
 mod library;
@@ -28,6 +29,11 @@ const MOST_TO_WALK: usize = 1 << 19;
 const MOST_TO_GO_ON: usize = 5 << 17;
 const MOST: usize = 1 << 14;
 
+/// The header's table: for paths of so many entries, what a first run and going on with a session use, by each engine.
+const HEADER: &str = include_str!("../include/lutsamik.h");
+const PATHS: [u32; 4] = [0, 64, 256, 1024];
+const ROWS: [&str; 4] = ["a first run by relevancy", "a first run by magic", "going on by relevancy", "going on by magic"];
+
 fn main() {
     let stack = std::env::args().nth(1).map_or(STACK, |word| word.parse().expect("the argument is a number"));
     if let Err(report) = measure(stack) {
@@ -38,15 +44,45 @@ fn main() {
 
 fn measure(stack: usize) -> Result<(), Report> {
     counts_right(stack)?;
-    let longest = tickets::deep(32, 1, 1024);
-    without_a_walk(&longest, stack)?;
+    without_a_walk(&tickets::deep(32, 1, 1024), stack)?;
     let (open, late) = (tickets::deep(31, 2, u32::MAX), tickets::late(31, u32::MAX));
     walked(&open, 961, 961, stack)?;
-    walked(&longest, 1024, 1024, stack)?;
     walked(&late, 4 * 961, 961, stack)?;
     brought_back(&open, 961, stack)?;
-    brought_back(&longest, 1024, stack)?;
-    brought_back(&late, 4 * 961, stack)
+    brought_back(&late, 4 * 961, stack)?;
+    as_in_header(stack)
+}
+
+/// Walks straight down, to each of the lengths in the header's table; the last one is that of the longest path there is.
+fn as_in_header(stack: usize) -> Result<(), Report> {
+    let mut measured = [[0; PATHS.len()]; ROWS.len()];
+    for (i, path) in PATHS.into_iter().enumerate() {
+        let ticket = tickets::deep(32, 1, path);
+        let (fits, calls) = (walked(&ticket, path, path, stack)?, brought_back(&ticket, path, stack)?);
+        for (engine, [begun, resumed]) in calls.into_iter().enumerate() {
+            measured[engine][i] = begun.max(fits[engine]);
+            measured[2 + engine][i] = resumed;
+        }
+    }
+    println!("stack: in the header's table, on paths of {PATHS:?} entries:");
+    ROWS.iter().zip(&measured).for_each(|(row, used)| println!(" *   {row:24}{}", used.map(rounded).concat()));
+    ROWS.iter().zip(&measured).try_for_each(|(row, used)| is_said(row, used))
+}
+
+/// As the header writes it: in thousands, and no less.
+fn rounded(used: usize) -> String {
+    format!("{:>5},000", used.div_ceil(1000))
+}
+
+/// That a row of the header's table has at least these numbers, and hardly more.
+fn is_said(row: &str, used: &[usize]) -> Result<(), Report> {
+    let words = HEADER.lines().find_map(|line| line.strip_prefix(" * ")?.trim_start().strip_prefix(row));
+    let said: Vec<usize> = words.unwrap_or("").split_whitespace().filter_map(|word| word.replace(',', "").parse().ok()).collect();
+    let is_right = |(said, used): (&usize, &usize)| (*used..=used + used / 16 + 1000).contains(said);
+    if said.len() == used.len() && said.iter().zip(used).all(is_right) {
+        return Ok(());
+    }
+    Err(format!("{row} uses {used:?} bytes on paths of {PATHS:?} entries, and the header says {said:?}"))
 }
 
 /// That a function which fills 100,000 bytes of stack is counted so, and little more.
@@ -80,59 +116,71 @@ fn without_a_walk(ticket: &Ticket, stack: usize) -> Result<(), Report> {
     Ok(())
 }
 
-/// A ticket that has so many entries, the longest path of this length, by each engine.
-fn walked(ticket: &Ticket, count: u32, path: usize, stack: usize) -> Result<(), Report> {
-    let mut longest = 0;
-    let outcome = walk(&Relevancy::new(ticket), u32::from_be_bytes(ticket.limit), &mut |entered, _| longest = longest.max(entered.len()));
-    same("entries and longest path", (count, path), (outcome.count, longest))?;
-    let expected = fit(outcome.verdict as u8, outcome.count);
+/// A ticket that has so many entries, the longest path of this length, by each engine: how many bytes each uses.
+fn walked(ticket: &Ticket, count: u32, path: u32, stack: usize) -> Result<[usize; 2], Report> {
+    let outcome = walk(&Relevancy::new(ticket), u32::from_be_bytes(ticket.limit), &mut |_, _| {});
+    same("entries and longest path", (count, path), (outcome.count, outcome.deepest))?;
+    let expected = fit(outcome.verdict as u8, outcome.count, outcome.deepest);
     let mut host = Host { table: reference::encode(ticket), ..Host::new() };
-    for (name, engine) in ENGINES {
+    let mut most = [0; 2];
+    for (i, (name, engine)) in ENGINES.into_iter().enumerate() {
         let mut again = host.clone();
         let thread = std::thread::Builder::new().stack_size(stack).spawn(move || engine(&mut again)).expect("a thread");
         same_answer(expected, thread.join().expect("the thread ends"), || format!("by {name} in a thread of {stack} bytes"))?;
-        let used = used(name, expected, stack, MOST_TO_WALK, || engine(&mut host))?;
-        println!("stack: {count} entries, on a path of up to {path}, are walked by {name} in a thread of {stack} bytes, and uses {used} of them");
+        most[i] = used(name, expected, stack, MOST_TO_WALK, || engine(&mut host))?;
+        println!("stack: {count} entries, on a path of up to {path}, are walked by {name} in a thread of {stack} bytes, and uses {} of them", most[i]);
     }
-    Ok(())
+    Ok(most)
 }
 
-/// A ticket that has so many entries, with a session: a first run of them all, and sessions that are gone on with up to the last entry. One
-/// stands at the root, where no entry is made yet, one at the end of the longest path but for an entry, and one of other origin at its end.
-fn brought_back(ticket: &Ticket, count: u32, stack: usize) -> Result<(), Report> {
+/// A ticket that has so many entries, with a session, by each engine: how many bytes a first run of them all uses, and going on up to the last one.
+fn brought_back(ticket: &Ticket, count: u32, stack: usize) -> Result<[[usize; 2]; 2], Report> {
     let engine = Remembering::new(Relevancy::new(ticket));
     let whole = begun(&engine, u32::from_be_bytes(ticket.limit));
     same("entries", count, whole.outcome.count)?;
-    let (root, last) = (begun(&engine, 0).session, begun(&engine, count - 1).session);
     let mut host = Host { table: reference::encode(ticket), ..Host::new() };
-    for (name, begin, resume) in WITH_SESSION {
-        let first = deep_call(name, &whole, &mut host, (stack, MOST_TO_WALK), begin)?;
-        print!("stack: with a session, {count} entries by {name}: a first run uses {first} bytes");
-        for from in [root, last, one_longer(&engine, &last)] {
-            let told = resumed(&engine, &from, count).map_err(|refusal| format!("a session is refused by {refusal}"))?;
+    let mut most = [[0; 2]; 2];
+    for (i, (name, begin, resume)) in WITH_SESSION.into_iter().enumerate() {
+        most[i][0] = deep_call(name, &whole, &mut host, (stack, MOST_TO_WALK), begin)?;
+        print!("stack: with a session, {count} entries by {name}: a first run uses {} bytes", most[i][0]);
+        for from in on_the_way(&engine, count) {
+            let further = count - from.count;
+            let told = resumed(&engine, &from, further).map_err(|refusal| format!("a session is refused by {refusal}"))?;
             let used = deep_call(name, &told, &mut host, (stack, MOST_TO_GO_ON), |host| {
                 host.session = from;
-                resume(host, count)
+                resume(host, further)
             })?;
+            most[i][1] = most[i][1].max(used);
             print!(", going on from a path of {} {used}", from.length);
         }
         println!();
     }
-    Ok(())
+    Ok(most)
+}
+
+/// A session at the root, where no entry is made yet, one at the end of the longest path but for an entry, and one of other origin at its end.
+fn on_the_way(engine: &Remembering<Relevancy>, count: u32) -> Vec<Session> {
+    let mut sessions = vec![begun(engine, 0).session];
+    if count > 0 {
+        let last = begun(engine, count - 1).session;
+        sessions.extend([last, one_longer(engine, &last)]);
+    }
+    sessions
 }
 
 /// The session with its next alternative on the path.
 fn one_longer(engine: &Remembering<Relevancy>, session: &Session) -> Session {
     let (length, nodes) = (session.length as usize, session::standing(engine, session).expect("it stands"));
     let next = nodes[length].next;
-    let mut longer = Session { length: session.length + 1, next: 0, ..*session };
+    let deepest = session.deepest.max(session.length as u32 + 1);
+    let mut longer = Session { count: session.count + 1, length: session.length + 1, next: 0, deepest, ..*session };
     (longer.atoms[length], longer.nexts[length]) = (nodes[length].alternatives[next] as u16, next as u8 + 1);
     longer
 }
 
 /// A call that must say and leave this, in a thread and on a painted stack of so many bytes: how many it uses there, which may be so many at most.
-fn deep_call(name: &str, told: &Told, host: &mut Host, (stack, most): (usize, usize), call: impl Fn(&mut Host) -> u64 + Copy + Send) -> Result<usize, Report> {
-    let expected = fit(told.outcome.verdict as u8, told.outcome.count);
+fn deep_call(name: &str, told: &Told, host: &mut Host, (stack, most): (usize, usize), call: impl Fn(&mut Host) -> u64 + Copy + Send + Sync) -> Result<usize, Report> {
+    let expected = fit(told.outcome.verdict as u8, told.outcome.count, told.outcome.deepest);
     let thread = std::thread::Builder::new().stack_size(stack);
     let answer = std::thread::scope(|scope| {
         let mut again = host.clone();
@@ -145,7 +193,7 @@ fn deep_call(name: &str, told: &Told, host: &mut Host, (stack, most): (usize, us
 }
 
 /// The bytes that a call uses, whose answer must be this one.
-fn used(name: &str, expected: u64, stack: usize, most: usize, call: impl FnMut() -> u64) -> Result<usize, Report> {
+fn used(name: &str, expected: u64, stack: usize, most: usize, call: impl FnOnce() -> u64 + Send) -> Result<usize, Report> {
     let (answer, used) = painted::run(stack, call);
     same_answer(expected, answer, || format!("by {name} on a painted stack of {stack} bytes"))?;
     if used > most {

@@ -16,14 +16,12 @@ pub enum Change {
     PathNext,
     AtomPast,
     NextPast,
+    Deepest,
     Several,
     All,
 }
 
-pub const FIELDS: [Change; 8] =
-    [Change::Count, Change::Length, Change::Verdict, Change::Next, Change::PathAtom, Change::PathNext, Change::AtomPast, Change::NextPast];
-
-pub const CHANGES: [Change; 10] = [
+pub const CHANGES: [Change; 11] = [
     Change::Count,
     Change::Length,
     Change::Verdict,
@@ -32,12 +30,16 @@ pub const CHANGES: [Change; 10] = [
     Change::PathNext,
     Change::AtomPast,
     Change::NextPast,
+    Change::Deepest,
     Change::Several,
     Change::All,
 ];
 
-/// The session with this changed; as it is where it has no such part.
-pub fn changed(random: &mut Random, session: &Session, change: Change) -> Session {
+/// Those of one field.
+pub const FIELDS: &[Change] = CHANGES.split_at(9).0;
+
+/// The session with this changed; as it is where it has no such part. It is lent with a ticket of so many atoms.
+pub fn changed(random: &mut Random, session: &Session, change: Change, atoms: u32) -> Session {
     let mut other = *session;
     let length = (session.length as usize).min(ROOM);
     let (inside, past) = (random.below(length.max(1)), length + random.below((ROOM - length).max(1)));
@@ -50,10 +52,11 @@ pub fn changed(random: &mut Random, session: &Session, change: Change) -> Sessio
         Change::PathNext if length > 0 => other.nexts[inside] = any_next(random, session.nexts[inside]),
         Change::AtomPast if length < ROOM => other.atoms[past] = random.next() as u16,
         Change::NextPast if length < ROOM => other.nexts[past] = random.byte(),
+        Change::Deepest => other.deepest = any_deepest(random, session, atoms),
         Change::Several => {
             for _ in 0..random.within(2, 4) {
-                let field = random.pick(&FIELDS);
-                other = changed(random, &other, field);
+                let field = random.pick(FIELDS);
+                other = changed(random, &other, field, atoms);
             }
         }
         Change::All => other = any_numbers(random),
@@ -82,6 +85,13 @@ fn any_atom(random: &mut Random, atom: u16) -> u16 {
     random.pick(&[0, 1, atom.wrapping_add(1), atom.wrapping_sub(1), atom ^ 0x100, atom ^ 0x8000, any, 0xFFFF])
 }
 
+/// Around the path's length and the number of atoms, between them, and elsewhere; also one with the same low bytes.
+fn any_deepest(random: &mut Random, session: &Session, atoms: u32) -> u32 {
+    let (length, any) = (session.length as u32, random.next() as u32);
+    let between = length.saturating_add(random.below(atoms.saturating_sub(length) as usize + 1) as u32);
+    random.pick(&[length.wrapping_sub(1), length, length + 1, between, atoms.wrapping_sub(1), atoms, atoms + 1, session.deepest ^ 0x10000, any, u32::MAX])
+}
+
 /// Small numbers, or any bytes.
 fn any_numbers(random: &mut Random) -> Session {
     let mut all = bytes(&Session::EMPTY);
@@ -93,14 +103,15 @@ fn any_numbers(random: &mut Random) -> Session {
         session.next = random.below(4) as u8;
         session.atoms[..3].fill_with(|| random.below(8) as u16);
         session.nexts[..3].fill_with(|| random.below(4) as u8);
+        session.deepest = session.length as u32 + random.below(3) as u32;
     }
     session
 }
 
-/// Any session's bytes, by those of one.
-pub fn any(random: &mut Random, held: &[u8]) -> Vec<u8> {
+/// Any session's bytes, by those of one, and lent with a ticket of so many atoms.
+pub fn any(random: &mut Random, held: &[u8], atoms: u32) -> Vec<u8> {
     let change = random.pick(&CHANGES);
-    bytes(&changed(random, &of_bytes(held), change))
+    bytes(&changed(random, &of_bytes(held), change, atoms))
 }
 
 /// A further limit, of few entries or up to so many; at times one with which the session's count passes what it may be, or nearly.

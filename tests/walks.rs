@@ -21,7 +21,7 @@ use reference::Ticket;
 use report::{same, Report};
 use std::collections::HashSet;
 use threads::{add_each, row, Run, Tally};
-use walk::{walk, Engine, Outcome, Place, Relevancy, Verdict};
+use walk::{walk, Engine, Outcome, Place, Relevancy, Verdict, Whole};
 
 const TICKETS: u64 = 120_000;
 
@@ -74,8 +74,8 @@ fn deep_paths() -> Result<(), Report> {
     for (ticket, verdict, longest) in [(tickets::deep(31, 2, u32::MAX), Verdict::Fits, 961), (tickets::deep(32, 1, 1024), Verdict::None, 1024)] {
         let limit = u32::from_be_bytes(ticket.limit);
         let walked = both(&Relevancy::new(&ticket), &Magic::new(&rewritten(&ticket), &ticket), limit)?;
-        same("verdict of a deep ticket", verdict, walked.outcome.verdict)?;
-        same("longest path of a deep ticket", Some(longest), walked.trail.iter().map(|(entered, _)| entered.len()).max())?;
+        same("verdict of a deep ticket", verdict, walked.whole.outcome.verdict)?;
+        same("longest path of a deep ticket", longest, walked.longest())?;
     }
     Ok(())
 }
@@ -107,30 +107,37 @@ fn run(run: &mut Run<Met>, many: u64) -> Result<(), Report> {
 /// A walk's trail, with the facts at each place, and what it ends with.
 struct Walked {
     trail: Vec<(Vec<usize>, Place)>,
-    outcome: Outcome,
+    whole: Whole,
 }
 
 fn walked(engine: &dyn Engine, limit: u32) -> Walked {
     let mut trail = Vec::new();
-    let outcome = walk(engine, limit, &mut |entered, place| trail.push((entered.to_vec(), place.clone())));
-    Walked { trail, outcome }
+    let whole = Whole::new(engine, limit, &mut |entered, place| trail.push((entered.to_vec(), place.clone())));
+    Walked { trail, whole }
+}
+
+impl Walked {
+    /// The longest list of entered atoms on the trail.
+    fn longest(&self) -> usize {
+        self.trail.iter().map(|(entered, _)| entered.len()).max().unwrap_or(0)
+    }
 }
 
 /// The two walks of a ticket, without a limit and with limits around the count.
 fn compare(ticket: &Ticket, tally: &mut Met) -> Result<(), Report> {
     let (relevancy, magic) = (Relevancy::new(ticket), Magic::new(&rewritten(ticket), ticket));
-    let whole = both(&relevancy, &magic, LONG)?;
-    let count = whole.outcome.count;
-    tally.count(&whole);
-    is_right(&logic::ground(ticket), &whole, tally)?;
+    let walked = both(&relevancy, &magic, LONG)?;
+    let count = walked.whole.outcome.count;
+    tally.count(&walked);
+    is_right(&logic::ground(ticket), &walked, tally)?;
     for limit in [0, count.saturating_sub(1), count, count + 1] {
         if limit > LONG {
             continue;
         }
         let limited = both(&relevancy, &magic, limit)?;
-        same("outcome", &whole.outcome.under(limit), &limited.outcome)?;
+        same("outcome", &walked.whole.under(limit), &limited.whole.outcome)?;
         same("number of places", count.min(limit) as usize + 1, limited.trail.len())?;
-        tally.mix.limited(limited.outcome.verdict);
+        tally.mix.limited(limited.whole.outcome.verdict);
     }
     Ok(())
 }
@@ -147,7 +154,8 @@ fn both(relevancy: &Relevancy, magic: &Magic, limit: u32) -> Result<Walked, Repo
         same(&at("held true"), &true_and_wanted, &held.truth)?;
         same(&at("found"), &place.found, &held.found)?;
     }
-    same("outcome of the magic walk", &one.outcome, &other.outcome)?;
+    same("outcome of the magic walk", &one.whole.outcome, &other.whole.outcome)?;
+    same("deepest figure", one.longest() as u32, one.whole.outcome.deepest)?;
     Ok(one)
 }
 
@@ -160,7 +168,7 @@ fn is_right(ground: &Ground, walked: &Walked, tally: &mut Met) -> Result<(), Rep
     }
     let lists: HashSet<&[usize]> = walked.trail.iter().map(|(entered, _)| &entered[..]).collect();
     same("number of different lists", walked.trail.len(), lists.len())?;
-    match (walked.outcome.verdict, &walked.outcome.fitting) {
+    match (walked.whole.outcome.verdict, &walked.whole.outcome.fitting) {
         (Verdict::Fits, Some(fitting)) => same("violated instance of the fitting", None, ground.first_violated(fitting)),
         (Verdict::None, None) if ground.atoms <= FEW_ATOMS => {
             tally.all_sets_tried += 1;
@@ -186,9 +194,8 @@ struct Met {
 
 impl Met {
     fn count(&mut self, walked: &Walked) {
-        self.mix.ticket(&walked.outcome);
-        let depth = walked.trail.iter().map(|(entered, _)| entered.len()).max().unwrap_or(0);
-        self.depths[depth.min(4)] += 1;
+        self.mix.ticket(&walked.whole.outcome);
+        self.depths[walked.longest().min(4)] += 1;
     }
 }
 

@@ -3,8 +3,8 @@
 use crate::arguments::Arguments;
 use crate::ending::{Ending, Failure, Status};
 use crate::engines::Walk;
-use crate::fit::{engine_words, fitting_words, lines, status, verdict_words};
-use crate::library::{Engine, Fit, Session, Verdict};
+use crate::fit::{depth_words, engine_words, fitting_words, lines, status, verdict_words};
+use crate::library::{Engine, Session, Verdict};
 use crate::save::Save;
 use crate::source::Accepted;
 use std::ffi::OsStr;
@@ -30,7 +30,7 @@ impl Carry<'_> {
         if !is_over {
             return Err(self.stopped(&walk.at.session, save.as_ref(), saved));
         }
-        let printed = self.printed(&walk.at.fit, save.as_ref().filter(|_| saved.is_ok()));
+        let printed = self.printed(&walk, save.as_ref().filter(|_| saved.is_ok()));
         Ok(match saved {
             Ok(()) => Ending::new(status(walk.at.fit.verdict), printed),
             Err(failure) => {
@@ -40,7 +40,8 @@ impl Carry<'_> {
         })
     }
 
-    fn printed(&self, fit: &Fit, save: Option<&Save>) -> String {
+    fn printed(&self, walk: &Walk, save: Option<&Save>) -> String {
+        let fit = &walk.at.fit;
         if self.arguments.has("--lines") {
             return lines(self.accepted, fit);
         }
@@ -48,7 +49,8 @@ impl Carry<'_> {
             Verdict::Spent => format!("to go on: {}\n", self.resuming(save, "N")),
             _ => format!("saved: {}\n", save.name),
         });
-        [verdict_words(fit, self.most, self.stopper), engine_words(self.engines), saved, fitting_words(self.accepted, fit)].concat()
+        let verdict = verdict_words(fit, self.most, self.stopper) + &depth_words(&walk.depth());
+        [verdict, engine_words(self.engines), saved, fitting_words(self.accepted, fit)].concat()
     }
 
     fn stopped(&self, session: &Session, save: Option<&Save>, saved: Result<(), Failure>) -> Failure {

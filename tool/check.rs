@@ -91,7 +91,7 @@ fn frozen(ticket: &Ticket) -> Ticket {
 fn fitting(frozen: &Ticket) -> Result<Option<Vec<u8>>, Failure> {
     let Ok(table) = library::read(&frozen.text()) else { return Ok(None) };
     match library::fit(Engine::Relevancy, &table, frozen.atoms())? {
-        Fit { verdict: Verdict::Fits, count: 0, answer } => Ok(Some(answer)),
+        Fit { verdict: Verdict::Fits, count: 0, deepest: 0, answer } => Ok(Some(answer)),
         fit => Err(Failure::disagreement(format!("of a ticket in which nothing splits the library says {}", fit.told()))),
     }
 }

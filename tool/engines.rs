@@ -6,49 +6,77 @@
 
 use crate::ending::Failure;
 use crate::interrupt;
-use crate::library::{self, Engine, Fit, Moved, Session, Table, Verdict};
+use crate::library::{self, Engine, Moved, Session, Stack, Table, Verdict};
 use crate::progress::Progress;
 use crate::slice::Slice;
 use crate::source::Accepted;
 use std::thread;
 use std::time::Instant;
 
-pub struct Walk<'a> {
-    engines: &'a [Engine],
+/// The bytes of stack that an engine is left, as include/lutsamik.h asks.
+const STACK: usize = 1 << 20;
+
+pub struct Walk {
+    runs: Vec<Running>,
     table: Table,
     atoms: usize,
+    /// the deepest figure that it began with
+    brought: u32,
     /// what the engines say of the walk so far, and where it stands
     pub at: Moved,
 }
 
-/// The answer that all these engines give under the ticket's limit.
-pub fn agreed(engines: &[Engine], accepted: &Accepted) -> Result<Fit, Failure> {
-    let mut walk = Walk::begin(engines, accepted)?;
-    walk.run(accepted.ticket.limit, &mut |_| Ok(()))?;
-    Ok(walk.at.fit)
+/// An engine, and the stack that all its calls on this walk are on.
+struct Running {
+    engine: Engine,
+    stack: Stack,
 }
 
-impl<'a> Walk<'a> {
+/// How deep a walk has come, and what it took.
+pub struct Depth {
+    /// how many entries the longest path had, and how many it can have
+    pub deepest: u32,
+    pub most: usize,
+    /// whether it was so deep before
+    pub is_earlier: bool,
+    /// the bytes of stack that each engine has used
+    pub stacks: Vec<(Engine, usize)>,
+}
+
+/// The walk that all these engines make under the ticket's limit.
+pub fn agreed(engines: &[Engine], accepted: &Accepted) -> Result<Walk, Failure> {
+    let mut walk = Walk::begin(engines, accepted)?;
+    walk.run(accepted.ticket.limit, &mut |_| Ok(()))?;
+    Ok(walk)
+}
+
+impl Walk {
     /// At the root, before any entry.
-    pub fn begin(engines: &'a [Engine], accepted: &Accepted) -> Result<Walk<'a>, Failure> {
-        let (table, atoms) = (accepted.with_limit(0)?.table, accepted.ticket.atoms());
-        let begun = together(engines, |engine| library::begin(engine, &table, atoms).map(Ok))?;
+    pub fn begin(engines: &[Engine], accepted: &Accepted) -> Result<Walk, Failure> {
+        let (table, atoms, mut runs) = (accepted.with_limit(0)?.table, accepted.ticket.atoms(), runs(engines));
+        let begun = together(&mut runs, |engine, stack| library::begin(engine, stack, &table, atoms).map(Ok))?;
         let at = begun.map_err(|number| Failure::disagreement(format!("a first run is refused by {number}")))?;
-        Ok(Walk { engines, table, atoms, at })
+        Ok(Walk { runs, table, atoms, brought: 0, at })
     }
 
     /// Where a session stands that is to go on with this further limit, or the number by which that is refused. No entry is made: the whole limit
     /// is asked for only where it is too much.
-    pub fn resume(engines: &'a [Engine], accepted: &Accepted, session: &Session, further: u32) -> Result<Result<Walk<'a>, u8>, Failure> {
-        let (table, atoms) = (accepted.with_limit(0)?.table, accepted.ticket.atoms());
+    pub fn resume(engines: &[Engine], accepted: &Accepted, session: &Session, further: u32) -> Result<Result<Walk, u8>, Failure> {
+        let (table, atoms, mut runs) = (accepted.with_limit(0)?.table, accepted.ticket.atoms(), runs(engines));
         let is_too_much = session.count.checked_add(further).is_none();
         let asked = if is_too_much { further } else { 0 };
-        let said = together(engines, |engine| library::resume(engine, session, asked, &table, atoms))?;
+        let said = together(&mut runs, |engine, stack| library::resume(engine, stack, session, asked, &table, atoms))?;
         if is_too_much != (said == Err(library::TOO_MANY_ENTRIES)) {
             let told = told(&said);
             return Err(Failure::disagreement(format!("with {} entries and {asked} more going on {told}", session.count)));
         }
-        Ok(said.map(|at| Walk { engines, table, atoms, at }))
+        Ok(said.map(|at| Walk { runs, table, atoms, brought: session.deepest, at }))
+    }
+
+    pub fn depth(&self) -> Depth {
+        let deepest = self.at.fit.deepest;
+        let stacks = self.runs.iter().map(|run| (run.engine, run.stack.used())).collect();
+        Depth { deepest, most: self.atoms, is_earlier: deepest > 0 && deepest == self.brought, stacks }
     }
 
     /// Goes on until the walk is over or has made so many entries, or Ctrl-C stops it: whether it came so far. Each session on the way is shown.
@@ -71,7 +99,7 @@ impl<'a> Walk<'a> {
     /// Makes so many entries more, or fewer if the walk is over before.
     fn go_on(&mut self, many: u32) -> Result<(), Failure> {
         let from = &self.at.session;
-        let said = together(self.engines, |engine| library::resume(engine, from, many, &self.table, self.atoms))?;
+        let said = together(&mut self.runs, |engine, stack| library::resume(engine, stack, from, many, &self.table, self.atoms))?;
         let most = from.count + many;
         match said {
             Ok(at) if at.fit.count == most || (at.fit.verdict != Verdict::Spent && (from.count..most).contains(&at.fit.count)) => {
@@ -83,21 +111,25 @@ impl<'a> Walk<'a> {
     }
 }
 
+fn runs(engines: &[Engine]) -> Vec<Running> {
+    engines.iter().map(|engine| Running { engine: *engine, stack: Stack::painted(STACK) }).collect()
+}
+
 /// What all these engines say of one call, each in a thread of its own.
-fn together<F>(engines: &[Engine], call: F) -> Result<Result<Moved, u8>, Failure>
+fn together<F>(runs: &mut [Running], call: F) -> Result<Result<Moved, u8>, Failure>
 where
-    F: Fn(Engine) -> Result<Result<Moved, u8>, Failure> + Sync,
+    F: Fn(Engine, &mut Stack) -> Result<Result<Moved, u8>, Failure> + Sync,
 {
     let call = &call;
     let mut said = thread::scope(|scope| {
-        let runs: Vec<_> = engines.iter().map(|engine| scope.spawn(move || call(*engine))).collect();
-        let ended = runs.into_iter().map(|run| run.join().expect("an engine's thread ends with its answer"));
+        let calls: Vec<_> = runs.iter_mut().map(|run| scope.spawn(move || call(run.engine, &mut run.stack))).collect();
+        let ended = calls.into_iter().map(|call| call.join().expect("an engine's thread ends with its answer"));
         ended.collect::<Result<Vec<_>, _>>()
     })?;
     if said.iter().all(|other| *other == said[0]) {
         return Ok(said.swap_remove(0));
     }
-    let told: Vec<String> = engines.iter().zip(&said).map(|(engine, said)| format!("{} {}", engine.name(), told(said))).collect();
+    let told: Vec<String> = runs.iter().zip(&said).map(|(run, said)| format!("{} {}", run.engine.name(), told(said))).collect();
     Err(Failure::disagreement(format!("the engines disagree: {}", told.join(", "))))
 }
 

@@ -3,7 +3,7 @@
 use crate::arguments::{Arguments, Command};
 use crate::carry::Carry;
 use crate::ending::{Ending, Failure, Status};
-use crate::engines::Walk;
+use crate::engines::{Depth, Walk};
 use crate::interrupt;
 use crate::library::{self, Engine, Fit, Refusal, Verdict};
 use crate::save::Save;
@@ -16,7 +16,10 @@ pub const COMMAND: Command = Command {
     usage: "fit [--engine relevancy|magic|both] [--limit N] [--save SESSION] [--lines] FILE",
     about: "whether a ticket fits, and the fitting",
     help: "\
-Fits a ticket and prints the verdict, the entries made, and the fitting's atoms.
+Fits a ticket and prints the verdict, the entries made, how many of them the deepest
+path had, and the fitting's atoms. The memory that it prints is what this run took,
+by each engine: the stack, measured, and the bytes lent. So much is needed by a host
+that walks so deep in slices, as the tool does.
   --engine E   relevancy, magic, or both (the default), which are then compared
   --limit N    at most N entries, whatever limit the ticket has
   --save SESSION  leaves in this file where the walk stands, so that 'resume' can go
@@ -100,6 +103,14 @@ pub fn verdict_words(fit: &Fit, limit: u32, stopper: &str) -> String {
         Verdict::Spent => format!("spent: {stopper} stopped the walk"),
     };
     format!("verdict: {meaning}\nentries: {} of at most {limit}\n", fit.count)
+}
+
+/// The deepest path, and what this run took for it: of stack, measured, and lent.
+pub fn depth_words(depth: &Depth) -> String {
+    let (earlier, of) = if depth.is_earlier { (", in an earlier run", " of this run") } else { ("", "") };
+    let took = depth.stacks.iter().map(|(engine, stack)| format!("{stack} bytes of stack and {} lent by {}", engine.lent(), engine.name()));
+    let took: Vec<String> = took.collect();
+    format!("deepest path: {} of at most {}{earlier}\nmemory{of}: {}\n", depth.deepest, depth.most, took.join(", "))
 }
 
 /// Document 01's lines.

@@ -1,10 +1,13 @@
 //! The proved operations, with their answers taken apart. What the tool says of a ticket comes from here.
 #[path = "../tests/library.rs"]
 mod calls;
+#[path = "../tests/painted.rs"]
+mod painted;
 
 use crate::ending::Failure;
 use crate::spell::hex;
 pub use calls::Session;
+pub use painted::Stack;
 
 // What the buffers must hold, as include/lutsamik.h has it.
 const TABLE: usize = 4096;
@@ -54,6 +57,8 @@ pub enum Verdict {
 pub struct Fit {
     pub verdict: Verdict,
     pub count: u32,
+    /// how many entries the longest path had
+    pub deepest: u32,
     pub answer: Vec<u8>,
 }
 
@@ -91,6 +96,15 @@ impl Engine {
             Engine::Magic => "magic",
         }
     }
+
+    /// The bytes that it is lent, those of a session too.
+    pub fn lent(self) -> usize {
+        let by_both = calls::SESSION + TABLE + ANSWER + WORK;
+        match self {
+            Engine::Relevancy => by_both,
+            Engine::Magic => by_both + RULES,
+        }
+    }
 }
 
 impl Verdict {
@@ -107,7 +121,7 @@ impl Fit {
     /// The answer in few words, for a message.
     pub fn told(&self) -> String {
         let fitting = if self.verdict == Verdict::Fits { format!(" with {}", hex(&self.answer)) } else { String::new() };
-        format!("{} after {} entries{fitting}", self.verdict.name(), self.count)
+        format!("{} after {} entries on paths of up to {}{fitting}", self.verdict.name(), self.count, self.deepest)
     }
 }
 
@@ -220,24 +234,24 @@ pub fn fit(engine: Engine, table: &Table, atoms: usize) -> Result<Fit, Failure> 
     answered(name, accepted(name, given)?, lent.answer, atoms)
 }
 
-/// A first run on a ticket with this number of atoms, which leaves a session.
-pub fn begin(engine: Engine, table: &Table, atoms: usize) -> Result<Moved, Failure> {
+/// A first run on a ticket with this number of atoms, which leaves a session. The engine runs on this stack, and on nothing else.
+pub fn begin(engine: Engine, stack: &mut Stack, table: &Table, atoms: usize) -> Result<Moved, Failure> {
     let (mut session, mut lent) = (Session::EMPTY, Lent::new());
     let Lent { rules, answer, work } = &mut lent;
     let (name, given) = match engine {
-        Engine::Relevancy => ("lutsamik_begin_relevancy", calls::begin_relevancy(&mut session, &table.0, answer, work)),
-        Engine::Magic => ("lutsamik_begin_magic", calls::begin_magic(&mut session, &table.0, rules, answer, work)),
+        Engine::Relevancy => ("lutsamik_begin_relevancy", stack.run(|| calls::begin_relevancy(&mut session, &table.0, answer, work))),
+        Engine::Magic => ("lutsamik_begin_magic", stack.run(|| calls::begin_magic(&mut session, &table.0, rules, answer, work))),
     };
     moved(name, answered(name, accepted(name, given)?, lent.answer, atoms)?, session)
 }
 
-/// Going on from a session with a further limit, or the number by which that is refused.
-pub fn resume(engine: Engine, from: &Session, further: u32, table: &Table, atoms: usize) -> Result<Result<Moved, u8>, Failure> {
+/// Going on from a session with a further limit, or the number by which that is refused; on this stack.
+pub fn resume(engine: Engine, stack: &mut Stack, from: &Session, further: u32, table: &Table, atoms: usize) -> Result<Result<Moved, u8>, Failure> {
     let (mut session, mut lent) = (*from, Lent::new());
     let Lent { rules, answer, work } = &mut lent;
     let (name, given) = match engine {
-        Engine::Relevancy => ("lutsamik_resume_relevancy", calls::resume_relevancy(&mut session, further, &table.0, answer, work)),
-        Engine::Magic => ("lutsamik_resume_magic", calls::resume_magic(&mut session, further, &table.0, rules, answer, work)),
+        Engine::Relevancy => ("lutsamik_resume_relevancy", stack.run(|| calls::resume_relevancy(&mut session, further, &table.0, answer, work))),
+        Engine::Magic => ("lutsamik_resume_magic", stack.run(|| calls::resume_magic(&mut session, further, &table.0, rules, answer, work))),
     };
     match refusal(given) {
         number @ (TOO_MANY_ENTRIES | NO_SESSION) => Ok(Err(number)),
@@ -251,15 +265,15 @@ fn answered(name: &str, given: u64, mut answer: Vec<u8>, atoms: usize) -> Result
     let verdict = [Verdict::None, Verdict::Fits, Verdict::Spent].into_iter().find(|verdict| *verdict as u8 == number);
     let senseless = || Failure::disagreement(format!("{name} answers {given:016X}, which means nothing"));
     answer.truncate(atoms);
-    Ok(Fit { verdict: verdict.ok_or_else(senseless)?, count: high(given), answer })
+    Ok(Fit { verdict: verdict.ok_or_else(senseless)?, count: high(given), deepest: given as u32 >> 16, answer })
 }
 
-/// The session that is left must have the verdict and the count that are answered.
+/// The session that is left must have the verdict, the count and the deepest figure that are answered.
 fn moved(name: &str, fit: Fit, session: Session) -> Result<Moved, Failure> {
-    if (session.verdict, session.count) == (fit.verdict as u8, fit.count) {
+    if (session.verdict, session.count, session.deepest) == (fit.verdict as u8, fit.count, fit.deepest) {
         return Ok(Moved { fit, session });
     }
-    let left = format!("a session of verdict {} and {} entries", session.verdict, session.count);
+    let left = format!("a session of verdict {} and {} entries on paths of up to {}", session.verdict, session.count, session.deepest);
     Err(Failure::disagreement(format!("{name} says {}, and leaves {left}", fit.told())))
 }
 

@@ -6,7 +6,7 @@ use crate::ending::{Ending, Failure};
 use crate::engines::Walk;
 use crate::fit::engines;
 use crate::interrupt;
-use crate::library::TOO_MANY_ENTRIES;
+use crate::library::{Session, TOO_MANY_ENTRIES};
 use crate::save::Save;
 use crate::session::Kept;
 use crate::source::{called, Source};
@@ -20,7 +20,8 @@ pub const COMMAND: Command = Command {
     help: "\
 Goes on with the walk of the ticket FILE from where SESSION says that it stands, and
 prints what 'fit' would print under all limits together. The session is then written
-back. One that has come to fits or none answers again.
+back. One that has come to fits or none answers again. Where the deepest path was
+entered in an earlier run, that one may have taken more memory than this one.
   --further N  at most N entries more
   --engine E   relevancy, magic, or both (the default), whichever came so far
   --save OTHER writes the session to this file instead, and leaves SESSION as it is
@@ -52,7 +53,8 @@ fn run(arguments: &Arguments) -> Result<Ending, Failure> {
     let save = save(file, arguments.option("--save"), kept.ticket)?;
     interrupt::catch();
     let count = kept.session.count;
-    let walk = Walk::resume(&engines, &accepted, &kept.session, further)?.map_err(|number| refused(file, number, count))?;
+    let resumed = Walk::resume(&engines, &accepted, &kept.session, further)?;
+    let walk = resumed.map_err(|number| refused(file, number, &kept.session, accepted.ticket.atoms()))?;
     Carry { arguments, file: ticket, engines: &engines, accepted: &accepted, most: count + further, stopper: "the further limit" }.on(walk, Some(save))
 }
 
@@ -65,10 +67,14 @@ fn save(file: &OsStr, other: Option<&OsStr>, ticket: Vec<u8>) -> Result<Save, Fa
     }
 }
 
-fn refused(file: &OsStr, number: u8, count: u32) -> Failure {
+fn refused(file: &OsStr, number: u8, session: &Session, atoms: usize) -> Failure {
     let file = called(file);
+    let Session { count, length, deepest, .. } = session;
     let why = match number {
         TOO_MANY_ENTRIES => format!("{file} has a count of {count}: at most {} entries more can be asked for", u32::MAX - count),
+        _ if *deepest < *length as u32 || *deepest as usize > atoms => {
+            format!("{file} has a deepest path of {deepest} entries: with its path and this ticket it has {length} to {atoms}")
+        }
         _ => format!("{file} does not stand at a place of this ticket's walk"),
     };
     Failure::refused(format!("{why} (refused by {number}); it is left as it is"))

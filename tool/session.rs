@@ -10,7 +10,7 @@ use std::fs::File;
 use std::io::{self, Read};
 
 const KIND: &str = "lutsamik session ";
-const VERSION: &str = "1";
+const VERSION: &str = "2";
 const CHECK: &str = "check: ";
 const VERDICTS: [Verdict; 3] = [Verdict::None, Verdict::Fits, Verdict::Spent];
 
@@ -37,10 +37,10 @@ impl Kept {
     }
 
     pub fn text(&self) -> Vec<u8> {
-        let Session { count, length, verdict, next, atoms, nexts } = &self.session;
+        let Session { count, length, verdict, next, atoms, nexts, deepest } = &self.session;
         let entries = atoms.iter().zip(nexts).take(*length as usize).map(|(atom, next)| format!("{atom} {next}\n"));
         let heading = format!("{KIND}{VERSION}\nverdict: {}\ncount: {count}\npath: {length}\n", VERDICTS[*verdict as usize].name());
-        let ticket = format!("next: {next}\nticket: {}\n", self.ticket.iter().filter(|byte| **byte == b'\n').count());
+        let ticket = format!("next: {next}\ndeepest: {deepest}\nticket: {}\n", self.ticket.iter().filter(|byte| **byte == b'\n').count());
         let before = std::iter::once(heading).chain(entries).chain([ticket]).collect::<String>();
         let body = [before.as_bytes(), &self.ticket].concat();
         let check = format!("{CHECK}{}\n", check(&body));
@@ -108,6 +108,8 @@ impl<'a> Lines<'a> {
         }
         let next = self.named("next")?;
         session.next = self.number(next)?;
+        let deepest = self.named("deepest")?;
+        session.deepest = self.number(deepest)?;
         Ok(session)
     }
 

@@ -3,7 +3,7 @@
 use crate::arguments::{Arguments, Command};
 use crate::ending::{Ending, Failure};
 use crate::engines;
-use crate::fit::{status, verdict_words};
+use crate::fit::{depth_words, status, verdict_words};
 use crate::library::{Engine, Fit};
 use crate::source::{self, Accepted, Source};
 use crate::svg;
@@ -25,7 +25,8 @@ the tree itself, and has the library confirm each place: what is true there by
 judging, what is wanted by fitting tickets derived from this one, and by both how
 the place is found. Such a ticket is refused where it has more clauses, conditions,
 predicates or atoms than a ticket can have; the place is then marked [unchecked].
-In any case the tree's verdict, count and fitting must be those of both engines.
+In any case the tree's verdict, count, deepest path and fitting must be those of
+both engines. The memory is what these took, as with 'fit'.
 Example: ./lutsamik trail --svg /tmp/trail.svg crates/cases/data/example_1.text",
     files: 1,
     rule: false,
@@ -41,13 +42,15 @@ fn run(arguments: &Arguments) -> Result<Ending, Failure> {
     let whole = Source::open(arguments.file(0))?.accepted()?;
     let accepted = whole.with_limit(whole.ticket.limit.min(entries))?;
     let trail = trail(&accepted)?;
-    let fit = engines::agreed(&[Engine::Relevancy, Engine::Magic], &accepted)?;
-    same(&trail, &fit)?;
+    let walk = engines::agreed(&[Engine::Relevancy, Engine::Magic], &accepted)?;
+    let fit = &walk.at.fit;
+    same(&trail, fit)?;
     if let Some(out) = arguments.option("--svg") {
-        source::put(out, svg::drawing(&accepted, &trail, &fit).as_bytes())?;
+        source::put(out, svg::drawing(&accepted, &trail, fit).as_bytes())?;
     }
     let stopper = if entries < whole.ticket.limit { "--entries" } else { "the limit" };
-    Ok(Ending::new(status(fit.verdict), words(&accepted, &trail, &verdict_words(&fit, accepted.ticket.limit, stopper))))
+    let verdict = verdict_words(fit, accepted.ticket.limit, stopper) + &depth_words(&walk.depth());
+    Ok(Ending::new(status(fit.verdict), words(&accepted, &trail, &verdict)))
 }
 
 /// behind a place that the library does not confirm
@@ -63,7 +66,8 @@ fn same(trail: &Trail, fit: &Fit) -> Result<(), Failure> {
         Some(Found::Open(fitting)) => fitting.clone(),
         _ => fit.answer.clone(),
     };
-    let tree = Fit { verdict: trail.verdict, count: (trail.places.len() - 1) as u32, answer };
+    let deepest = trail.places.iter().map(|place| place.depth as u32).max().unwrap_or(0);
+    let tree = Fit { verdict: trail.verdict, count: (trail.places.len() - 1) as u32, deepest, answer };
     if tree == *fit {
         return Ok(());
     }

@@ -27,6 +27,7 @@ static int lie(const char *name) {
 
 static const uint64_t ONE_ENTRY = (uint64_t)1 << 32;
 static const uint64_t OTHER_VERDICT = 1 << 8;
+static const uint64_t ONE_DEEPER = 1 << 16;
 
 /* A refused ticket is accepted: its table stays as it was. */
 uint64_t lutsamik_read(const uint8_t *text, size_t text_len, uint8_t *table, size_t table_len) {
@@ -85,16 +86,17 @@ uint64_t lutsamik_fit_relevancy(const uint8_t *table, size_t table_len, uint8_t 
     return fit;
 }
 
-/* What both engines say of going on: a count that is one too high, where there is one, of the session too or alone; a session that an engine left is
- * refused; or one that has too many entries is not. */
+/* What both engines say of going on: a count or a deepest figure that is one too high, where there is a count, of the session too or alone; a session
+ * that an engine left is refused; or one that has too many entries is not. */
 static uint64_t both(uint64_t fit, uint32_t further, struct lutsamik_session *session) {
     if (lie("refused") && further > 0) return LUTSAMIK_NO_SESSION;
     if (lie("never too many") && lutsamik_refusal(fit) == LUTSAMIK_TOO_MANY_ENTRIES) {
-        return (uint64_t)session->count << 32 | (uint64_t)session->verdict << 8;
+        return (uint64_t)session->count << 32 | session->deepest << 16 | (uint64_t)session->verdict << 8;
     }
     if (lutsamik_refusal(fit) != LUTSAMIK_OK || lutsamik_count(fit) == 0) return fit;
     if (lie("count of both") || lie("count of sessions")) session->count++;
-    return lie("count of both") ? fit + ONE_ENTRY : fit;
+    if (lie("deepest of both") || lie("deepest of sessions")) session->deepest++;
+    return fit + (lie("count of both") ? ONE_ENTRY : 0) + (lie("deepest of both") ? ONE_DEEPER : 0);
 }
 
 uint64_t lutsamik_resume_relevancy(struct lutsamik_session *session, uint32_t further, const uint8_t *table, size_t table_len, uint8_t *answer,
@@ -102,7 +104,7 @@ uint64_t lutsamik_resume_relevancy(struct lutsamik_session *session, uint32_t fu
     return both(TRUE(resume_relevancy)(session, further, table, table_len, answer, answer_len, work, work_len), further, session);
 }
 
-/* Another count, verdict, fitting or session than the relevancy engine's, or a refusal. */
+/* Another count, deepest figure, verdict, fitting or session than the relevancy engine's, or a refusal. */
 uint64_t lutsamik_resume_magic(struct lutsamik_session *session, uint32_t further, const uint8_t *table, size_t table_len, uint8_t *rules,
                                size_t rules_len, uint8_t *answer, size_t answer_len, uint8_t *work, size_t work_len) {
     uint64_t fit = TRUE(resume_magic)(session, further, table, table_len, rules, rules_len, answer, answer_len, work, work_len);
@@ -117,6 +119,10 @@ uint64_t lutsamik_resume_magic(struct lutsamik_session *session, uint32_t furthe
     if (lie("count")) {
         session->count++;
         return fit + ONE_ENTRY;
+    }
+    if (lie("deepest")) {
+        session->deepest++;
+        return fit + ONE_DEEPER;
     }
     return both(fit, further, session);
 }

@@ -44,7 +44,7 @@ mod tickets;
 
 use ending::Failure;
 use engines::Walk;
-use library::{Engine, Moved};
+use library::{Engine, Moved, Stack};
 use random::Random;
 use report::{same, Report};
 use session::Kept;
@@ -53,6 +53,7 @@ use threads::{add_each, row, Run, Tally};
 
 const TICKETS: u64 = 2_000;
 const BOTH: [Engine; 2] = [Engine::Relevancy, Engine::Magic];
+const STACK: usize = 1 << 20;
 
 fn main() {
     threads::run("resumed", TICKETS, 31, run);
@@ -75,14 +76,16 @@ fn compare(text: &[u8], run: &mut Run<Met>) -> Result<(), Report> {
     let source = Source { file: "ticket".to_string(), text: text.to_vec(), names: None, is_sheet: false };
     let accepted = source.accepted().map_err(told)?;
     let (atoms, most) = (accepted.ticket.atoms(), accepted.ticket.limit);
-    let whole = library::begin(Engine::Relevancy, &accepted.table, atoms).map_err(told)?;
+    let mut stack = Stack::painted(STACK);
+    let whole = library::begin(Engine::Relevancy, &mut stack, &accepted.table, atoms).map_err(told)?;
     for engine in BOTH {
-        same("a first run", &whole, &library::begin(engine, &accepted.table, atoms).map_err(told)?)?;
+        same("a first run", &whole, &library::begin(engine, &mut stack, &accepted.table, atoms).map_err(told)?)?;
         same("a fit", &whole.fit, &library::fit(engine, &accepted.table, atoms).map_err(told)?)?;
     }
     let mut walk = Walk::begin(&BOTH, &accepted).map_err(told)?;
     walk.run(most, &mut |_| Ok(())).map_err(told)?;
     same("a walk in slices", &whole, &walk.at)?;
+    same("the deepest path, of at most so many entries, in this run", (whole.fit.deepest, atoms, false), shown(&walk))?;
     let brought = brought_back(text, &accepted, run)?;
     same("a walk brought back", &whole, &brought)?;
     run.tally.met(&whole);
@@ -102,6 +105,9 @@ fn brought_back(text: &[u8], accepted: &Accepted, run: &mut Run<Met>) -> Result<
         let resumed = Walk::resume(engines, accepted, &kept.session, further).map_err(told)?;
         let mut walk = resumed.map_err(|number| format!("a session that was left is refused by {number}"))?;
         walk.run(kept.session.count + further, &mut |_| Ok(())).map_err(told)?;
+        let is_earlier = walk.at.session.deepest == kept.session.deepest && kept.session.deepest > 0;
+        same("the deepest path of a part", (walk.at.session.deepest, accepted.ticket.atoms(), is_earlier), shown(&walk))?;
+        run.tally.earlier += is_earlier as u64;
         (at, left) = (walk.at, left - further);
         run.tally.parts += 1;
     }
@@ -124,23 +130,31 @@ fn file(text: &[u8], accepted: &Accepted, whole: &Moved, random: &mut Random) ->
     same("a shorter ticket is taken", !is_shorter, kept.is_of(&shorter))
 }
 
+/// The deepest path as it is shown, how many entries it can have, and whether it was entered before.
+fn shown(walk: &Walk) -> (u32, usize, bool) {
+    let depth = walk.depth();
+    (depth.deepest, depth.most, depth.is_earlier)
+}
+
 fn told(failure: Failure) -> Report {
     failure.message
 }
 
-/// How often a walk came to none, fits and spent, how many parts they were walked in, and the longest path that a session held.
+/// How often a walk came to none, fits and spent, how many parts they were walked in, in how many of them the deepest path was not passed, and the
+/// deepest of all.
 #[derive(Default)]
 struct Met {
     tickets: u64,
     verdicts: [u64; 3],
     parts: u64,
+    earlier: u64,
     deepest: u64,
 }
 
 impl Met {
     fn met(&mut self, moved: &Moved) {
         self.verdicts[moved.fit.verdict as usize] += 1;
-        self.deepest = self.deepest.max(moved.session.length as u64);
+        self.deepest = self.deepest.max(moved.fit.deepest as u64);
     }
 }
 
@@ -149,17 +163,20 @@ impl Tally for Met {
         self.tickets += other.tickets;
         add_each(&mut self.verdicts, &other.verdicts);
         self.parts += other.parts;
+        self.earlier += other.earlier;
         self.deepest = self.deepest.max(other.deepest);
     }
 
     fn print(&self) {
-        println!("verdict       none     fits    spent\n         {}\nparts: {}, deepest path: {}", row(&self.verdicts), self.parts, self.deepest);
+        println!("verdict       none     fits    spent\n         {}", row(&self.verdicts));
+        println!("parts: {}, the deepest path not passed in {}, deepest path of all: {}", self.parts, self.earlier, self.deepest);
     }
 
     fn missing(&self) -> Vec<String> {
         let verdicts = ["none", "fits", "spent"].iter().zip(self.verdicts).filter(|(_, times)| *times == 0).map(|(verdict, _)| verdict.to_string());
         let shallow = (self.deepest < 5).then(|| "paths of 5 entries".to_string());
-        verdicts.chain(shallow).collect()
+        let earlier = (self.earlier == 0 || self.earlier == self.parts).then(|| "parts that pass the deepest path, and parts that do not".to_string());
+        verdicts.chain(shallow).chain(earlier).collect()
     }
 
     fn agreed(&self) -> String {

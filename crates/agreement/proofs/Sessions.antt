@@ -1,7 +1,7 @@
 -- The claims of `specs/Sessions.antt`, proved: what `search` shows of sessions, at the operations. A record holds each session of a walk, since its path has no more
 -- entries than there are atoms.
-use Prim.Native.Nat.{ℕ, suc, _+_, _≤_, _<_}
-use mathlib.Core.Bool.{Bool, true, false}
+use Prim.Native.Nat.{ℕ, _+_, _≤_, _<_}
+use mathlib.Core.Bool.{Bool, true, false, cond}
 use mathlib.Core.List.{List, [], _∷_, _++_}
 use mathlib.Core.Logic.{_↔_, _⊎_, inl, inr}
 use mathlib.Core.Option.{Option, none, some}
@@ -9,19 +9,17 @@ use mathlib.Core.Path.{_≡_, refl, sym, ap, ap₂, subst, _∙_}
 use native.Mathlib.Omega.{arith}
 use lib.Dec.{T}
 use lib.ListN.{length, take, drop}
-use borrow.Author.Tests.{le-ltb}
 use Rattle.lists.specs.Key.{Key}
 use Rattle.lists.proofs.Test.{T-true, lt-or-le}
-use Rattle.search.specs.Ground.{Ground, Proper, Model, Marked, Found, opened}
+use Rattle.search.specs.Ground.{Ground, Model, Marked, Found, opened}
 use Rattle.search.specs.Relevancy.{findR}
-use Rattle.search.specs.Machine.{Branch, Outcome, Satisfied, Exhausted, entries, proceed, outcome}
+use Rattle.search.specs.Machine.{Outcome, Satisfied, Exhausted, entries, proceed, outcome}
 use Rattle.search.specs.Sound.{SoundFind}
-use Rattle.search.specs.Session.{Step, Session, stepsOf, placeOf, sessionAfter, firstSession, Called, declined, told, called}
-use Rattle.search.specs.SessionRight.{Right, CallTold}
+use Rattle.search.specs.Session.{Session, placeOf, sessionAfter, firstSession, Called, declined, told, called}
+use Rattle.search.specs.SessionRight.{ShortPaths, Right, CallTold}
 use Rattle.search.specs.SessionClaims.{findBy, Call, Kept, keptAfter, firstKept, afterCalls as keptCalls, OneWalkKept, AnyOrigin}
-use Rattle.search.proofs.Session.{at-stands, path-genuine}
-use Rattle.search.proofs.SessionRight.{path-right, right-stands}
-use Rattle.search.proofs.Sound.{path-short}
+use Rattle.search.proofs.Deepest.{deep-stands}
+use Rattle.search.proofs.SessionLeft.{call-told}
 use Rattle.search.proofs.Theorems.{theorems as walks}
 use Rattle.problem.specs.Problem.{Fits}
 use Rattle.problem.specs.Layout.{problemIn}
@@ -31,7 +29,7 @@ use Rattle.ground.specs.Instance.{Instance, groundIn}
 use Rattle.ground.specs.Names.{instanceKey}
 use Rattle.ground.specs.Verdict.{verdictOf, answerOf}
 use Rattle.ground.specs.Walks.{magic}
-use Rattle.ground.proofs.Instances.{atoms-few, ground-proper}
+use Rattle.ground.proofs.Instances.{atoms-few}
 use Rattle.judging.specs.declared.judge.Judging.the-variants.{Model as IsModel}
 use Rattle.judging.specs.ModelCheck.{judgeResult}
 use Rattle.judging.specs.Demand2.{groundLent, limitLent, Demand2}
@@ -43,7 +41,7 @@ use Rattle.rewriting.proofs.RegroupLaws.{find-by, rules-sound}
 use Rattle.session.specs.declared.record.Session.{Session as Record}
 use Rattle.session.specs.Record.{sessionIn, laid}
 use Rattle.session.specs.Calls.{calledIn, begunBy, screened}
-use Rattle.session.proofs.RecordLaws.{held-laid}
+use Rattle.session.proofs.RecordLaws.{held-laid, laid-deepest}
 use Rattle.session.proofs.CallLaws.{screened-on, screened-told, held-count, called-held, called-none, called-over, called-empty}
 use Rattle.relevancy.specs.Engine.{tooShort}
 use Rattle.relevancy.specs.Sessions.{begun, resumed}
@@ -55,7 +53,7 @@ use Rattle.magic.proofs.EngineLaws as magic-ways
 use Rattle.magic.proofs.SessionLaws as magic-calls
 use Rattle.agreement.specs.Claims.{BothTaken}
 use Rattle.agreement.specs.Sessions.{Lent, byEngine, begins, goesOn, Carried, carriedBy, carriedFirst, carriedAfter, SameProblem, OnProblem, BroughtBack, FromThere, AnyRecord, Theorems}
-use Rattle.agreement.proofs.Theorems.{find-is, facts-over}
+use Rattle.agreement.proofs.Theorems.{proper, find-is, facts-over}
 
 -- the walk of a lent table, and that of an engine
 abbrev walkOf : List ℕ → List ℕ → Found Instance
@@ -64,21 +62,9 @@ walkOf tb = findR (groundLent tb)
 abbrev walkBy : List ℕ → Bool → List ℕ → Found Instance
 walkBy tb m = findBy instanceKey (groundLent tb) m
 
--- ---- the path of a session of a sound walk
-
-module _ {I : Type 0} (p : Ground I) (find : List ℕ → Found I) (sound : SoundFind p find) where
-  steps-length : (bs : List (Branch I)) → length (stepsOf find bs) ≡ length bs
-  steps-length [] = refl
-  steps-length (b ∷ bs) = ap suc (steps-length bs)
-
-  -- it has no more entries than there are atoms
-  right-short : (s : Session) → Right find s → length (s .path) ≤ p .atoms
-  right-short s right =
-      let w = right-stands find s right in
-      let path-of = at-stands find s (w .0) (w .1) .path-of in
-      let bs : List (Branch I) = (w .0) .path in
-      let same : length (s .path) ≡ length bs = ap (λ (ss : List Step). length ss) (sym (path-right find (s .path) bs path-of .steps-are)) ∙ steps-length bs in
-      rw same (path-short p find (sound .split-fresh) bs (path-genuine find (s .path) bs path-of))
+-- over so many atoms
+abbrev atomsIn : List ℕ → ℕ
+atomsIn tb = (groundLent tb) .atoms
 
 -- ---- a ticket
 
@@ -99,15 +85,15 @@ module _ (tb : List ℕ) (valid : Valid (take 4096 tb)) where
   fits : Fits (problemIn (take 4096 tb))
   fits = tables .lawful own valid .fits
 
-  proper : Proper (groundLent tb)
-  proper = ground-proper (problemIn own) fits
-
   sound : SoundFind (groundLent tb) (walkOf tb)
-  sound = walks .relevancy-sound (groundLent tb) proper
+  sound = walks .relevancy-sound (groundLent tb) (proper tb valid)
+
+  short-paths : ShortPaths (walkOf tb) (atomsIn tb)
+  short-paths = walks .sound-walk (groundLent tb) (walkOf tb) sound .short-paths
 
   -- a session of its walk is held by its record
-  right-held : (s : Session) → Right (walkOf tb) s → sessionIn (laid s) ≡ some s
-  right-held s right = held-laid s (omega (arith, right-short (groundLent tb) (walkOf tb) sound s right, atoms-few (problemIn own) fits))
+  right-held : (s : Session) → Right (walkOf tb) (atomsIn tb) s → sessionIn (laid s) ≡ some s
+  right-held s right = held-laid s (omega (arith, right .deep-enough, right .deep-within, atoms-few (problemIn own) fits))
 
   -- the walk by its rules, over whatever the rules buffer held
   rules-find : (rules : List ℕ) → findIn (rulesOver (take 4096 tb) rules) ≡ walkBy tb true
@@ -120,28 +106,32 @@ module _ (tb : List ℕ) (valid : Valid (take 4096 tb)) where
   -- comes to the same outcome as the table's own
   magic-outcome : (rules : List ℕ) (limit : ℕ) → outcome (findIn (rulesOver (take 4096 tb) rules)) limit ≡ outcome (walkOf tb) limit
   magic-outcome rules limit =
-      ap (λ (f : List ℕ → Found Instance). outcome f limit) (rules-find rules) ∙ walks .one-walk-kept instanceKey (groundLent tb) true limit [] .answer-is
+      ap (λ (f : List ℕ → Found Instance). outcome f limit) (rules-find rules) ∙ walks .one-walk-kept instanceKey (groundLent tb) (proper tb valid) true limit [] .answer-is
 
 -- a call on the ticket is refused by 11 or 31, or goes on by its engine's walk
-goes-on : (tb : List ℕ) (r : Record) (c : Lent) → SameProblem tb c → EarlyOr (goesOn r c) (calledIn (walkBy tb (c .magic)) r (c .further))
+goes-on : (tb : List ℕ) (r : Record) (c : Lent) → SameProblem tb c → EarlyOr (goesOn r c) (calledIn (walkBy tb (c .magic)) (atomsIn tb) r (c .further))
 unfolding resumed magicResumed
 goes-on tb r c same = go (c .magic)
   where
     by-walk : (short : Bool) (f g : List ℕ → Found Instance) → (isValid (take 4096 (c .table)) ≡ true → f ≡ g)
-        → EarlyOr (screened short (isValid (take 4096 (c .table))) (calledIn f r (c .further))) (calledIn g r (c .further))
-    by-walk short f g e = at (screened-on short (isValid (take 4096 (c .table))) (calledIn f r (c .further)))
+        → EarlyOr (screened short (isValid (take 4096 (c .table))) (calledIn f (atomsIn (c .table)) r (c .further))) (calledIn g (atomsIn tb) r (c .further))
+    by-walk short f g e = at (screened-on short (isValid (take 4096 (c .table))) on)
       where
-        x : Called
-        x = screened short (isValid (take 4096 (c .table))) (calledIn f r (c .further))
+        on : Called
+        on = calledIn f (atomsIn (c .table)) r (c .further)
 
-        at : (x ≡ declined 11) ⊎ (x ≡ declined 31) ⊎ ((isValid (take 4096 (c .table)) ≡ true) × (x ≡ calledIn f r (c .further))) → EarlyOr x (calledIn g r (c .further))
+        x : Called
+        x = screened short (isValid (take 4096 (c .table))) on
+
+        at : (x ≡ declined 11) ⊎ (x ≡ declined 31) ⊎ ((isValid (take 4096 (c .table)) ≡ true) × (x ≡ on)) → EarlyOr x (calledIn g (atomsIn tb) r (c .further))
         at (inl q) = inl q
         at (inr (inl q)) = inr (inl q)
-        at (inr (inr q)) = inr (inr (q .1 ∙ ap (λ (h : List ℕ → Found Instance). calledIn h r (c .further)) (e (q .0))))
+        at (inr (inr q)) =
+            inr (inr (q .1 ∙ ap₂ (λ (h : List ℕ → Found Instance) (n : ℕ). calledIn h n r (c .further)) (e (q .0)) (ap (λ (p : Ground Instance). p .atoms) same)))
 
     go : (m : Bool)
         → EarlyOr (byEngine m (magicResumed r (c .further) (c .table) (c .rules) (c .answer) (c .work)) (resumed r (c .further) (c .table) (c .answer) (c .work)))
-        (calledIn (walkBy tb m) r (c .further))
+        (calledIn (walkBy tb m) (atomsIn tb) r (c .further))
     go true =
         by-walk (magicTooShort (c .table) (c .rules) (c .answer) (c .work)) (findIn (rulesOver (take 4096 (c .table)) (take 16384 (c .rules)))) (walkBy tb true)
         (λ v. rules-find (c .table) (is-valid (take 4096 (c .table)) v) (take 16384 (c .rules)) ∙ ap (λ (p : Ground Instance). findBy instanceKey p true) same)
@@ -187,7 +177,7 @@ began first o s = go (first .magic)
 
 -- what a list of calls keeps, with the session in its record
 abbrev carriedOf : Kept → Carried
-carriedOf k = record { answered = k .answered; kept = laid (k .session); sum = k .sum }
+carriedOf k = record { answered = k .answered; shown = k .session .deepest; kept = laid (k .session); sum = k .sum }
 
 carried-after : (k : Kept) (further : ℕ) (x : Called) → carriedBy (carriedOf k) further x ≡ carriedOf (keptAfter k further x)
 carried-after k further (declined e) = refl
@@ -197,9 +187,9 @@ module _ {I : Type 0} (k : Key I) (p : Ground I) where
   -- one call more
   calls-more : (cs : List Call) (c : Call) (was : Kept)
       → keptCalls k p (cs ++ (c ∷ [])) was
-      ≡ keptAfter (keptCalls k p cs was) (c .further) (called (findBy k p (c .magic)) ((keptCalls k p cs was) .session) (c .further))
+      ≡ keptAfter (keptCalls k p cs was) (c .further) (called (findBy k p (c .magic)) (p .atoms) ((keptCalls k p cs was) .session) (c .further))
   calls-more [] c was = refl
-  calls-more (d ∷ cs) c was = calls-more cs c (keptAfter was (d .further) (called (findBy k p (d .magic)) (was .session) (d .further)))
+  calls-more (d ∷ cs) c was = calls-more cs c (keptAfter was (d .further) (called (findBy k p (d .magic)) (p .atoms) (was .session) (d .further)))
 
 module _ (tb : List ℕ) (long : 4096 ≤ length tb) (valid : Valid (take 4096 tb)) (m : Bool) where
   -- after a first run and these calls, none refused by 11 or 31
@@ -210,25 +200,25 @@ module _ (tb : List ℕ) (long : 4096 ≤ length tb) (valid : Valid (take 4096 t
   sessionBy cs = (keptBy cs) .session
 
   one-walk : (cs : List Call) → OneWalkKept instanceKey (groundLent tb) m (limitLent tb) cs
-  one-walk cs = walks .one-walk-kept instanceKey (groundLent tb) m (limitLent tb) cs
+  one-walk cs = walks .one-walk-kept instanceKey (groundLent tb) (proper tb valid) m (limitLent tb) cs
 
   -- its session is in the record left
   kept-held : (cs : List Call) → sessionIn (laid (sessionBy cs)) ≡ some (sessionBy cs)
   kept-held cs =
       subst (λ (s : Session). sessionIn (laid s) ≡ some s) (sym (one-walk cs .session-is))
-      (right-held tb valid (firstSession (walkOf tb) ((keptBy cs) .sum)) (walks .any-session (walkOf tb) .first-left ((keptBy cs) .sum) .right))
+      (right-held tb valid (firstSession (walkOf tb) ((keptBy cs) .sum)) (walks .any-session (walkOf tb) (atomsIn tb) .first-left (short-paths tb valid) ((keptBy cs) .sum) .right))
 
   -- a call then is refused by 11 or 31, or goes on with that session
   abbrev CallIs : List Call → Lent → Type 0
-  CallIs cs c = EarlyOr (goesOn (laid (sessionBy cs)) c) (called (walkBy tb (c .magic)) (sessionBy cs) (c .further))
+  CallIs cs c = EarlyOr (goesOn (laid (sessionBy cs)) c) (called (walkBy tb (c .magic)) (atomsIn tb) (sessionBy cs) (c .further))
 
   call-is : (cs : List Call) (c : Lent) → SameProblem tb c → CallIs cs c
   call-is cs c same = go (goes-on tb (laid (sessionBy cs)) c same)
     where
-      go : EarlyOr (goesOn (laid (sessionBy cs)) c) (calledIn (walkBy tb (c .magic)) (laid (sessionBy cs)) (c .further)) → CallIs cs c
+      go : EarlyOr (goesOn (laid (sessionBy cs)) c) (calledIn (walkBy tb (c .magic)) (atomsIn tb) (laid (sessionBy cs)) (c .further)) → CallIs cs c
       go (inl e) = inl e
       go (inr (inl e)) = inr (inl e)
-      go (inr (inr e)) = inr (inr (e ∙ called-held (walkBy tb (c .magic)) (laid (sessionBy cs)) (c .further) (sessionBy cs) (kept-held cs)))
+      go (inr (inr e)) = inr (inr (e ∙ called-held (walkBy tb (c .magic)) (atomsIn tb) (laid (sessionBy cs)) (c .further) (sessionBy cs) (kept-held cs)))
 
   call-kept : (cs : List Call) (c : Lent) → SameProblem tb c
       → (ds : List Call) × (carriedBy (carriedOf (keptBy cs)) (c .further) (goesOn (laid (sessionBy cs)) c) ≡ carriedOf (keptBy ds))
@@ -242,7 +232,7 @@ module _ (tb : List ℕ) (long : 4096 ≤ length tb) (valid : Valid (take 4096 t
           let d : Call = record { magic = c .magic; further = c .further } in (
             cs ++ (d ∷ []),
             ap (carriedBy (carriedOf (keptBy cs)) (c .further)) e
-                ∙ carried-after (keptBy cs) (c .further) (called (walkBy tb (c .magic)) (sessionBy cs) (c .further))
+                ∙ carried-after (keptBy cs) (c .further) (called (walkBy tb (c .magic)) (atomsIn tb) (sessionBy cs) (c .further))
                 ∙ ap carriedOf (sym (calls-more instanceKey (groundLent tb) cs d (firstKept instanceKey (groundLent tb) m (limitLent tb)))),
           )
 
@@ -278,6 +268,8 @@ module _ (tb : List ℕ) (long : 4096 ≤ length tb) (valid : Valid (take 4096 t
             (judgings .demand-2 (findIn (rulesOver (take 4096 tb) rules)) ((keptBy cs) .sum) tb answer long wide valid (rules-right tb valid rules));
         always-stands = λ c same e. not-nowhere c e (call-is cs c same);
         finished-again = λ over c same o s e. again over c o s e (call-is cs c same);
+        shown-is = sym (laid-deepest (sessionBy cs));
+        deepest-bounds = w .deepest-bounds false;
       }
     where
       not-nowhere : (c : Lent) → goesOn (laid (sessionBy cs)) c ≡ declined 42 → CallIs cs c → ⊥
@@ -336,16 +328,16 @@ module _ (tb rules answer work₁ work₂ : List ℕ) (taken : BothTaken tb rule
   table-valid = taken .by-relevancy .valid
 
   -- both calls go on by the walks of the table
-  by-relevancy : resumed r further tb answer work₁ ≡ calledIn (walkOf tb) r further
+  by-relevancy : resumed r further tb answer work₁ ≡ calledIn (walkOf tb) (atomsIn tb) r further
   by-relevancy =
       let t = taken .by-relevancy in
       relevancy-calls.resumed-runs tb answer work₁ r further (relevancy-ways.long-enough tb answer work₁ (t .table-long) (t .answer-long) (t .work-long)) (good tb table-valid)
 
-  by-magic : magicResumed r further tb rules answer work₂ ≡ calledIn (walkBy tb true) r further
+  by-magic : magicResumed r further tb rules answer work₂ ≡ calledIn (walkBy tb true) (atomsIn tb) r further
   by-magic =
       let t = taken .by-magic in
       magic-calls.resumed-runs tb rules answer work₂ r further (magic-ways.long-enough tb rules answer work₂ (t .table-long) (t .rules-long) (t .answer-long) (t .work-long)) (good tb table-valid)
-      ∙ ap (λ (f : List ℕ → Found Instance). calledIn f r further) (rules-find tb table-valid (take 16384 rules))
+      ∙ ap (λ (f : List ℕ → Found Instance). calledIn f (atomsIn tb) r further) (rules-find tb table-valid (take 16384 rules))
 
   origin : (s : Session) → AnyOrigin instanceKey (groundLent tb) s further
   origin s = walks .any-origin instanceKey (groundLent tb) (proper tb table-valid) s further
@@ -353,37 +345,41 @@ module _ (tb rules answer work₁ work₂ : List ℕ) (taken : BothTaken tb rule
   calls : magicResumed r further tb rules answer work₂ ≡ resumed r further tb answer work₁
   calls = by-magic ∙ go (sessionIn r) refl ∙ sym by-relevancy
     where
-      go : (x : Option Session) → sessionIn r ≡ x → calledIn (walkBy tb true) r further ≡ calledIn (walkOf tb) r further
-      go none e = called-none (walkBy tb true) r further e ∙ sym (called-none (walkOf tb) r further e)
-      go (some s) e = called-held (walkBy tb true) r further s e ∙ origin s .calls ∙ sym (called-held (walkOf tb) r further s e)
+      go : (x : Option Session) → sessionIn r ≡ x → calledIn (walkBy tb true) (atomsIn tb) r further ≡ calledIn (walkOf tb) (atomsIn tb) r further
+      go none e = called-none (walkBy tb true) (atomsIn tb) r further e ∙ sym (called-none (walkOf tb) (atomsIn tb) r further e)
+      go (some s) e = called-held (walkBy tb true) (atomsIn tb) r further s e ∙ origin s .calls ∙ sym (called-held (walkOf tb) (atomsIn tb) r further s e)
 
   module _ (within : r .count + further ≤ 4294967295) where
     held-within : (s : Session) → sessionIn r ≡ some s → s .count + further ≤ 4294967295
     held-within s e = rw (held-count r s e) within
 
-    on-held : (s : Session) → sessionIn r ≡ some s → resumed r further tb answer work₁ ≡ called (walkOf tb) s further
-    on-held s e = by-relevancy ∙ called-held (walkOf tb) r further s e
+    on-held : (s : Session) → sessionIn r ≡ some s → resumed r further tb answer work₁ ≡ called (walkOf tb) (atomsIn tb) s further
+    on-held s e = by-relevancy ∙ called-held (walkOf tb) (atomsIn tb) r further s e
 
-    refused-42 : (resumed r further tb answer work₁ ≡ declined 42) ↔ ((s : Session) → sessionIn r ≡ some s → Right (walkOf tb) s → ⊥)
-    refused-42 = (λ e s held. walks .any-session (walkOf tb) .refused-42 s further (held-within s held) .0 (sym (on-held s held) ∙ e), λ h. go h (sessionIn r) refl)
+    refused-42 : (resumed r further tb answer work₁ ≡ declined 42) ↔ ((s : Session) → sessionIn r ≡ some s → Right (walkOf tb) (atomsIn tb) s → ⊥)
+    refused-42 = (λ e s held. walks .any-session (walkOf tb) (atomsIn tb) .refused-42 s further (held-within s held) .0 (sym (on-held s held) ∙ e), λ h. go h (sessionIn r) refl)
       where
-        go : ((s : Session) → sessionIn r ≡ some s → Right (walkOf tb) s → ⊥) → (x : Option Session) → sessionIn r ≡ x → resumed r further tb answer work₁ ≡ declined 42
-        go h none e = by-relevancy ∙ called-empty (walkOf tb) r further within e
-        go h (some s) e = on-held s e ∙ walks .any-session (walkOf tb) .refused-42 s further (held-within s e) .1 (h s e)
+        go : ((s : Session) → sessionIn r ≡ some s → Right (walkOf tb) (atomsIn tb) s → ⊥) → (x : Option Session) → sessionIn r ≡ x → resumed r further tb answer work₁ ≡ declined 42
+        go h none e = by-relevancy ∙ called-empty (walkOf tb) (atomsIn tb) r further within e
+        go h (some s) e = on-held s e ∙ walks .any-session (walkOf tb) (atomsIn tb) .refused-42 s further (held-within s e) .1 (h s e)
 
-    module _ (s : Session) (held : sessionIn r ≡ some s) (right : Right (walkOf tb) s) where
-      call : CallTold (walkOf tb) s further
-      call = walks .any-session (walkOf tb) .told-right s further (held-within s held) right
+    module _ (s : Session) (held : sessionIn r ≡ some s) (right : Right (walkOf tb) (atomsIn tb) s) where
+      call : CallTold (walkOf tb) (atomsIn tb) s further
+      call = walks .any-session (walkOf tb) (atomsIn tb) .told-right (short-paths tb table-valid) s further (held-within s held) right
 
       -- what it says is the outcome of running on from its place, by either walk
-      runs : (m : Bool) → placeOf (walkBy tb m) s ≡ some (call .place) → called (walkBy tb m) s further ≡ told (call .outcome) (call .left)
+      runs : (m : Bool) → placeOf (walkBy tb m) s ≡ some (call .place) → called (walkBy tb m) (atomsIn tb) s further ≡ told (call .outcome) (call .left)
           → call .outcome ≡ proceed (walkBy tb m) further (s .count) (call .place)
-      unfolding called
       runs m stands calls =
           let f : List ℕ → Found Instance = walkBy tb m in
-          let so : called f s further ≡ told (proceed f further (s .count) (call .place)) (sessionAfter f further (s .count) (call .place)) =
-          rw (le-ltb 4294967295 (s .count + further) (held-within s held), stands) in
-          (told-parts (proceed f further (s .count) (call .place)) (call .outcome) (sessionAfter f further (s .count) (call .place)) (call .left) (sym so ∙ calls)) .0
+          let so = call-told f (atomsIn tb) s further (call .place) (held-within s held)
+          (ap (λ (b : Bool). cond b (placeOf f s) none) (deep-stands (atomsIn tb) s (right .deep-enough) (right .deep-within)) ∙ stands) in
+          (told-parts
+          (proceed f further (s .count) (call .place))
+          (call .outcome)
+          (sessionAfter f further (s .count) (s .deepest) (call .place))
+          (call .left)
+          (sym so ∙ calls)) .0
 
       by-rules : findIn (magicRules tb rules answer work₂) ≡ walkBy tb true
       by-rules = find-is tb rules answer work₁ work₂ taken
@@ -418,7 +414,7 @@ module _ (tb rules answer work₁ work₂ : List ℕ) (taken : BothTaken tb rule
   any-record =
       record {
         calls = calls;
-        refused-41 = λ over. by-relevancy ∙ called-over (walkOf tb) r further over;
+        refused-41 = λ over. by-relevancy ∙ called-over (walkOf tb) (atomsIn tb) r further over;
         refused-42 = refused-42;
         told-from = λ within s held right.
             let c = call within s held right in

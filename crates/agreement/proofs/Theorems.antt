@@ -1,31 +1,44 @@
 -- The claims of `specs/Claims.antt`, proved: the two walks of a ground problem are one (`search`), and each operation's verdict is that of its own walk.
 use Prim.Native.Nat.{ℕ, _≤_}
-use mathlib.Core.List.{List}
+use mathlib.Core.Bool.{Bool, true, false}
+use mathlib.Core.List.{List, []}
 use mathlib.Core.Path.{_≡_, sym, ap, subst, _∙_}
-use lib.ListN.{length}
+use lib.ListN.{length, take}
 use Rattle.lists.specs.Member.{All}
 use Rattle.lists.proofs.Member.{all-map}
-use Rattle.search.specs.Ground.{Ground, Found}
+use Rattle.search.specs.Ground.{Ground, Proper, Found}
 use Rattle.search.specs.Relevancy.{findR}
 use Rattle.search.specs.Magic.{tru, rel, rewriting, findM}
+use Rattle.search.specs.Deepest.{Bounds}
 use Rattle.search.specs.Machine.{Place, Outcome, entered, trail, outcome}
+use Rattle.search.specs.Session.{Session, firstSession}
+use Rattle.search.specs.SessionClaims.{OneWalkKept}
 use Rattle.search.specs.Trails.{OneTrail, SameFacts as SameAt}
 use Rattle.search.proofs.Theorems.{theorems as walks}
 use Rattle.problem.specs.Problem.{Problem, limitOf}
+use Rattle.problem.specs.Layout.{problemIn}
+use Rattle.problem.specs.Table.{Valid}
 use Rattle.problem.proofs.Parse.{parse-text}
+use Rattle.problem.proofs.Theorems.{theorems as tables}
 use Rattle.reading.specs.declared.read.Reading.the-variants.{Accepted}
 use Rattle.reading.specs.Read.{readResult, readLeaves}
 use Rattle.reading.proofs.TextRead.{TextRead, text-read, text-fits, table-long, table-valid, table-back}
 use Rattle.ground.specs.Instance.{Instance, groundOf}
 use Rattle.ground.specs.Names.{instanceKey}
 use Rattle.ground.specs.Verdict.{verdictOf, answerOf}
+use Rattle.ground.proofs.Instances.{ground-proper}
 use Rattle.judging.specs.Demand2.{groundLent, limitLent, Demand2}
-use Rattle.relevancy.specs.Engine.{fitResult, fitAnswer}
+use Rattle.session.specs.Calls.{deepestTold}
+use Rattle.relevancy.specs.Engine.{fitResult, fitDeepest, fitAnswer}
 use Rattle.relevancy.proofs.Theorems as relevancy
 use Rattle.rewriting.specs.Facts.{findIn}
-use Rattle.magic.specs.Engine.{magicResult, magicRules, magicAnswer}
+use Rattle.magic.specs.Engine.{magicResult, magicDeepest, magicRules, magicAnswer}
 use Rattle.magic.proofs.Theorems as magic
 use Rattle.agreement.specs.Claims.{BothTaken, SameFacts, OneWalk, TextFitted, Theorems}
+
+-- the ground problem of a table that a text reads to is proper
+pub proper : (tb : List ℕ) → Valid (take 4096 tb) → Proper (groundLent tb)
+proper tb valid = ground-proper (problemIn (take 4096 tb)) (tables .lawful (take 4096 tb) valid .fits)
 
 -- ---- a call that both operations take
 
@@ -61,6 +74,21 @@ module _ (tb rules answer work₁ work₂ : List ℕ) (taken : BothTaken tb rule
   outcomes : outcome (findIn bs) (limitLent tb) ≡ outcome (findR p) (limitLent tb)
   outcomes = ap (λ (f : List ℕ → Found Instance). outcome f (limitLent tb)) find-is ∙ one .outcomes
 
+  -- a first run by either engine
+  first-run : (by : Bool) → OneWalkKept instanceKey p by (limitLent tb) []
+  first-run by = walks .one-walk-kept instanceKey p (proper tb (taken .by-relevancy .valid)) by (limitLent tb) []
+
+  -- each engine's deepest figure is that of the session which the relevancy walk's first run leaves
+  figure : fitDeepest tb answer work₁ ≡ (firstSession (findR p) (limitLent tb)) .deepest
+  figure = sym (relevancy.theorems .begun-shows tb answer work₁) ∙ ap deepestTold (relevancy.theorems .begun-told tb answer work₁ (taken .by-relevancy))
+
+  magic-figure : magicDeepest tb rules answer work₂ ≡ (firstSession (findR p) (limitLent tb)) .deepest
+  magic-figure =
+      sym (magic.theorems .begun-shows tb rules answer work₂)
+      ∙ ap deepestTold (magic.theorems .begun-told tb rules answer work₂ (taken .by-magic))
+      ∙ ap (λ (f : List ℕ → Found Instance). (firstSession f (limitLent tb)) .deepest) find-is
+      ∙ ap (λ (s : Session). s .deepest) (first-run true .session-is)
+
   demand-3 : OneWalk tb rules answer work₁ work₂ bs
   demand-3 =
       let verdict₁ = relevancy.verdict-is tb answer work₁ (taken .by-relevancy) in
@@ -76,6 +104,8 @@ module _ (tb rules answer work₁ work₂ : List ℕ) (taken : BothTaken tb rule
         left-by-magic = answer₂;
         verdicts = verdict₂ ∙ ap verdictOf outcomes ∙ sym verdict₁;
         answers = answer₂ ∙ ap (λ (o : Outcome). answerOf o answer) outcomes ∙ sym answer₁;
+        deepest-bounds = subst (Bounds (p .atoms) 0 (trail (findR p) (limitLent tb))) (sym figure) (first-run false .deepest-bounds false);
+        deepests = magic-figure ∙ sym figure;
       }
 
 -- ---- from a text to the verdicts

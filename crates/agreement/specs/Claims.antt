@@ -8,6 +8,7 @@ use lib.ListN.{length, take}
 use Rattle.lists.specs.Member.{All}
 use Rattle.search.specs.Relevancy.{isTrue, isRelevant, findR}
 use Rattle.search.specs.Magic.{tru, rel, holds}
+use Rattle.search.specs.Deepest.{Bounds}
 use Rattle.search.specs.Machine.{Place, entered, trail, outcome}
 use Rattle.problem.specs.Problem.{limitOf}
 use Rattle.problem.specs.Layout.{problemIn}
@@ -19,10 +20,10 @@ use Rattle.ground.specs.Names.{instanceKey}
 use Rattle.ground.specs.Verdict.{verdictOf, answerOf}
 use Rattle.judging.specs.Demand2.{groundLent, limitLent, Demand2}
 use Rattle.relevancy.specs.Claims.{Taken}
-use Rattle.relevancy.specs.Engine.{fitResult, fitAnswer}
+use Rattle.relevancy.specs.Engine.{fitResult, fitDeepest, fitAnswer}
 use Rattle.rewriting.specs.Facts.{falseIn, magicIn, findIn}
 use Rattle.magic.specs.Claims.{MagicTaken}
-use Rattle.magic.specs.Engine.{magicResult, magicRules, magicAnswer}
+use Rattle.magic.specs.Engine.{magicResult, magicDeepest, magicRules, magicAnswer}
 
 -- both operations take the call
 pub record BothTaken (tb rules answer work₁ work₂ : List ℕ) : Type 0 where
@@ -49,6 +50,9 @@ pub record OneWalk (tb rules answer work₁ work₂ bs : List ℕ) : Type 0 wher
   -- and they are equal
   pub verdicts : magicResult tb rules answer work₂ ≡ fitResult tb answer work₁
   pub answers : magicAnswer tb rules answer work₂ ≡ fitAnswer tb answer work₁
+  -- U2: and so are their deepest figures
+  pub deepest-bounds : Bounds ((groundLent tb) .atoms) 0 (trail (findR (groundLent tb)) (limitLent tb)) (fitDeepest tb answer work₁)
+  pub deepests : magicDeepest tb rules answer work₂ ≡ fitDeepest tb answer work₁
 
 -- the table that a text was read into, fitted by both engines: demands 2 and 3, of the problem that has this text
 pub record TextFitted (x tb rules answer work₁ work₂ : List ℕ) : Type 1 where

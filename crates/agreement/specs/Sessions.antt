@@ -9,7 +9,8 @@ use mathlib.Core.Path.{_≡_}
 use lib.ListN.{length, take}
 use Rattle.lists.specs.Member.{All}
 use Rattle.search.specs.Relevancy.{findR}
-use Rattle.search.specs.Machine.{Place, Outcome, Satisfied, Exhausted, entries, outcome, proceed}
+use Rattle.search.specs.Deepest.{Bounds}
+use Rattle.search.specs.Machine.{Place, Outcome, Satisfied, Exhausted, entries, trail, outcome, proceed}
 use Rattle.search.specs.Session.{exhausted, Session, placeOf, firstSession, Called, declined, told}
 use Rattle.search.specs.SessionRight.{Right, RunLeft, StandsThere}
 use Rattle.ground.specs.Instance.{Instance}
@@ -21,7 +22,7 @@ use Rattle.rewriting.specs.Facts.{findIn}
 use Rattle.rewriting.specs.Rewrite.{rulesOver}
 use Rattle.session.specs.declared.record.Session.{Session as Record}
 use Rattle.session.specs.Record.{sessionIn, laid}
-use Rattle.session.specs.Calls.{recordLeft}
+use Rattle.session.specs.Calls.{deepestTold, recordLeft}
 use Rattle.relevancy.specs.Claims.{Taken}
 use Rattle.relevancy.specs.Sessions.{begun, resumed}
 use Rattle.magic.specs.Engine.{magicRules}
@@ -50,19 +51,20 @@ begins c = byEngine (c .magic) (magicBegun (c .table) (c .rules) (c .answer) (c 
 abbrev pub goesOn : Record → Lent → Called
 goesOn r c = byEngine (c .magic) (magicResumed r (c .further) (c .table) (c .rules) (c .answer) (c .work)) (resumed r (c .further) (c .table) (c .answer) (c .work))
 
--- where a list of calls has come to: the last answer that is no refusal, the record left, and the sum of L and the limits not refused
+-- where a list of calls has come to: the last answer that is no refusal, with its deepest figure, the record left, and the sum of L and the limits not refused
 pub record Carried : Type 0 where
   pub answered : Outcome
+  pub shown : ℕ
   pub kept : Record
   pub sum : ℕ
 
 abbrev pub carriedBy : Carried → ℕ → Called → Carried
-carriedBy k further (declined e) = record { answered = k .answered; kept = recordLeft (declined e) (k .kept); sum = k .sum }
-carriedBy k further (told o s) = record { answered = o; kept = recordLeft (told o s) (k .kept); sum = k .sum + further }
+carriedBy k further (declined e) = record { answered = k .answered; shown = k .shown; kept = recordLeft (declined e) (k .kept); sum = k .sum }
+carriedBy k further (told o s) = record { answered = o; shown = deepestTold (told o s); kept = recordLeft (told o s) (k .kept); sum = k .sum + further }
 
 -- after a first run on a table, with the record that was lent to it
 abbrev pub carriedFirst : List ℕ → Outcome → Session → Record → Carried
-carriedFirst tb o s r = record { answered = o; kept = recordLeft (told o s) r; sum = limitLent tb }
+carriedFirst tb o s r = record { answered = o; shown = deepestTold (told o s); kept = recordLeft (told o s) r; sum = limitLent tb }
 
 -- and then these calls, the first one first
 abbrev pub carriedAfter : List Lent → Carried → Carried
@@ -94,6 +96,9 @@ pub record BroughtBack (tb : List ℕ) (k : Carried) : Type 1 where
   -- "A finished session answers again as before."
   pub finished-again : ((n : ℕ) → k .answered ≡ Exhausted n → ⊥) → (c : Lent) → SameProblem tb c → (o : Outcome) (s : Session) → goesOn (k .kept) c ≡ told o s
       → (o ≡ k .answered) × (recordLeft (told o s) (k .kept) ≡ k .kept)
+  -- U2: the deepest figure of that answer is the one in the record, by all entries made, whichever calls made them
+  pub shown-is : k .shown ≡ k .kept .deepest
+  pub deepest-bounds : Bounds ((groundLent tb) .atoms) 0 (trail (findR (groundLent tb)) (k .sum)) (k .shown)
 
 -- ---- a session of any origin
 
@@ -106,7 +111,7 @@ pub record FromThere (tb bs answer : List ℕ) (r : Record) (further : ℕ) (o :
   pub runs : o ≡ proceed (findR (groundLent tb)) further (session .count) place
   pub magic-stands : placeOf (findIn bs) session ≡ some place
   pub magic-runs : o ≡ proceed (findIn bs) further (session .count) place
-  pub leaves : RunLeft (findR (groundLent tb)) place (session .count) further o left
+  pub leaves : RunLeft (findR (groundLent tb)) ((groundLent tb) .atoms) place (session .count) (session .deepest) further o left
   pub trails : entries (findIn bs) further place ≡ entries (findR (groundLent tb)) further place
   pub facts : All (λ u. (x : ℕ) → SameFacts tb bs u x) (place ∷ entries (findR (groundLent tb)) further place)
   -- fits comes with a fitting
@@ -123,9 +128,9 @@ pub record AnyRecord (tb rules answer work₁ work₂ bs : List ℕ) (r : Record
   -- 41 looks at count and further limit alone; then 42 unless a session is held, one of the walk
   pub refused-41 : 4294967295 < r .count + further → resumed r further tb answer work₁ ≡ declined 41
   pub refused-42 : r .count + further ≤ 4294967295
-      → (resumed r further tb answer work₁ ≡ declined 42) ↔ ((s : Session) → sessionIn r ≡ some s → Right (findR (groundLent tb)) s → ⊥)
+      → (resumed r further tb answer work₁ ≡ declined 42) ↔ ((s : Session) → sessionIn r ≡ some s → Right (findR (groundLent tb)) ((groundLent tb) .atoms) s → ⊥)
   -- and no other refusal
-  pub told-from : r .count + further ≤ 4294967295 → (s : Session) → sessionIn r ≡ some s → Right (findR (groundLent tb)) s
+  pub told-from : r .count + further ≤ 4294967295 → (s : Session) → sessionIn r ≡ some s → Right (findR (groundLent tb)) ((groundLent tb) .atoms) s
       → (o : Outcome) × ((left : Session) × ((resumed r further tb answer work₁ ≡ told o left) × FromThere tb bs answer r further o left))
 
 pub record Theorems : Type 1 where
@@ -135,4 +140,4 @@ pub record Theorems : Type 1 where
   pub any-record : (tb rules answer work₁ work₂ : List ℕ) → BothTaken tb rules answer work₁ work₂ → (r : Record) (further : ℕ)
       → AnyRecord tb rules answer work₁ work₂ (magicRules tb rules answer work₂) r further
   -- every session of the walk has room in the record
-  pub right-held : (tb answer work : List ℕ) → Taken tb answer work → (s : Session) → Right (findR (groundLent tb)) s → sessionIn (laid s) ≡ some s
+  pub right-held : (tb answer work : List ℕ) → Taken tb answer work → (s : Session) → Right (findR (groundLent tb)) ((groundLent tb) .atoms) s → sessionIn (laid s) ≡ some s

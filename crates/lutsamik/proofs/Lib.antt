@@ -1,4 +1,5 @@
 pub mod Narrow
+pub mod CallLaws
 pub mod Theorems
 pub mod LocalLaws
 pub mod SessionLaws

@@ -6,7 +6,7 @@ use mathlib.Core.Option.{Option, none, some}
 use mathlib.Core.Path.{_≡_, refl, sym, subst}
 use native.Mathlib.Omega.{arith}
 use lib.Dec.{T, ltb, ltb→lt}
-use lib.ListN.{length, take, getD}
+use lib.ListN.{length, take, drop, getD}
 use borrow.Author.Tests.{ltb-false}
 use Rattle.lists.specs.Key.{natKey}
 use Rattle.lists.specs.Member.{All, In, every, first}
@@ -14,13 +14,18 @@ use Rattle.lists.specs.Test.{T-left, T-right}
 use Rattle.lists.proofs.Digits.{horner-below}
 use Rattle.lists.proofs.Member.{all-map, every-all, has-all, first-some}
 use Rattle.search.specs.Ground.{Found}
-use Rattle.search.specs.Machine.{Place, Outcome, Satisfied, Refuted, Exhausted, advance, entries, proceed, outcome}
+use Rattle.search.specs.Machine.{Place, advance, root, entries, proceed}
 use Rattle.search.specs.Relevancy.{findR}
-use Rattle.search.specs.Session.{Session, placeOf, sessionAfter, Called, declined, told, called}
-use Rattle.search.specs.SessionRight.{countOf}
-use Rattle.search.proofs.Machine.{Counted, entries-zero, entries-none, entries-some, outcome-count}
-use Rattle.search.proofs.Session.{stands-reached}
-use Rattle.search.proofs.SessionLeft.{run-left}
+use Rattle.search.specs.Session.{Session, standsIn, sessionAfter, Called, declined, told, called}
+use Rattle.search.specs.SessionRight.{countOf, ShortPaths}
+use Rattle.search.specs.Sound.{SoundFind}
+use Rattle.search.proofs.Machine.{entries-zero, entries-none, entries-some}
+use Rattle.search.proofs.Path.{Reached, place-reached}
+use Rattle.search.proofs.Deepest.{session-most}
+use Rattle.search.proofs.Session.{in-stands, stands-reached}
+use Rattle.search.proofs.SessionRight.{in-right}
+use Rattle.search.proofs.SessionLeft.{run-made}
+use Rattle.search.proofs.Theorems.{theorems as walks}
 use Rattle.problem.specs.Problem.{Problem, Fits, atomCount, limitOf}
 use Rattle.problem.specs.Parse.{Parsed, refused, parsed, parse}
 use Rattle.problem.specs.Layout.{problemIn}
@@ -35,11 +40,9 @@ use Rattle.reading.specs.Read.{readingOf, readResult}
 use Rattle.writing.specs.declared.write.Writing.{Writing}
 use Rattle.writing.specs.declared.write.Writing.the-variants as writing
 use Rattle.writing.specs.Write.{writeResult}
-use Rattle.ground.specs.declared.verdict.Verdict.{Verdict}
-use Rattle.ground.specs.declared.verdict.Verdict.the-variants as verdict
 use Rattle.ground.specs.Instance.{Instance, InstanceOf, groundOf, groundIn}
-use Rattle.ground.specs.Verdict.{verdictOf}
 use Rattle.ground.proofs.Order.{instances-are}
+use Rattle.ground.proofs.Instances.{ground-proper}
 use Rattle.offering.specs.declared.offer.Offering.{Offering}
 use Rattle.offering.specs.declared.offer.Offering.the-variants as offering
 use Rattle.offering.specs.Offer.{offerResult, setResult}
@@ -54,18 +57,20 @@ use Rattle.judging.specs.Holding.{holdingOf, instanceNamed, isNamed, holdingNam
 use Rattle.judging.proofs.HoldingLaws.{holding-few}
 use Rattle.session.specs.declared.record.Session.{Session as Record}
 use Rattle.session.specs.Record.{sessionIn}
-use Rattle.session.specs.Calls.{calledIn, verdictTold}
+use Rattle.session.specs.Calls.{calledIn, begunBy, screened}
 use Rattle.session.proofs.CallLaws.{called-held, called-none}
-use Rattle.relevancy.specs.Engine.{outcomeIn, tooShort, fitResult}
-use Rattle.relevancy.specs.Sessions.{resumed}
+use Rattle.relevancy.specs.Engine.{tooShort}
+use Rattle.relevancy.specs.Sessions.{begun, resumed}
 use Rattle.rewriting.specs.declared.rewrite.Rewriting.{Rewriting}
 use Rattle.rewriting.specs.declared.rewrite.Rewriting.the-variants as rewriting
 use Rattle.rewriting.specs.Rules.{rewritingOf}
+use Rattle.rewriting.specs.RulesLayout.{rulesLayout}
 use Rattle.rewriting.specs.Facts.{findIn}
 use Rattle.rewriting.specs.Rewrite.{rulesOver, rewriteResult}
 use Rattle.rewriting.proofs.LayoutLaws.{rules-count}
-use Rattle.magic.specs.Engine.{rulesOutcome, magicOutcome, magicTooShort, magicResult}
-use Rattle.magic.specs.Sessions.{magicResumed}
+use Rattle.rewriting.proofs.RegroupLaws.{rules-sound}
+use Rattle.magic.specs.Engine.{magicTooShort}
+use Rattle.magic.specs.Sessions.{magicBegun, magicResumed}
 
 -- a refusal's number, and a value
 abbrev Number : ℕ → Type 0
@@ -95,12 +100,6 @@ NarrowJudging (judging.Violated k a b c d) = (k < 256) × All (λ x. x < 256) (d
 abbrev pub NarrowHolding : Holding → Type 0
 NarrowHolding (holding.Unheld e) = Number e
 NarrowHolding (holding.Held n) = Value n
-
-abbrev pub NarrowVerdict : Verdict → Type 0
-NarrowVerdict (verdict.Refused e) = Number e
-NarrowVerdict (verdict.Satisfied n) = Value n
-NarrowVerdict (verdict.Refuted n) = Value n
-NarrowVerdict (verdict.Exhausted n) = Value n
 
 abbrev pub NarrowRewriting : Rewriting → Type 0
 NarrowRewriting (rewriting.Refused e) = Number e
@@ -216,33 +215,20 @@ narrow-holding tb answer k a b c d =
     go q true h = omega (arith, h tt)
     go q false h = (omega arith, omega arith)
 
--- ---- a count
+-- ---- a run: its count, and its deepest figure
 
-limit-narrow : (q : Problem) → Fits q → Value (limitOf (q .limit))
-limit-narrow q fits = subst (λ (w : ℕ). limitOf (q .limit) < 256 ^ w) (fits .limit-four) (horner-below 256 (q .limit) (fits .limit-bytes))
+abbrev pub NarrowCall : Called → Type 0
+NarrowCall (declined e) = Number e
+NarrowCall (told o s) = Value (countOf o) × (s .deepest < 65536)
 
-narrow-outcome : {I : Type 0} (find : List ℕ → Found I) (q : Problem) → Fits q → NarrowVerdict (verdictOf (outcome find (limitOf (q .limit))))
-narrow-outcome find q fits = go (outcome find (limitOf (q .limit))) (outcome-count find (limitOf (q .limit)))
-  where
-    go : (o : Outcome) → Counted (λ n. n ≤ limitOf (q .limit)) o → NarrowVerdict (verdictOf o)
-    go (Satisfied n bits) h = omega (arith, limit-narrow q fits)
-    go (Refuted n) h = omega (arith, limit-narrow q fits)
-    go (Exhausted n) h = omega (arith, limit-narrow q fits)
+number-41 : Number 41
+number-41 = (omega arith, omega arith)
 
-pub narrow-relevancy : (tb answer work : List ℕ) → NarrowVerdict (fitResult tb answer work)
-unfolding fitResult outcomeIn
-narrow-relevancy tb answer work =
-    said NarrowVerdict (tooShort tb answer work) (isValid (take 4096 tb)) (verdict.Refused 11) (verdictOf (outcomeIn (take 4096 tb))) (verdict.Refused 31)
-    number-11 (λ v. narrow-outcome (findR (groundIn (take 4096 tb))) (problemIn (take 4096 tb)) (valid-table (take 4096 tb) v .fits)) number-31
+number-42 : Number 42
+number-42 = (omega arith, omega arith)
 
-pub narrow-magic : (tb rules answer work : List ℕ) → NarrowVerdict (magicResult tb rules answer work)
-unfolding magicResult rulesOutcome
-narrow-magic tb rules answer work =
-    let bs = rulesOver (take 4096 tb) (take 16384 rules) in
-    said NarrowVerdict (magicTooShort tb rules answer work) (isValid (take 4096 tb)) (verdict.Refused 11) (verdictOf (magicOutcome (take 4096 tb) (take 16384 rules))) (verdict.Refused 31)
-    number-11 (λ v. narrow-outcome (findIn bs) (problemIn (take 4096 tb)) (valid-table (take 4096 tb) v .fits)) number-31
-
--- ---- a count after a further limit
+narrow-screened : (short valid : Bool) (c : Called) → (valid ≡ true → NarrowCall c) → NarrowCall (screened short valid c)
+narrow-screened short valid c h = said NarrowCall short valid (declined 11) c (declined 31) number-11 h number-31
 
 -- at most as many entries as allowed
 entries-most : {I : Type 0} (find : List ℕ → Found I) (n : ℕ) (t : Place I) → length (entries find n t) ≤ n
@@ -253,62 +239,101 @@ entries-most {I} find (suc n) t = go (advance find t) refl (entries-most find n)
     go none e h = rw (entries-none find (suc n) t e) (omega arith)
     go (some u) e h = rw (entries-some find n t u e) (omega (arith, h u))
 
-narrow-count : (o : Outcome) → Value (countOf o) → NarrowVerdict (verdictOf o)
-narrow-count (Satisfied n bits) h = h
-narrow-count (Refuted n) h = h
-narrow-count (Exhausted n) h = h
+-- by a sound way of finding a node, the paths are no longer than the atoms are many
+module _ (q : Problem) (fits : Fits q) (find : List ℕ → Found Instance) (sound : SoundFind (groundOf q) find) where
+  abbrev atoms : ℕ
+  atoms = (groundOf q) .atoms
 
-abbrev NarrowCall : Called → Type 0
-NarrowCall c = NarrowVerdict (verdictTold c)
+  few-atoms : atoms ≤ 1024
+  unfolding groundOf
+  few-atoms = fits .atoms-fit
 
-number-41 : Number 41
-number-41 = (omega arith, omega arith)
+  narrow-run : (t : Place Instance) (count brought limit : ℕ) → Reached find t → brought ≤ atoms → count + limit ≤ 4294967295
+      → NarrowCall (told (proceed find limit count t) (sessionAfter find limit count brought t))
+  narrow-run t count brought limit r h within =
+      let short : ShortPaths find atoms = walks .sound-walk (groundOf q) find sound .short-paths in
+      (omega (arith, run-made find t count limit r, entries-most find limit t, within), omega (arith, session-most find atoms short limit count brought t r h, few-atoms))
 
-number-42 : Number 42
-number-42 = (omega arith, omega arith)
+  narrow-first : NarrowCall (begunBy find (limitOf (q .limit)))
+  narrow-first =
+      let within : limitOf (q .limit) < 256 ^ 4 = subst (λ (w : ℕ). limitOf (q .limit) < 256 ^ w) (fits .limit-four) (horner-below 256 (q .limit) (fits .limit-bytes)) in
+      narrow-run (root find) 0 0 (limitOf (q .limit)) (place-reached find [] tt) (omega arith) (omega (arith, within))
 
--- 41 is tested first, so the session's count has room with all that a run may add
-narrow-session : {I : Type 0} (find : List ℕ → Found I) (s : Session) (further : ℕ) → NarrowCall (called find s further)
-unfolding called
-narrow-session {I} find s further = over (ltb 4294967295 (s .count + further)) refl
-  where
-    goes : Option (Place I) → Called
-    goes o = elim o [ none ↦ declined 42 | some t ↦ told (proceed find further (s .count) t) (sessionAfter find further (s .count) t) ]
+  -- 41 is tested first, so the session's count has room with all that a run may add
+  narrow-session : (s : Session) (further : ℕ) → NarrowCall (called find atoms s further)
+  unfolding called
+  narrow-session s further = over (ltb 4294967295 (s .count + further)) refl
+    where
+      goes : Option (Place Instance) → Called
+      goes o = elim o [ none ↦ declined 42 | some t ↦ told (proceed find further (s .count) t) (sessionAfter find further (s .count) (s .deepest) t) ]
 
-    on : s .count + further ≤ 4294967295 → (o : Option (Place I)) → placeOf find s ≡ o → NarrowCall (goes o)
-    on within none e = number-42
-    on within (some t) e =
-        let run = run-left find t (s .count) further (stands-reached find s t e) in
-        narrow-count (proceed find further (s .count) t) (omega (arith, run .made, entries-most find further t))
+      on : s .count + further ≤ 4294967295 → (o : Option (Place Instance)) → standsIn find atoms s ≡ o → NarrowCall (goes o)
+      on within none e = number-42
+      on within (some t) e =
+          narrow-run t (s .count) (s .deepest) further (stands-reached find s t ((in-stands find atoms s t e) .1)) ((in-right find atoms s t e) .deep-within) within
 
-    over : (b : Bool) → ltb 4294967295 (s .count + further) ≡ b → NarrowCall (cond b (declined 41) (goes (placeOf find s)))
-    over true e = number-41
-    over false e = on (ltb-false 4294967295 (s .count + further) e) (placeOf find s) refl
+      over : (b : Bool) → ltb 4294967295 (s .count + further) ≡ b → NarrowCall (cond b (declined 41) (goes (standsIn find atoms s)))
+      over true e = number-41
+      over false e = on (ltb-false 4294967295 (s .count + further) e) (standsIn find atoms s) refl
 
-narrow-called : {I : Type 0} (find : List ℕ → Found I) (r : Record) (further : ℕ) → NarrowCall (calledIn find r further)
-narrow-called find r further = go (sessionIn r) refl
-  where
-    empty : (b : Bool) → NarrowCall (cond b (declined 41) (declined 42))
-    empty true = number-41
-    empty false = number-42
+  narrow-called : (r : Record) (further : ℕ) → NarrowCall (calledIn find atoms r further)
+  narrow-called r further = go (sessionIn r) refl
+    where
+      empty : (b : Bool) → NarrowCall (cond b (declined 41) (declined 42))
+      empty true = number-41
+      empty false = number-42
 
-    go : (o : Option Session) → sessionIn r ≡ o → NarrowCall (calledIn find r further)
-    go none e = subst NarrowCall (sym (called-none find r further e)) (empty (ltb 4294967295 (r .count + further)))
-    go (some s) e = subst NarrowCall (sym (called-held find r further s e)) (narrow-session find s further)
+      go : (o : Option Session) → sessionIn r ≡ o → NarrowCall (calledIn find atoms r further)
+      go none e = subst NarrowCall (sym (called-none find atoms r further e)) (empty (ltb 4294967295 (r .count + further)))
+      go (some s) e = subst NarrowCall (sym (called-held find atoms r further s e)) (narrow-session s further)
 
-pub narrow-resumed : (r : Record) (further : ℕ) (tb answer work : List ℕ) → NarrowCall (resumed r further tb answer work)
-unfolding resumed
-narrow-resumed r further tb answer work =
-    let find = findR (groundIn (take 4096 tb)) in
-    said NarrowCall (tooShort tb answer work) (isValid (take 4096 tb)) (declined 11) (calledIn find r further) (declined 31)
-    number-11 (λ v. narrow-called find r further) number-31
+-- ---- by each engine, of the table's first bytes
 
-pub narrow-magic-resumed : (r : Record) (further : ℕ) (tb rules answer work : List ℕ) → NarrowCall (magicResumed r further tb rules answer work)
-unfolding magicResumed
-narrow-magic-resumed r further tb rules answer work =
-    let bs = rulesOver (take 4096 tb) (take 16384 rules) in
-    said NarrowCall (magicTooShort tb rules answer work) (isValid (take 4096 tb)) (declined 11) (calledIn (findIn bs) r further) (declined 31)
-    number-11 (λ v. narrow-called (findIn bs) r further) number-31
+module _ (tb answer work : List ℕ) where
+  abbrev own : List ℕ
+  own = take 4096 tb
+
+  abbrev findOwn : List ℕ → Found Instance
+  findOwn = findR (groundIn own)
+
+  fits-own : isValid own ≡ true → Fits (problemIn own)
+  fits-own v = valid-table own v .fits
+
+  relevancy-sound : isValid own ≡ true → SoundFind (groundIn own) findOwn
+  relevancy-sound v = walks .relevancy-sound (groundIn own) (ground-proper (problemIn own) (fits-own v))
+
+  pub narrow-begun : NarrowCall (begun tb answer work)
+  unfolding begun
+  narrow-begun =
+      narrow-screened (tooShort tb answer work) (isValid own) (begunBy findOwn (limitOf ((problemIn own) .limit)))
+      (λ v. narrow-first (problemIn own) (fits-own v) findOwn (relevancy-sound v))
+
+  pub narrow-resumed : (r : Record) (further : ℕ) → NarrowCall (resumed r further tb answer work)
+  unfolding resumed
+  narrow-resumed r further =
+      narrow-screened (tooShort tb answer work) (isValid own) (calledIn findOwn ((groundIn own) .atoms) r further)
+      (λ v. narrow-called (problemIn own) (fits-own v) findOwn (relevancy-sound v) r further)
+
+  module _ (rules : List ℕ) where
+    abbrev findBy : List ℕ → Found Instance
+    findBy = findIn (rulesOver own (take 16384 rules))
+
+    magic-sound : isValid own ≡ true → SoundFind (groundIn own) findBy
+    magic-sound v = rules-sound (problemIn own) (fits-own v) (drop (length (rulesLayout (problemIn own))) (take 16384 rules))
+
+    pub narrow-magic-begun : NarrowCall (magicBegun tb rules answer work)
+    unfolding magicBegun
+    narrow-magic-begun =
+        narrow-screened (magicTooShort tb rules answer work) (isValid own) (begunBy findBy (limitOf ((problemIn own) .limit)))
+        (λ v. narrow-first (problemIn own) (fits-own v) findBy (magic-sound v))
+
+    pub narrow-magic-resumed : (r : Record) (further : ℕ) → NarrowCall (magicResumed r further tb rules answer work)
+    unfolding magicResumed
+    narrow-magic-resumed r further =
+        narrow-screened (magicTooShort tb rules answer work) (isValid own) (calledIn findBy ((groundIn own) .atoms) r further)
+        (λ v. narrow-called (problemIn own) (fits-own v) findBy (magic-sound v) r further)
+
+-- ---- the rules
 
 pub narrow-rewriting : (tb rules : List ℕ) → NarrowRewriting (rewriteResult tb rules)
 unfolding rewriteResult

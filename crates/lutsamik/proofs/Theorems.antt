@@ -1,11 +1,14 @@
 -- The claims of `specs/Claims.antt`, proved: numbers that have room in their bits are taken apart again, and each answer is what its numbers say.
 use Prim.Native.Nat.{ℕ, _+_, _*_, _/_, _%_, _<_}
 use mathlib.Core.List.{[], _∷_}
-use mathlib.Core.Path.{_≡_, refl, ap, _∙_}
+use mathlib.Core.Path.{_≡_, refl, sym, ap, _∙_}
+use native.Mathlib.Nat.{mod-eq-of-lt}
 use native.Mathlib.Omega.{arith}
 use borrow.Author.Tests.{ne-eqb}
 use lib.Arith.{digits-div, digits-mod}
 use Rattle.lists.proofs.Digits.{digits-horner, horner-below}
+use Rattle.search.specs.Machine.{Satisfied, Refuted, Exhausted}
+use Rattle.search.specs.Session.{Called, declined, told}
 use Rattle.problem.specs.Numbers.{Numbers, refusedAt, answered}
 use Rattle.reading.specs.declared.read.Reading.{Reading}
 use Rattle.reading.specs.declared.read.Reading.the-variants as reading
@@ -27,14 +30,14 @@ use Rattle.judging.specs.Holding.{holdingResult}
 use Rattle.rewriting.specs.declared.rewrite.Rewriting.{Rewriting}
 use Rattle.rewriting.specs.declared.rewrite.Rewriting.the-variants as rewriting
 use Rattle.rewriting.specs.Rewrite.{rewriteResult}
-use Rattle.session.specs.Calls.{verdictTold}
-use Rattle.relevancy.specs.Engine.{fitResult}
-use Rattle.relevancy.specs.Sessions.{resumed}
-use Rattle.magic.specs.Engine.{magicResult}
-use Rattle.magic.specs.Sessions.{magicResumed}
-use Rattle.lutsamik.specs.Pack.{packed, packReading, packWriting, packOffering, packJudging, packHolding, packVerdict, packRewriting, unpacked, asReading, asWriting, asOffering, violatedBy, asJudging, asHolding, asVerdict, asRewriting}
-use Rattle.lutsamik.specs.Claims.{Narrow, Theorems}
-use Rattle.lutsamik.proofs.Narrow.{NarrowReading, NarrowWriting, NarrowOffering, NarrowJudging, NarrowHolding, NarrowVerdict, NarrowRewriting, narrow-reading, narrow-writing, narrow-offer, narrow-set, narrow-judging, narrow-holding, narrow-relevancy, narrow-magic, narrow-resumed, narrow-magic-resumed, narrow-rewriting}
+use Rattle.session.specs.Calls.{verdictTold, deepestTold}
+use Rattle.relevancy.specs.Sessions.{begun, resumed}
+use Rattle.relevancy.proofs.Theorems.{theorems as relevancy}
+use Rattle.magic.specs.Sessions.{magicBegun, magicResumed}
+use Rattle.magic.proofs.Theorems.{theorems as magic}
+use Rattle.lutsamik.specs.Pack.{packed, packReading, packWriting, packOffering, packJudging, packHolding, withDeepest, packVerdict, packRewriting, unpacked, asReading, asWriting, asOffering, violatedBy, asJudging, asHolding, verdictBy, asVerdict, asRewriting}
+use Rattle.lutsamik.specs.Claims.{Narrow, VerdictBack, Theorems}
+use Rattle.lutsamik.proofs.Narrow.{NarrowReading, NarrowWriting, NarrowOffering, NarrowJudging, NarrowHolding, NarrowCall, NarrowRewriting, narrow-reading, narrow-writing, narrow-offer, narrow-set, narrow-judging, narrow-holding, narrow-begun, narrow-resumed, narrow-magic-begun, narrow-magic-resumed, narrow-rewriting}
 
 -- a part of a number, between what stands above it and what stands below
 part : (n above w q m below : ℕ) → n ≡ (above * w + q) * m + below → q < w → below < m → n / m % w ≡ q
@@ -86,11 +89,25 @@ holding-back : (r : Holding) → NarrowHolding r → asHolding (unpacked (packHo
 holding-back (holding.Unheld e) h = ap asHolding (parts-back (refusedAt e 0) (refused-narrow e 0 (h .1) (omega arith))) ∙ rw (ne-eqb e 0 (omega arith))
 holding-back (holding.Held n) h = ap asHolding (parts-back (answered 0 n) (answered-narrow 0 n (omega arith) h))
 
-verdict-back : (v : Verdict) → NarrowVerdict v → asVerdict (unpacked (packVerdict v)) ≡ v
-verdict-back (verdict.Refused e) h = ap asVerdict (parts-back (refusedAt e 0) (refused-narrow e 0 (h .1) (omega arith))) ∙ rw (ne-eqb e 0 (omega arith))
-verdict-back (verdict.Satisfied n) h = ap asVerdict (parts-back (answered 1 n) (answered-narrow 1 n (omega arith) h))
-verdict-back (verdict.Refuted n) h = ap asVerdict (parts-back (answered 0 n) (answered-narrow 0 n (omega arith) h))
-verdict-back (verdict.Exhausted n) h = ap asVerdict (parts-back (answered 2 n) (answered-narrow 2 n (omega arith) h))
+-- a number, a count and a figure
+told-back : (v : Verdict) (k n d : ℕ) → packVerdict v d ≡ withDeepest (answered k n) d → v ≡ verdictBy k n → k < 256 → n < 4294967296 → d < 65536 → VerdictBack v d
+told-back v k n d is so hk hn hd =
+    let m : ℕ = packVerdict v d in
+    let e : m ≡ 256 * k + 65536 * d + 4294967296 * n = omega (arith, is, mod-eq-of-lt hd) in
+    let refusal : m % 256 ≡ 0 = ap (λ (i : ℕ). i % 256) (omega (arith, e)) ∙ digits-mod (k + 256 * d + 16777216 * n) (omega arith) in
+    let number : m / 256 % 256 ≡ k = part m (d + 65536 * n) 256 k 256 0 (omega (arith, e)) hk (omega arith) in
+    let value : m / 4294967296 % 4294967296 ≡ n = part m 0 4294967296 n 4294967296 (256 * k + 65536 * d) (omega (arith, e)) hn (omega (arith, hk, hd)) in
+    record { verdict-back = rw (refusal, number, value) (sym so); deepest-back = part m n 65536 d 65536 (256 * k) (omega (arith, e)) hd (omega (arith, hk)) }
+
+call-back : (c : Called) → NarrowCall c → VerdictBack (verdictTold c) (deepestTold c)
+call-back (declined e) h =
+    record {
+      verdict-back = ap asVerdict (parts-back (refusedAt e 0) (refused-narrow e 0 (h .1) (omega arith))) ∙ rw (ne-eqb e 0 (omega arith));
+      deepest-back = part (packed (refusedAt e 0)) 0 65536 0 65536 e (omega arith) (omega arith) (omega (arith, h .1));
+    }
+call-back (told (Satisfied n bits) s) h = told-back (verdict.Satisfied n) 1 n (s .deepest) refl refl (omega arith) (h .0) (h .1)
+call-back (told (Refuted n) s) h = told-back (verdict.Refuted n) 0 n (s .deepest) refl refl (omega arith) (h .0) (h .1)
+call-back (told (Exhausted n) s) h = told-back (verdict.Exhausted n) 2 n (s .deepest) refl refl (omega arith) (h .0) (h .1)
 
 rewriting-back : (r : Rewriting) → NarrowRewriting r → asRewriting (unpacked (packRewriting r)) ≡ r
 rewriting-back (rewriting.Refused e) h = ap asRewriting (parts-back (refusedAt e 0) (refused-narrow e 0 (h .1) (omega arith))) ∙ rw (ne-eqb e 0 (omega arith))
@@ -107,8 +124,11 @@ theorems =
       judging-back = λ tb answer. judging-back (judgeResult tb answer) (narrow-judging tb answer);
       holding-back = λ tb answer k a b c d. holding-back (holdingResult tb answer k a b c d) (narrow-holding tb answer k a b c d);
       rewriting-back = λ tb rules. rewriting-back (rewriteResult tb rules) (narrow-rewriting tb rules);
-      relevancy-back = λ tb answer work. verdict-back (fitResult tb answer work) (narrow-relevancy tb answer work);
-      magic-back = λ tb rules answer work. verdict-back (magicResult tb rules answer work) (narrow-magic tb rules answer work);
-      relevancy-resumed-back = λ r further tb answer work. verdict-back (verdictTold (resumed r further tb answer work)) (narrow-resumed r further tb answer work);
-      magic-resumed-back = λ r further tb rules answer work. verdict-back (verdictTold (magicResumed r further tb rules answer work)) (narrow-magic-resumed r further tb rules answer work);
+      relevancy-back = λ tb answer work.
+          rw (← (relevancy .begun-same tb answer work .0), ← (relevancy .begun-shows tb answer work)) (call-back (begun tb answer work) (narrow-begun tb answer work));
+      magic-back = λ tb rules answer work.
+          rw (← (magic .begun-same tb rules answer work .0), ← (magic .begun-shows tb rules answer work))
+          (call-back (magicBegun tb rules answer work) (narrow-magic-begun tb answer work rules));
+      relevancy-resumed-back = λ r further tb answer work. call-back (resumed r further tb answer work) (narrow-resumed tb answer work r further);
+      magic-resumed-back = λ r further tb rules answer work. call-back (magicResumed r further tb rules answer work) (narrow-magic-resumed tb answer work rules r further);
     }

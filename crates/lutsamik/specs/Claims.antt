@@ -9,13 +9,14 @@ use Rattle.offering.specs.Offer.{offerResult, setResult}
 use Rattle.judging.specs.ModelCheck.{judgeResult}
 use Rattle.judging.specs.Holding.{holdingResult}
 use Rattle.rewriting.specs.Rewrite.{rewriteResult}
+use Rattle.ground.specs.declared.verdict.Verdict.{Verdict}
 use Rattle.session.specs.declared.record.Session.{Session as Record}
-use Rattle.session.specs.Calls.{verdictTold}
-use Rattle.relevancy.specs.Engine.{fitResult}
+use Rattle.session.specs.Calls.{verdictTold, deepestTold}
+use Rattle.relevancy.specs.Engine.{fitResult, fitDeepest}
 use Rattle.relevancy.specs.Sessions.{resumed}
-use Rattle.magic.specs.Engine.{magicResult}
+use Rattle.magic.specs.Engine.{magicResult, magicDeepest}
 use Rattle.magic.specs.Sessions.{magicResumed}
-use Rattle.lutsamik.specs.Pack.{packed, packReading, packWriting, packOffering, packJudging, packHolding, packVerdict, packRewriting, unpacked, asReading, asWriting, asOffering, asJudging, asHolding, asVerdict, asRewriting}
+use Rattle.lutsamik.specs.Pack.{packed, packReading, packWriting, packOffering, packJudging, packHolding, packVerdict, packRewriting, unpacked, deepestOf, asReading, asWriting, asOffering, asJudging, asHolding, asVerdict, asRewriting}
 
 -- numbers that have room in their bits
 pub record Narrow (a : Numbers) : Type 0 where
@@ -23,6 +24,11 @@ pub record Narrow (a : Numbers) : Type 0 where
   pub number : a .number < 256
   pub clause : a .clause < 256
   pub value : a .value < 4294967296
+
+-- a verdict with its figure
+pub record VerdictBack (v : Verdict) (d : ℕ) : Type 0 where
+  pub verdict-back : asVerdict (unpacked (packVerdict v d)) ≡ v
+  pub deepest-back : deepestOf (packVerdict v d) ≡ d
 
 pub record Theorems : Type 0 where
   pub parts-back : (a : Numbers) → Narrow a → unpacked (packed a) ≡ a
@@ -33,10 +39,11 @@ pub record Theorems : Type 0 where
   pub judging-back : (tb answer : List ℕ) → asJudging (unpacked (packJudging (judgeResult tb answer))) ≡ judgeResult tb answer
   pub holding-back : (tb answer : List ℕ) (k a b c d : ℕ) → asHolding (unpacked (packHolding (holdingResult tb answer k a b c d))) ≡ holdingResult tb answer k a b c d
   pub rewriting-back : (tb rules : List ℕ) → asRewriting (unpacked (packRewriting (rewriteResult tb rules))) ≡ rewriteResult tb rules
-  pub relevancy-back : (tb answer work : List ℕ) → asVerdict (unpacked (packVerdict (fitResult tb answer work))) ≡ fitResult tb answer work
-  pub magic-back : (tb rules answer work : List ℕ) → asVerdict (unpacked (packVerdict (magicResult tb rules answer work))) ≡ magicResult tb rules answer work
+  -- an engine's verdict, and its deepest figure, which is 0 where it is refused
+  pub relevancy-back : (tb answer work : List ℕ) → VerdictBack (fitResult tb answer work) (fitDeepest tb answer work)
+  pub magic-back : (tb rules answer work : List ℕ) → VerdictBack (magicResult tb rules answer work) (magicDeepest tb rules answer work)
   -- the calls that go on with a session
   pub relevancy-resumed-back : (r : Record) (further : ℕ) (tb answer work : List ℕ)
-      → asVerdict (unpacked (packVerdict (verdictTold (resumed r further tb answer work)))) ≡ verdictTold (resumed r further tb answer work)
+      → VerdictBack (verdictTold (resumed r further tb answer work)) (deepestTold (resumed r further tb answer work))
   pub magic-resumed-back : (r : Record) (further : ℕ) (tb rules answer work : List ℕ)
-      → asVerdict (unpacked (packVerdict (verdictTold (magicResumed r further tb rules answer work)))) ≡ verdictTold (magicResumed r further tb rules answer work)
+      → VerdictBack (verdictTold (magicResumed r further tb rules answer work)) (deepestTold (magicResumed r further tb rules answer work))

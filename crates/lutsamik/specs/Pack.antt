@@ -1,5 +1,5 @@
 -- An operation's answer as one number: bits 0 to 7 the refusal's number, 0 where there is none; bits 8 to 15 the number of what is answered; bits 24 to 31 the clause
--- that it names; bits 32 to 63 the value that goes with it.
+-- that it names; bits 32 to 63 the value that goes with it. Of an engine's verdict, bits 16 to 31 are the deepest figure.
 use Prim.Native.Nat.{ℕ, zero, suc, _+_, _*_, _/_, _%_}
 use mathlib.Core.Bool.{cond}
 use mathlib.Core.List.{List}
@@ -47,8 +47,15 @@ packJudging j = packed (judgingNumbers j)
 abbrev pub packHolding : Holding → ℕ
 packHolding h = packed (holdingNumbers h)
 
-abbrev pub packVerdict : Verdict → ℕ
-packVerdict v = packed (verdictNumbers v)
+-- the figure of a verdict's answer beside its numbers, which leave these bits free
+abbrev pub withDeepest : Numbers → ℕ → ℕ
+withDeepest a d = packed a + 65536 * (d % 65536)
+
+abbrev pub packVerdict : Verdict → ℕ → ℕ
+packVerdict (verdict.Refused e) d = packed (verdictNumbers (verdict.Refused e))
+packVerdict (verdict.Refuted n) d = withDeepest (verdictNumbers (verdict.Refuted n)) d
+packVerdict (verdict.Satisfied n) d = withDeepest (verdictNumbers (verdict.Satisfied n)) d
+packVerdict (verdict.Exhausted n) d = withDeepest (verdictNumbers (verdict.Exhausted n)) d
 
 abbrev pub packRewriting : Rewriting → ℕ
 packRewriting r = packed (rewritingNumbers r)
@@ -56,6 +63,10 @@ packRewriting r = packed (rewritingNumbers r)
 -- The parts of a number, as a host takes them out, and what they say
 abbrev pub unpacked : ℕ → Numbers
 unpacked n = record { refusal = n % 256; number = n / 256 % 256; clause = n / 16777216 % 256; value = n / 4294967296 % 4294967296 }
+
+-- the deepest figure of an engine's answer, as a host takes it out
+abbrev pub deepestOf : ℕ → ℕ
+deepestOf n = n / 65536 % 65536
 
 abbrev pub asReading : Numbers → Reading
 asReading a = cond (eqb (a .refusal) 0) reading.Accepted (reading.Refused (a .refusal) (a .value))

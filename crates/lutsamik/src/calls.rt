@@ -3,10 +3,10 @@ use crate::pack_verdict;
 use session::record::Moved;
 use session::record::Session;
 ghost use mathlib.Core.Path.{_≡_};
-ghost use Rattle.session.specs.Calls.{verdictTold, recordLeft, answerLeft, workLeft};
-ghost use Rattle.relevancy.specs.Engine.{fitResult, fitAnswer, fitWork};
+ghost use Rattle.session.specs.Calls.{verdictTold, deepestTold, recordLeft, answerLeft, workLeft};
+ghost use Rattle.relevancy.specs.Engine.{fitResult, fitDeepest, fitAnswer, fitWork};
 ghost use Rattle.relevancy.specs.Sessions.{begun, resumed};
-ghost use Rattle.magic.specs.Engine.{magicResult, magicRules, magicAnswer, magicWork};
+ghost use Rattle.magic.specs.Engine.{magicResult, magicDeepest, magicRules, magicAnswer, magicWork};
 ghost use Rattle.magic.specs.Sessions.{magicBegun, magicResumed, rulesLeft};
 ghost use Rattle.lutsamik.specs.Pack.{packVerdict};
 
@@ -17,18 +17,19 @@ pub struct Returned {
 }
 
 fn pack_moved(moved: Moved) -> Returned
-    ensures { λ r. ⌜ (r .number ≡ packVerdict (moved .verdict)) × (r .session ≡ moved .session) ⌝ }
+    ensures { λ r. ⌜ (r .number ≡ packVerdict (moved .verdict) (moved .session .deepest)) × (r .session ≡ moved .session) ⌝ }
 {
     let session = moved.session;
     let verdict = moved.verdict;
+    let deepest = session.deepest;
     Returned {
         session: session,
-        number: pack_verdict(verdict),
+        number: pack_verdict(verdict, deepest),
     }
 }
 
 fn begin_relevancy(session: Session, table: &[u8], answer: &mut [u8], work: &mut [u8]) -> Returned
-    ensures { λ r. ⌜ (r .number ≡ packVerdict (fitResult (now (table .entry)) (now (answer .entry)) (now (work .entry)))) × (r .session ≡ recordLeft (begun (now (table .entry)) (now (answer .entry)) (now (work .entry))) session) × (now (answer .exit) ≡ fitAnswer (now (table .entry)) (now (answer .entry)) (now (work .entry))) × (now (work .exit) ≡ fitWork (now (table .entry)) (now (answer .entry)) (now (work .entry))) ⌝ }
+    ensures { λ r. ⌜ (r .number ≡ packVerdict (fitResult (now (table .entry)) (now (answer .entry)) (now (work .entry))) (fitDeepest (now (table .entry)) (now (answer .entry)) (now (work .entry)))) × (r .session ≡ recordLeft (begun (now (table .entry)) (now (answer .entry)) (now (work .entry))) session) × (now (answer .exit) ≡ fitAnswer (now (table .entry)) (now (answer .entry)) (now (work .entry))) × (now (work .exit) ≡ fitWork (now (table .entry)) (now (answer .entry)) (now (work .entry))) ⌝ }
 {
     pack_moved(relevancy::engine::begin(session, table, answer, work))
 }
@@ -40,7 +41,7 @@ fn resume_relevancy(
     answer: &mut [u8],
     work: &mut [u8],
 ) -> Returned
-    ensures { λ r. ⌜ (r .number ≡ packVerdict (verdictTold (resumed session further (now (table .entry)) (now (answer .entry)) (now (work .entry))))) × (r .session ≡ recordLeft (resumed session further (now (table .entry)) (now (answer .entry)) (now (work .entry))) session) × (now (answer .exit) ≡ answerLeft (resumed session further (now (table .entry)) (now (answer .entry)) (now (work .entry))) (now (answer .entry))) × (now (work .exit) ≡ workLeft (resumed session further (now (table .entry)) (now (answer .entry)) (now (work .entry))) (now (work .entry))) ⌝ }
+    ensures { λ r. ⌜ (r .number ≡ packVerdict (verdictTold (resumed session further (now (table .entry)) (now (answer .entry)) (now (work .entry)))) (deepestTold (resumed session further (now (table .entry)) (now (answer .entry)) (now (work .entry))))) × (r .session ≡ recordLeft (resumed session further (now (table .entry)) (now (answer .entry)) (now (work .entry))) session) × (now (answer .exit) ≡ answerLeft (resumed session further (now (table .entry)) (now (answer .entry)) (now (work .entry))) (now (answer .entry))) × (now (work .exit) ≡ workLeft (resumed session further (now (table .entry)) (now (answer .entry)) (now (work .entry))) (now (work .entry))) ⌝ }
 {
     pack_moved(relevancy::engine::resume(session, further, table, answer, work))
 }
@@ -52,7 +53,7 @@ fn begin_magic(
     answer: &mut [u8],
     work: &mut [u8],
 ) -> Returned
-    ensures { λ r. ⌜ (r .number ≡ packVerdict (magicResult (now (table .entry)) (now (rules .entry)) (now (answer .entry)) (now (work .entry)))) × (r .session ≡ recordLeft (magicBegun (now (table .entry)) (now (rules .entry)) (now (answer .entry)) (now (work .entry))) session) × (now (rules .exit) ≡ magicRules (now (table .entry)) (now (rules .entry)) (now (answer .entry)) (now (work .entry))) × (now (answer .exit) ≡ magicAnswer (now (table .entry)) (now (rules .entry)) (now (answer .entry)) (now (work .entry))) × (now (work .exit) ≡ magicWork (now (table .entry)) (now (rules .entry)) (now (answer .entry)) (now (work .entry))) ⌝ }
+    ensures { λ r. ⌜ (r .number ≡ packVerdict (magicResult (now (table .entry)) (now (rules .entry)) (now (answer .entry)) (now (work .entry))) (magicDeepest (now (table .entry)) (now (rules .entry)) (now (answer .entry)) (now (work .entry)))) × (r .session ≡ recordLeft (magicBegun (now (table .entry)) (now (rules .entry)) (now (answer .entry)) (now (work .entry))) session) × (now (rules .exit) ≡ magicRules (now (table .entry)) (now (rules .entry)) (now (answer .entry)) (now (work .entry))) × (now (answer .exit) ≡ magicAnswer (now (table .entry)) (now (rules .entry)) (now (answer .entry)) (now (work .entry))) × (now (work .exit) ≡ magicWork (now (table .entry)) (now (rules .entry)) (now (answer .entry)) (now (work .entry))) ⌝ }
 {
     pack_moved(magic::engine::begin(session, table, rules, answer, work))
 }
@@ -65,7 +66,7 @@ fn resume_magic(
     answer: &mut [u8],
     work: &mut [u8],
 ) -> Returned
-    ensures { λ r. ⌜ (r .number ≡ packVerdict (verdictTold (magicResumed session further (now (table .entry)) (now (rules .entry)) (now (answer .entry)) (now (work .entry))))) × (r .session ≡ recordLeft (magicResumed session further (now (table .entry)) (now (rules .entry)) (now (answer .entry)) (now (work .entry))) session) × (now (rules .exit) ≡ rulesLeft (magicResumed session further (now (table .entry)) (now (rules .entry)) (now (answer .entry)) (now (work .entry))) (now (table .entry)) (now (rules .entry))) × (now (answer .exit) ≡ answerLeft (magicResumed session further (now (table .entry)) (now (rules .entry)) (now (answer .entry)) (now (work .entry))) (now (answer .entry))) × (now (work .exit) ≡ workLeft (magicResumed session further (now (table .entry)) (now (rules .entry)) (now (answer .entry)) (now (work .entry))) (now (work .entry))) ⌝ }
+    ensures { λ r. ⌜ (r .number ≡ packVerdict (verdictTold (magicResumed session further (now (table .entry)) (now (rules .entry)) (now (answer .entry)) (now (work .entry)))) (deepestTold (magicResumed session further (now (table .entry)) (now (rules .entry)) (now (answer .entry)) (now (work .entry))))) × (r .session ≡ recordLeft (magicResumed session further (now (table .entry)) (now (rules .entry)) (now (answer .entry)) (now (work .entry))) session) × (now (rules .exit) ≡ rulesLeft (magicResumed session further (now (table .entry)) (now (rules .entry)) (now (answer .entry)) (now (work .entry))) (now (table .entry)) (now (rules .entry))) × (now (answer .exit) ≡ answerLeft (magicResumed session further (now (table .entry)) (now (rules .entry)) (now (answer .entry)) (now (work .entry))) (now (answer .entry))) × (now (work .exit) ≡ workLeft (magicResumed session further (now (table .entry)) (now (rules .entry)) (now (answer .entry)) (now (work .entry))) (now (work .entry))) ⌝ }
 {
     pack_moved(magic::engine::resume(session, further, table, rules, answer, work))
 }
@@ -78,7 +79,7 @@ pub extern "C" fn lutsamik_begin_relevancy(
     answer: &mut [u8],
     work: &mut [u8],
 ) -> u64
-    ensures { λ n. ⌜ (n ≡ packVerdict (fitResult (now (table .entry)) (now (answer .entry)) (now (work .entry)))) × (now (session .exit) ≡ recordLeft (begun (now (table .entry)) (now (answer .entry)) (now (work .entry))) (now (session .entry))) × (now (answer .exit) ≡ fitAnswer (now (table .entry)) (now (answer .entry)) (now (work .entry))) × (now (work .exit) ≡ fitWork (now (table .entry)) (now (answer .entry)) (now (work .entry))) ⌝ }
+    ensures { λ n. ⌜ (n ≡ packVerdict (fitResult (now (table .entry)) (now (answer .entry)) (now (work .entry))) (fitDeepest (now (table .entry)) (now (answer .entry)) (now (work .entry)))) × (now (session .exit) ≡ recordLeft (begun (now (table .entry)) (now (answer .entry)) (now (work .entry))) (now (session .entry))) × (now (answer .exit) ≡ fitAnswer (now (table .entry)) (now (answer .entry)) (now (work .entry))) × (now (work .exit) ≡ fitWork (now (table .entry)) (now (answer .entry)) (now (work .entry))) ⌝ }
 {
     let m = begin_relevancy(*session, table, answer, work);
     *session = m.session;
@@ -94,7 +95,7 @@ pub extern "C" fn lutsamik_resume_relevancy(
     answer: &mut [u8],
     work: &mut [u8],
 ) -> u64
-    ensures { λ n. ⌜ (n ≡ packVerdict (verdictTold (resumed (now (session .entry)) further (now (table .entry)) (now (answer .entry)) (now (work .entry))))) × (now (session .exit) ≡ recordLeft (resumed (now (session .entry)) further (now (table .entry)) (now (answer .entry)) (now (work .entry))) (now (session .entry))) × (now (answer .exit) ≡ answerLeft (resumed (now (session .entry)) further (now (table .entry)) (now (answer .entry)) (now (work .entry))) (now (answer .entry))) × (now (work .exit) ≡ workLeft (resumed (now (session .entry)) further (now (table .entry)) (now (answer .entry)) (now (work .entry))) (now (work .entry))) ⌝ }
+    ensures { λ n. ⌜ (n ≡ packVerdict (verdictTold (resumed (now (session .entry)) further (now (table .entry)) (now (answer .entry)) (now (work .entry)))) (deepestTold (resumed (now (session .entry)) further (now (table .entry)) (now (answer .entry)) (now (work .entry))))) × (now (session .exit) ≡ recordLeft (resumed (now (session .entry)) further (now (table .entry)) (now (answer .entry)) (now (work .entry))) (now (session .entry))) × (now (answer .exit) ≡ answerLeft (resumed (now (session .entry)) further (now (table .entry)) (now (answer .entry)) (now (work .entry))) (now (answer .entry))) × (now (work .exit) ≡ workLeft (resumed (now (session .entry)) further (now (table .entry)) (now (answer .entry)) (now (work .entry))) (now (work .entry))) ⌝ }
 {
     let m = resume_relevancy(*session, further, table, answer, work);
     *session = m.session;
@@ -110,7 +111,7 @@ pub extern "C" fn lutsamik_begin_magic(
     answer: &mut [u8],
     work: &mut [u8],
 ) -> u64
-    ensures { λ n. ⌜ (n ≡ packVerdict (magicResult (now (table .entry)) (now (rules .entry)) (now (answer .entry)) (now (work .entry)))) × (now (session .exit) ≡ recordLeft (magicBegun (now (table .entry)) (now (rules .entry)) (now (answer .entry)) (now (work .entry))) (now (session .entry))) × (now (rules .exit) ≡ magicRules (now (table .entry)) (now (rules .entry)) (now (answer .entry)) (now (work .entry))) × (now (answer .exit) ≡ magicAnswer (now (table .entry)) (now (rules .entry)) (now (answer .entry)) (now (work .entry))) × (now (work .exit) ≡ magicWork (now (table .entry)) (now (rules .entry)) (now (answer .entry)) (now (work .entry))) ⌝ }
+    ensures { λ n. ⌜ (n ≡ packVerdict (magicResult (now (table .entry)) (now (rules .entry)) (now (answer .entry)) (now (work .entry))) (magicDeepest (now (table .entry)) (now (rules .entry)) (now (answer .entry)) (now (work .entry)))) × (now (session .exit) ≡ recordLeft (magicBegun (now (table .entry)) (now (rules .entry)) (now (answer .entry)) (now (work .entry))) (now (session .entry))) × (now (rules .exit) ≡ magicRules (now (table .entry)) (now (rules .entry)) (now (answer .entry)) (now (work .entry))) × (now (answer .exit) ≡ magicAnswer (now (table .entry)) (now (rules .entry)) (now (answer .entry)) (now (work .entry))) × (now (work .exit) ≡ magicWork (now (table .entry)) (now (rules .entry)) (now (answer .entry)) (now (work .entry))) ⌝ }
 {
     let m = begin_magic(*session, table, rules, answer, work);
     *session = m.session;
@@ -127,7 +128,7 @@ pub extern "C" fn lutsamik_resume_magic(
     answer: &mut [u8],
     work: &mut [u8],
 ) -> u64
-    ensures { λ n. ⌜ (n ≡ packVerdict (verdictTold (magicResumed (now (session .entry)) further (now (table .entry)) (now (rules .entry)) (now (answer .entry)) (now (work .entry))))) × (now (session .exit) ≡ recordLeft (magicResumed (now (session .entry)) further (now (table .entry)) (now (rules .entry)) (now (answer .entry)) (now (work .entry))) (now (session .entry))) × (now (rules .exit) ≡ rulesLeft (magicResumed (now (session .entry)) further (now (table .entry)) (now (rules .entry)) (now (answer .entry)) (now (work .entry))) (now (table .entry)) (now (rules .entry))) × (now (answer .exit) ≡ answerLeft (magicResumed (now (session .entry)) further (now (table .entry)) (now (rules .entry)) (now (answer .entry)) (now (work .entry))) (now (answer .entry))) × (now (work .exit) ≡ workLeft (magicResumed (now (session .entry)) further (now (table .entry)) (now (rules .entry)) (now (answer .entry)) (now (work .entry))) (now (work .entry))) ⌝ }
+    ensures { λ n. ⌜ (n ≡ packVerdict (verdictTold (magicResumed (now (session .entry)) further (now (table .entry)) (now (rules .entry)) (now (answer .entry)) (now (work .entry)))) (deepestTold (magicResumed (now (session .entry)) further (now (table .entry)) (now (rules .entry)) (now (answer .entry)) (now (work .entry))))) × (now (session .exit) ≡ recordLeft (magicResumed (now (session .entry)) further (now (table .entry)) (now (rules .entry)) (now (answer .entry)) (now (work .entry))) (now (session .entry))) × (now (rules .exit) ≡ rulesLeft (magicResumed (now (session .entry)) further (now (table .entry)) (now (rules .entry)) (now (answer .entry)) (now (work .entry))) (now (table .entry)) (now (rules .entry))) × (now (answer .exit) ≡ answerLeft (magicResumed (now (session .entry)) further (now (table .entry)) (now (rules .entry)) (now (answer .entry)) (now (work .entry))) (now (answer .entry))) × (now (work .exit) ≡ workLeft (magicResumed (now (session .entry)) further (now (table .entry)) (now (rules .entry)) (now (answer .entry)) (now (work .entry))) (now (work .entry))) ⌝ }
 {
     let m = resume_magic(*session, further, table, rules, answer, work);
     *session = m.session;

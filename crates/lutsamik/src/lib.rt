@@ -8,17 +8,19 @@ use judging::judge::Judging;
 use offering::offer::Offering;
 use reading::read::Reading;
 use rewriting::rewrite::Rewriting;
+use session::record::Reply;
 use writing::write::Writing;
 ghost use mathlib.Core.Path.{_≡_};
+ghost use Rattle.problem.specs.Numbers.{answered};
 ghost use Rattle.reading.specs.Read.{readResult, readLeaves};
 ghost use Rattle.writing.specs.Write.{writeResult, writeLeaves};
 ghost use Rattle.offering.specs.Offer.{offerResult, offerLeaves, setResult, setLeaves};
 ghost use Rattle.judging.specs.ModelCheck.{judgeResult};
 ghost use Rattle.judging.specs.Holding.{holdingResult};
-ghost use Rattle.relevancy.specs.Engine.{fitResult, fitAnswer, fitWork};
-ghost use Rattle.magic.specs.Engine.{magicResult, magicRules, magicAnswer, magicWork};
+ghost use Rattle.relevancy.specs.Engine.{fitResult, fitDeepest, fitAnswer, fitWork};
+ghost use Rattle.magic.specs.Engine.{magicResult, magicDeepest, magicRules, magicAnswer, magicWork};
 ghost use Rattle.rewriting.specs.Rewrite.{rewriteResult, rewriteLeaves};
-ghost use Rattle.lutsamik.specs.Pack.{packed, packReading, packWriting, packOffering, packJudging, packHolding, packVerdict, packRewriting};
+ghost use Rattle.lutsamik.specs.Pack.{packed, packReading, packWriting, packOffering, packJudging, packHolding, withDeepest, packVerdict, packRewriting};
 
 // An answer's numbers as one.
 fn packed(refusal: u8, number: u8, clause: u8, value: u32) -> u64
@@ -76,15 +78,30 @@ fn pack_holding(h: Holding) -> u64
     }
 }
 
-fn pack_verdict(v: Verdict) -> u64
-    ensures { λ n. ⌜ n ≡ packVerdict v ⌝ }
+// A verdict's number and count, with the deepest figure beside them.
+fn with_deepest(number: u8, count: u32, deepest: u32) -> u64
+    ensures { λ n. ⌜ n ≡ withDeepest (answered number count) deepest ⌝ }
+{
+    packed(0, number, 0, count) + 65536 * ((deepest % 65536) as u64)
+}
+
+fn pack_verdict(v: Verdict, deepest: u32) -> u64
+    ensures { λ n. ⌜ n ≡ packVerdict v deepest ⌝ }
 {
     match v {
         Verdict::Refused(e) => packed(e, 0, 0, 0),
-        Verdict::Satisfied(count) => packed(0, 1, 0, count),
-        Verdict::Refuted(count) => packed(0, 0, 0, count),
-        Verdict::Exhausted(count) => packed(0, 2, 0, count),
+        Verdict::Satisfied(count) => with_deepest(1, count, deepest),
+        Verdict::Refuted(count) => with_deepest(0, count, deepest),
+        Verdict::Exhausted(count) => with_deepest(2, count, deepest),
     }
+}
+
+// What a run without a session gives back, as one number.
+fn pack_reply(reply: Reply) -> u64
+    ensures { λ n. ⌜ n ≡ packVerdict (reply .verdict) (reply .deepest) ⌝ }
+{
+    let verdict = reply.verdict;
+    pack_verdict(verdict, reply.deepest)
 }
 
 fn pack_rewriting(r: Rewriting) -> u64
@@ -155,9 +172,9 @@ pub extern "C" fn lutsamik_holding(
 // Fits a table by the relevancy engine, with 1,024 answer bytes and 65,536 to work in.
 #[no_mangle]
 pub extern "C" fn lutsamik_fit_relevancy(table: &[u8], answer: &mut [u8], work: &mut [u8]) -> u64
-    ensures { λ n. ⌜ (n ≡ packVerdict (fitResult (now (table .entry)) (now (answer .entry)) (now (work .entry)))) × (now (answer .exit) ≡ fitAnswer (now (table .entry)) (now (answer .entry)) (now (work .entry))) × (now (work .exit) ≡ fitWork (now (table .entry)) (now (answer .entry)) (now (work .entry))) ⌝ }
+    ensures { λ n. ⌜ (n ≡ packVerdict (fitResult (now (table .entry)) (now (answer .entry)) (now (work .entry))) (fitDeepest (now (table .entry)) (now (answer .entry)) (now (work .entry)))) × (now (answer .exit) ≡ fitAnswer (now (table .entry)) (now (answer .entry)) (now (work .entry))) × (now (work .exit) ≡ fitWork (now (table .entry)) (now (answer .entry)) (now (work .entry))) ⌝ }
 {
-    pack_verdict(relevancy::engine::fit(table, answer, work))
+    pack_reply(relevancy::engine::fit(table, answer, work))
 }
 
 // Rewrites a table into magic rules, in a rules buffer of 16,384 bytes.
@@ -176,7 +193,7 @@ pub extern "C" fn lutsamik_fit_magic(
     answer: &mut [u8],
     work: &mut [u8],
 ) -> u64
-    ensures { λ n. ⌜ (n ≡ packVerdict (magicResult (now (table .entry)) (now (rules .entry)) (now (answer .entry)) (now (work .entry)))) × (now (rules .exit) ≡ magicRules (now (table .entry)) (now (rules .entry)) (now (answer .entry)) (now (work .entry))) × (now (answer .exit) ≡ magicAnswer (now (table .entry)) (now (rules .entry)) (now (answer .entry)) (now (work .entry))) × (now (work .exit) ≡ magicWork (now (table .entry)) (now (rules .entry)) (now (answer .entry)) (now (work .entry))) ⌝ }
+    ensures { λ n. ⌜ (n ≡ packVerdict (magicResult (now (table .entry)) (now (rules .entry)) (now (answer .entry)) (now (work .entry))) (magicDeepest (now (table .entry)) (now (rules .entry)) (now (answer .entry)) (now (work .entry)))) × (now (rules .exit) ≡ magicRules (now (table .entry)) (now (rules .entry)) (now (answer .entry)) (now (work .entry))) × (now (answer .exit) ≡ magicAnswer (now (table .entry)) (now (rules .entry)) (now (answer .entry)) (now (work .entry))) × (now (work .exit) ≡ magicWork (now (table .entry)) (now (rules .entry)) (now (answer .entry)) (now (work .entry))) ⌝ }
 {
-    pack_verdict(magic::engine::fit(table, rules, answer, work))
+    pack_reply(magic::engine::fit(table, rules, answer, work))
 }

@@ -75,7 +75,7 @@ module _ (tb rules answer work : List ℕ) where
 
 -- ---- what the end of a first run says of the outcome
 
-pub first-run : (bs : List ℕ) (limit : ℕ) (answer : List ℕ) (m : Moved) (left : List ℕ) → Concluded (magicWalker bs) (fromRoot (magicWalker bs) limit) answer m left
+pub first-run : (bs : List ℕ) (deepest limit : ℕ) → deepest ≡ 0 → (answer : List ℕ) (m : Moved) (left : List ℕ) → Concluded (magicWalker bs) (fromRoot (magicWalker bs) deepest limit) answer m left
     → (m .verdict ≡ verdictOf (rulesOutcome bs limit)) × (m .session ≡ laid (firstSession (findIn bs) limit)) × (left ≡ answerOf (rulesOutcome bs limit) answer)
 unfolding rulesOutcome
-first-run bs limit answer m left h = first-concluded (magicWalker bs) limit limit refl answer m left h
+first-run bs deepest limit none answer m left h = first-concluded (magicWalker bs) deepest limit limit none refl answer m left h

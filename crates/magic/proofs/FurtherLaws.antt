@@ -29,10 +29,11 @@ use Rattle.magic.specs.Sessions.{rulesLeft}
 
 -- ---- the rules of a table, over whatever a buffer held, are walked by alike
 
-pub called-alike : (tb xs ys : List ℕ) → Lawful tb → (r : Record) (further : ℕ) → calledIn (findIn (rulesOver tb xs)) r further ≡ calledIn (findIn (rulesOver tb ys)) r further
-called-alike tb xs ys h r further =
+pub called-alike : (tb xs ys : List ℕ) → Lawful tb → (atoms : ℕ) (r : Record) (further : ℕ)
+    → calledIn (findIn (rulesOver tb xs)) atoms r further ≡ calledIn (findIn (rulesOver tb ys)) atoms r further
+called-alike tb xs ys h atoms r further =
     let n : ℕ = length (rulesLayout (problemIn tb)) in
-    ap (λ (find : List ℕ → Found Instance). calledIn find r further)
+    ap (λ (find : List ℕ → Found Instance). calledIn find atoms r further)
     (find-by (problemIn tb) (h .fits) (drop n xs) ∙ sym (find-by (problemIn tb) (h .fits) (drop n ys)))
 
 -- ---- a call's verdict, session and answer

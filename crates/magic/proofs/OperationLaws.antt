@@ -11,6 +11,7 @@ use Rattle.problem.specs.Problem.{limitOf}
 use Rattle.problem.specs.Layout.{problemIn}
 use Rattle.problem.specs.Table.{isValid}
 use Rattle.ground.specs.declared.verdict.Verdict.the-variants.{Refused}
+use Rattle.ground.specs.Instance.{groundIn}
 use Rattle.ground.specs.Verdict.{verdictOf, answerOf}
 use Rattle.rewriting.specs.Facts.{findIn}
 use Rattle.rewriting.specs.Rewrite.{rulesOver}
@@ -101,10 +102,10 @@ module _ (r : Record) (tb rules answer work : List ℕ) where
       resume-invalid v = resumed-declined 31 (resumed-invalid tb rules answer work r further long v)
 
       pub resume-runs : isValid (take 4096 tb) ≡ true → 16384 ≤ length rules → 65536 ≤ length work → (m : Moved) (rs left part : List ℕ)
-          → CallMade (calledIn (findIn (rulesOver (take 4096 tb) (take 16384 rules))) r further) r (take 4096 tb) (take 16384 rules) answer (take 65536 work) m rs left part
+          → CallMade (calledIn (findIn (rulesOver (take 4096 tb) (take 16384 rules))) ((groundIn (take 4096 tb)) .atoms) r further) r (take 4096 tb) (take 16384 rules) answer (take 65536 work) m rs left part
           → Resumes m (rs ++ drop 16384 rules) left (part ++ drop 65536 work)
       resume-runs v rules-long work-long m rs left part h =
-          let c : Called = calledIn (findIn (rulesOver (take 4096 tb) (take 16384 rules))) r further in
+          let c : Called = calledIn (findIn (rulesOver (take 4096 tb) (take 16384 rules))) ((groundIn (take 4096 tb)) .atoms) r further in
           subst (λ (x : Called). CallMade x r tb rules answer work m (rs ++ drop 16384 rules) left (part ++ drop 65536 work))
           (sym (resumed-runs tb rules answer work r further long v))
           (made-back c r tb rules answer work rules-long work-long m rs left part h)

@@ -9,13 +9,14 @@ use Rattle.problem.specs.Problem.{limitOf}
 use Rattle.problem.specs.Layout.{problemIn}
 use Rattle.problem.specs.Table.{isValid}
 use Rattle.ground.specs.declared.verdict.Verdict.the-variants.{Refused}
+use Rattle.ground.specs.Instance.{groundIn}
 use Rattle.ground.specs.Verdict.{verdictOf, answerOf}
 use Rattle.rewriting.specs.Facts.{findIn}
 use Rattle.rewriting.specs.Rewrite.{rulesOver}
 use Rattle.session.specs.declared.record.Session.{Session as Record}
-use Rattle.session.specs.Calls.{calledIn, begunBy, verdictTold, answerLeft, workLeft}
-use Rattle.session.proofs.CallLaws.{screened-short, screened-invalid, screened-through, screened-first, declined-by}
-use Rattle.magic.specs.Engine.{rulesOutcome, magicTooShort, magicOutcome, magicResult, magicRules, magicAnswer, magicWork}
+use Rattle.session.specs.Calls.{deepestTold, calledIn, begunBy, verdictTold, recordLeft, answerLeft, workLeft}
+use Rattle.session.proofs.CallLaws.{screened-short, screened-invalid, screened-through, screened-first, declined-by, deepest-lent, deepest-first}
+use Rattle.magic.specs.Engine.{rulesOutcome, magicTooShort, magicOutcome, magicResult, magicDeepest, magicRules, magicAnswer, magicWork}
 use Rattle.magic.specs.Sessions.{magicBegun, magicResumed, rulesLeft}
 use Rattle.magic.proofs.EngineLaws.{Fitted, fit-short, fit-invalid, fit-runs}
 
@@ -71,11 +72,20 @@ module _ (tb rules answer work : List ℕ) where
           as-called run (begun-runs e u)
           (fit-runs tb rules answer work e u (verdictOf (magicOutcome own (take 16384 rules))) bs (answerOf (magicOutcome own (take 16384 rules)) answer) (replicate 65536 0) refl refl refl refl)
 
+  -- the figure that a first run tells
+  pub begun-shows : deepestTold (magicBegun tb rules answer work) ≡ magicDeepest tb rules answer work
+  unfolding magicBegun magicDeepest
+  begun-shows = deepest-first (findIn bs) (limitOf ((problemIn own) .limit)) (magicTooShort tb rules answer work) (isValid own)
+
+  -- the record lent for a session that is not kept holds the longest path entered
+  pub begun-deepest : (r : Record) → r .deepest ≡ 0 → (recordLeft (magicBegun tb rules answer work) r) .deepest ≡ magicDeepest tb rules answer work
+  begun-deepest r none = deepest-lent (magicBegun tb rules answer work) r none ∙ begun-shows
+
   -- ---- going on
 
   module _ (r : Record) (further : ℕ) where
     abbrev on : Called
-    on = calledIn (findIn bs) r further
+    on = calledIn (findIn bs) ((groundIn own) .atoms) r further
 
     pub resumed-short : magicTooShort tb rules answer work ≡ true → magicResumed r further tb rules answer work ≡ declined 11
     unfolding magicResumed
@@ -86,7 +96,7 @@ module _ (tb rules answer work : List ℕ) where
     resumed-invalid e v = screened-invalid (magicTooShort tb rules answer work) (isValid own) on e v
 
     pub resumed-runs : magicTooShort tb rules answer work ≡ false → isValid (take 4096 tb) ≡ true
-        → magicResumed r further tb rules answer work ≡ calledIn (findIn (rulesOver (take 4096 tb) (take 16384 rules))) r further
+        → magicResumed r further tb rules answer work ≡ calledIn (findIn (rulesOver (take 4096 tb) (take 16384 rules))) ((groundIn (take 4096 tb)) .atoms) r further
     unfolding magicResumed
     resumed-runs e v = screened-through (magicTooShort tb rules answer work) (isValid own) on e v
 

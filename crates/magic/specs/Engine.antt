@@ -4,7 +4,7 @@ use mathlib.Core.Bool.{Bool, cond, _||_}
 use mathlib.Core.List.{List, _++_}
 use lib.Dec.{ltb}
 use lib.ListN.{length, take, drop, replicate}
-use Rattle.search.specs.Machine.{Outcome, outcome}
+use Rattle.search.specs.Machine.{Outcome, outcome, deepestUnder}
 use Rattle.problem.specs.Problem.{limitOf}
 use Rattle.problem.specs.Layout.{problemIn}
 use Rattle.problem.specs.Table.{isValid}
@@ -25,12 +25,21 @@ magicTooShort tb rules answer work = ltb (length tb) 4096 || ltb (length rules) 
 abbrev pub magicOutcome : List ℕ → List ℕ → Outcome
 magicOutcome tb rules = rulesOutcome (rulesOver tb rules) (limitOf ((problemIn tb) .limit))
 
+-- the longest path that it enters
+abbrev pub magicDeepestIn : List ℕ → List ℕ → ℕ
+magicDeepestIn tb rules = deepestUnder (findIn (rulesOver tb rules)) (limitOf ((problemIn tb) .limit))
+
 -- 11, then 31, then the rewriting and the walk
 unfoldable pub magicResult : List ℕ → List ℕ → List ℕ → List ℕ → Verdict
 magicResult tb rules answer work =
     cond (magicTooShort tb rules answer work)
     (Refused 11)
     (cond (isValid (take 4096 tb)) (verdictOf (magicOutcome (take 4096 tb) (take 16384 rules))) (Refused 31))
+
+-- the longest path entered
+unfoldable pub magicDeepest : List ℕ → List ℕ → List ℕ → List ℕ → ℕ
+magicDeepest tb rules answer work =
+    cond (magicTooShort tb rules answer work) 0 (cond (isValid (take 4096 tb)) (magicDeepestIn (take 4096 tb) (take 16384 rules)) 0)
 
 -- the rules stay, whatever the verdict
 unfoldable pub magicRules : List ℕ → List ℕ → List ℕ → List ℕ → List ℕ

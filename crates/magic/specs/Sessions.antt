@@ -6,6 +6,7 @@ use Rattle.search.specs.Session.{Called, declined, told}
 use Rattle.problem.specs.Problem.{limitOf}
 use Rattle.problem.specs.Layout.{problemIn}
 use Rattle.problem.specs.Table.{isValid}
+use Rattle.ground.specs.Instance.{groundIn}
 use Rattle.rewriting.specs.Facts.{findIn}
 use Rattle.rewriting.specs.Rewrite.{rulesOver}
 use Rattle.session.specs.declared.record.Session.{Session as Record}
@@ -21,7 +22,7 @@ magicBegun tb rules answer work =
 -- going on with a session under a further limit, by the same rules
 unfoldable pub magicResumed : Record → ℕ → List ℕ → List ℕ → List ℕ → List ℕ → Called
 magicResumed r further tb rules answer work =
-    screened (magicTooShort tb rules answer work) (isValid (take 4096 tb)) (calledIn (findIn (rulesOver (take 4096 tb) (take 16384 rules))) r further)
+    screened (magicTooShort tb rules answer work) (isValid (take 4096 tb)) (calledIn (findIn (rulesOver (take 4096 tb) (take 16384 rules))) ((groundIn (take 4096 tb)) .atoms) r further)
 
 -- the rules stay, whatever the verdict; a refusal leaves what was there
 abbrev pub rulesLeft : Called → List ℕ → List ℕ → List ℕ

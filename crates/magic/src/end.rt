@@ -6,6 +6,7 @@ use session::end::give_model;
 use session::end::moved;
 use session::record::Moved;
 use walk::answer::Walked;
+use walk::node::deepest;
 use walk::node::next;
 ghost use mathlib.Core.List.{List, []};
 ghost use mathlib.Core.Path.{_≡_};
@@ -22,12 +23,14 @@ ghost use Rattle.session.specs.contracts.End.{LeftBy, Concluded};
 // The path at the end of a run, written down. Where all is closed it is the root alone, with all of its alternatives used.
 fn path_left(rules: &[u8], path: &[u8], walked: Walked, used: u8) -> Left
     requires { ⌜ Ruled (now rules) ⌝ }
+    requires { ⌜ length (now path) ≡ 9227 ⌝ }
     requires { ⌜ ((facts : List ℕ) × ((r : Run Instance) × Walks (magicWalker (now rules)) r walked facts (now path))) ⌝ }
     requires { ⌜ used ≡ length (altsFound ((magicWalker (now rules)) .find [])) ⌝ }
     ensures { λ x. ⌜ LeftBy (magicWalker (now (rules .entry))) walked (now (path .entry)) x ⌝ }
 {
     let mut atoms = [0u16; 1024];
     let mut nexts = [0u8; 1024];
+    let longest = deepest(path) as u32;
     match walked {
         Walked::Opened(_, depth) => {
             steps(rules, path, depth, &mut atoms, &mut nexts);
@@ -35,6 +38,7 @@ fn path_left(rules: &[u8], path: &[u8], walked: Walked, used: u8) -> Left
                 next: 0,
                 atoms: atoms,
                 nexts: nexts,
+                deepest: longest,
             };
         }
         Walked::Exhausted(depth) => {
@@ -43,6 +47,7 @@ fn path_left(rules: &[u8], path: &[u8], walked: Walked, used: u8) -> Left
                 next: next(path, depth),
                 atoms: atoms,
                 nexts: nexts,
+                deepest: longest,
             };
         }
         _ => {}
@@ -51,6 +56,7 @@ fn path_left(rules: &[u8], path: &[u8], walked: Walked, used: u8) -> Left
         next: used,
         atoms: atoms,
         nexts: nexts,
+        deepest: longest,
     }
 }
 
@@ -65,6 +71,7 @@ pub fn conclude(
     used: u8,
 ) -> Moved
     requires { ⌜ Ruled (now rules) ⌝ }
+    requires { ⌜ length (now path) ≡ 9227 ⌝ }
     requires { ⌜ (1024 ≤ length (now answer)) × (length (now facts) ≡ 55302) ⌝ }
     requires { ⌜ ((r : Run Instance) × ((r .limit ≡ limit) × Walks (magicWalker (now rules)) r walked (now facts) (now path))) ⌝ }
     requires { ⌜ used ≡ length (altsFound ((magicWalker (now rules)) .find [])) ⌝ }

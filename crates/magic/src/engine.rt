@@ -1,7 +1,6 @@
 // The magic engine's operations: a first run, and going on with a session.
 use crate::end::conclude;
 use crate::further::run_on;
-use ground::verdict::Verdict;
 use ground::verdict::limit_in;
 use magic_node::index::build;
 use magic_resume::left::root_alternatives;
@@ -9,6 +8,7 @@ use magic_walk::place::root;
 use magic_walk::trail::from_root;
 use rewriting::rewrite::write_rules;
 use session::record::Moved;
+use session::record::Reply;
 use session::record::Session;
 use session::record::blank;
 use session::record::refused;
@@ -26,7 +26,7 @@ ghost use Rattle.rewriting.specs.Facts.{findIn};
 ghost use Rattle.rewriting.specs.Rewrite.{rulesOver};
 ghost use Rattle.session.specs.Record.{laid};
 ghost use Rattle.session.specs.Calls.{verdictTold, recordLeft, answerLeft, workLeft};
-ghost use Rattle.magic.specs.Engine.{rulesOutcome, magicOutcome, magicResult, magicRules, magicAnswer, magicWork};
+ghost use Rattle.magic.specs.Engine.{rulesOutcome, magicOutcome, magicResult, magicDeepest, magicRules, magicAnswer, magicWork};
 ghost use Rattle.magic.specs.Sessions.{magicBegun, magicResumed, rulesLeft};
 
 // The magic walk by the rules of a buffer from the root on, under a limit, in a buffer for its facts.
@@ -37,7 +37,7 @@ fn decide(rules: &[u8], limit: u32, answer: &mut [u8], facts: &mut [u8]) -> Move
 {
     let index = build(rules);
     lists::zero(facts);
-    let mut path = [0u8; 9225];
+    let mut path = [0u8; 9227];
     let found = root(rules, &index, facts, &mut path);
     let used = root_alternatives(rules, &path, found);
     let walked = from_root(rules, &index, facts, &mut path, found, limit);
@@ -87,11 +87,16 @@ pub fn begin(
 }
 
 // The same, without a session.
-pub fn fit(table: &[u8], rules: &mut [u8], answer: &mut [u8], work: &mut [u8]) -> Verdict
-    ensures { λ r. ⌜ (r ≡ magicResult (now (table .entry)) (now (rules .entry)) (now (answer .entry)) (now (work .entry))) × (now (rules .exit) ≡ magicRules (now (table .entry)) (now (rules .entry)) (now (answer .entry)) (now (work .entry))) × (now (answer .exit) ≡ magicAnswer (now (table .entry)) (now (rules .entry)) (now (answer .entry)) (now (work .entry))) × (now (work .exit) ≡ magicWork (now (table .entry)) (now (rules .entry)) (now (answer .entry)) (now (work .entry))) ⌝ }
+pub fn fit(table: &[u8], rules: &mut [u8], answer: &mut [u8], work: &mut [u8]) -> Reply
+    ensures { λ r. ⌜ (r .verdict ≡ magicResult (now (table .entry)) (now (rules .entry)) (now (answer .entry)) (now (work .entry))) × (r .deepest ≡ magicDeepest (now (table .entry)) (now (rules .entry)) (now (answer .entry)) (now (work .entry))) × (now (rules .exit) ≡ magicRules (now (table .entry)) (now (rules .entry)) (now (answer .entry)) (now (work .entry))) × (now (answer .exit) ≡ magicAnswer (now (table .entry)) (now (rules .entry)) (now (answer .entry)) (now (work .entry))) × (now (work .exit) ≡ magicWork (now (table .entry)) (now (rules .entry)) (now (answer .entry)) (now (work .entry))) ⌝ }
 {
     let moved = begin(blank(), table, rules, answer, work);
-    moved.verdict
+    let session = moved.session;
+    let verdict = moved.verdict;
+    Reply {
+        verdict: verdict,
+        deepest: session.deepest,
+    }
 }
 
 // Goes on with a session on a lent table, under a further limit.

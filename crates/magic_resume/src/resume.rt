@@ -22,7 +22,7 @@ ghost use Rattle.magic_node.specs.contracts.Index.{RulesIndexed};
 ghost use Rattle.ground.specs.Instance.{Instance};
 ghost use Rattle.search.specs.Session.{pathOf, placeOf};
 ghost use Rattle.walk.specs.contracts.Walker.{Run};
-ghost use Rattle.walk.specs.contracts.Path.{markAt, pathIn};
+ghost use Rattle.walk.specs.contracts.Path.{markAt, deepestAt, pathIn};
 ghost use Rattle.walk.specs.contracts.Place.{Beginning, Parted, Reached, Trying};
 ghost use Rattle.walk.specs.contracts.Walk.{Leaves, Ended};
 ghost use Rattle.walk.specs.Numbers.{stepsIn, sessionOf};
@@ -119,8 +119,9 @@ fn resume(
     requires { ⌜ Reached (magicWalker (now rules)) (now facts) (now path) depth done found ⌝ }
     requires { ⌜ pathOf ((magicWalker (now rules)) .find) (stepsIn (now atoms) (now nexts) depth) ≡ some (pathIn (magicWalker (now rules)) (now path) depth) ⌝ }
     requires { ⌜ (depth ≤ steps) × (steps ≤ length (now atoms)) × (steps ≤ length (now nexts)) ⌝ }
+    requires { ⌜ steps ≤ deepestAt (now path) ⌝ }
     requires { ⌜ on .count ≤ on .limit ⌝ }
-    ensures { λ x. ⌜ Resumes (magicWalker (now (rules .entry))) (placeOf ((magicWalker (now (rules .entry))) .find) (sessionOf (on .standing) (on .count) (now (atoms .entry)) (now (nexts .entry)) steps (on .next))) (now (facts .entry)) (now (path .entry)) depth done (on .count) (on .limit) x (now (facts .exit)) (now (path .exit)) ⌝ }
+    ensures { λ x. ⌜ Resumes (magicWalker (now (rules .entry))) (placeOf ((magicWalker (now (rules .entry))) .find) (sessionOf (on .standing) (on .count) (now (atoms .entry)) (now (nexts .entry)) steps (on .next) (deepestAt (now (path .entry))))) (now (facts .entry)) (now (path .entry)) depth done (on .count) (on .limit) x (now (facts .exit)) (now (path .exit)) ⌝ }
 {
     if depth == steps {
         return stand(rules, index, facts, path, depth, done, found, on);
@@ -176,8 +177,9 @@ pub fn go_on(
     requires { ⌜ RulesIndexed (now rules) (now index) ⌝ }
     requires { ⌜ Beginning (magicWalker (now rules)) found (now facts) (now path) ⌝ }
     requires { ⌜ (steps ≤ length (now atoms)) × (steps ≤ length (now nexts)) ⌝ }
+    requires { ⌜ steps ≤ deepestAt (now path) ⌝ }
     requires { ⌜ on .count ≤ on .limit ⌝ }
-    ensures { λ x. ⌜ GoesOn (magicWalker (now (rules .entry))) (placeOf ((magicWalker (now (rules .entry))) .find) (sessionOf (on .standing) (on .count) (now (atoms .entry)) (now (nexts .entry)) steps (on .next))) (on .count) (on .limit) x (now (facts .exit)) (now (path .exit)) ⌝ }
+    ensures { λ x. ⌜ GoesOn (magicWalker (now (rules .entry))) (placeOf ((magicWalker (now (rules .entry))) .find) (sessionOf (on .standing) (on .count) (now (atoms .entry)) (now (nexts .entry)) steps (on .next) (deepestAt (now (path .entry))))) (on .count) (deepestAt (now (path .entry))) (on .limit) x (now (facts .exit)) (now (path .exit)) ⌝ }
 {
     resume(
         rules,

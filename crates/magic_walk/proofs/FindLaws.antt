@@ -51,7 +51,7 @@ module _ (bs : List ℕ) (h : Ruled bs) (facts path : List ℕ) (depth n done fr
       (omega (arith, node .rests .leaves .grows, opening .part)) (node .rests .leaves .kept)
 
   -- the node is split, and written down
-  module _ (m q a b c d : ℕ) (node : SplitByRules bs facts n m q a b c d left-facts) (left : List ℕ) (size : length left ≡ 9225) (wrote : Noted path depth q a b c d m left) where
+  module _ (m q a b c d : ℕ) (node : SplitByRules bs facts n m q a b c d left-facts) (left : List ℕ) (size : length left ≡ 9227) (wrote : Noted path depth q a b c d m left) where
     abbrev site : Site
     site = record { number = (node .site) .rule; values = (node .site) .values }
 
@@ -77,5 +77,5 @@ module _ (bs : List ℕ) (h : Ruled bs) (facts path : List ℕ) (depth n done fr
     pub node-split : Finding (magicWalker bs) facts path depth n done (ToldSplit m) left-facts left
     node-split =
         found-split w (sound bs h) facts path depth n done room (fresh .kept) (fresh .named) site splitting (node .found l (fresh .seeded))
-        left-facts left size (wrote .before) site-is (wrote .next) m (node .rests .leaves .store)
+        left-facts left size (wrote .before) (wrote .deepest-is) site-is (wrote .next) m (node .rests .leaves .store)
         (omega (arith, wrote .mark-is)) (omega (arith, wrote .mark-is, node .rests .leaves .grows, opening .part)) rests (node .held l (fresh .seeded)) (node .rests .leaves .kept)

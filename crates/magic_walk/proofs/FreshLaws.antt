@@ -99,7 +99,7 @@ module _ (bs : List ℕ) (h : Ruled bs) (facts path : List ℕ) (depth : ℕ) (n
       kept : Genuine (findIn bs) (pathIn w went (depth + 1))
       kept = entered-kept w facts path depth 0 some-left went p node
 
-      pub added-room : length went ≡ 9225 → Room went (depth + 1)
+      pub added-room : length went ≡ 9227 → Room went (depth + 1)
       added-room size = record { size = size; deep = path-deep w (sound bs h) went (depth + 1) kept }
 
       pub added-fresh : HeldFresh bs left went (depth + 1) n

@@ -24,7 +24,7 @@ ghost use Rattle.magic_node.specs.contracts.Node.{HeldOpening};
 ghost use Rattle.ground.specs.contracts.Branching.{NextOf};
 ghost use Rattle.ground.specs.declared.branch.NextBranch.the-variants.{Atom};
 ghost use Rattle.walk.specs.contracts.Alternatives.{listed, Listing};
-ghost use Rattle.walk.specs.contracts.Path.{Room, nextAt, siteAt, altsAt};
+ghost use Rattle.walk.specs.contracts.Path.{Room, nextAt, deepestAt, siteAt, altsAt};
 ghost use Rattle.walk.specs.contracts.Place.{Parted, Finding, Making, Beginning};
 ghost use Rattle.magic_walk.specs.contracts.Place.{ruleSite, magicWalker, HeldFresh, OwnFacts};
 
@@ -158,7 +158,7 @@ pub fn root(rules: &[u8], index: &[u16; 1536], facts: &mut [u8], path: &mut [u8]
     requires { ⌜ Ruled (now rules) ⌝ }
     requires { ⌜ RulesIndexed (now rules) (now index) ⌝ }
     requires { ⌜ Store 18434 (now facts) 0 × Room (now path) 0 ⌝ }
-    ensures { λ x. ⌜ Beginning (magicWalker (now (rules .entry))) x (now (facts .exit)) (now (path .exit)) × OwnFacts (now (path .exit)) 0 x ⌝ }
+    ensures { λ x. ⌜ Beginning (magicWalker (now (rules .entry))) x (now (facts .exit)) (now (path .exit)) × OwnFacts (now (path .exit)) 0 x × (deepestAt (now (path .exit)) ≡ deepestAt (now (path .entry))) ⌝ }
 {
     let n = start(rules, facts);
     find(rules, index, facts, path, 0, n, 0, 0)

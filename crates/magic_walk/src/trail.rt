@@ -12,7 +12,7 @@ ghost use Rattle.rewriting.specs.contracts.Ruled.{Ruled};
 ghost use Rattle.magic_node.specs.contracts.Index.{RulesIndexed};
 ghost use Rattle.ground.specs.Instance.{Instance};
 ghost use Rattle.walk.specs.contracts.Walker.{Run, fromRoot};
-ghost use Rattle.walk.specs.contracts.Path.{markAt};
+ghost use Rattle.walk.specs.contracts.Path.{markAt, deepestAt};
 ghost use Rattle.walk.specs.contracts.Place.{Beginning, Parted, Reached, Visiting, Trying};
 ghost use Rattle.walk.specs.contracts.Walk.{Leaves, Ended, Walks};
 ghost use Rattle.magic_walk.specs.contracts.Place.{magicWalker, OwnFacts};
@@ -113,7 +113,7 @@ pub fn from_root(
     requires { ⌜ Ruled (now rules) ⌝ }
     requires { ⌜ RulesIndexed (now rules) (now index) ⌝ }
     requires { ⌜ Beginning (magicWalker (now rules)) found (now facts) (now path) × OwnFacts (now path) 0 found ⌝ }
-    ensures { λ x. ⌜ Walks (magicWalker (now (rules .entry))) (fromRoot (magicWalker (now (rules .entry))) limit) x (now (facts .exit)) (now (path .exit)) ⌝ }
+    ensures { λ x. ⌜ Walks (magicWalker (now (rules .entry))) (fromRoot (magicWalker (now (rules .entry))) (deepestAt (now (path .entry))) limit) x (now (facts .exit)) (now (path .exit)) ⌝ }
 {
     visit(rules, index, facts, path, 0, 0, found, 0, limit)
 }

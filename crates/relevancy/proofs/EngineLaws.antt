@@ -57,8 +57,8 @@ module _ (tb answer work : List ℕ) where
 
 -- ---- the end of a first run under the table's own limit
 
-pub first-run : (tb : List ℕ) (limit : ℕ) → limit ≡ limitOf ((problemIn tb) .limit) → (answer : List ℕ) (m : Moved) (left : List ℕ)
-    → Concluded (relevancyWalker tb) (fromRoot (relevancyWalker tb) limit) answer m left
+pub first-run : (tb : List ℕ) (deepest limit : ℕ) → deepest ≡ 0 → limit ≡ limitOf ((problemIn tb) .limit) → (answer : List ℕ) (m : Moved) (left : List ℕ)
+    → Concluded (relevancyWalker tb) (fromRoot (relevancyWalker tb) deepest limit) answer m left
     → (m .verdict ≡ verdictOf (outcomeIn tb)) × (m .session ≡ laid (firstSession (findR (groundIn tb)) (limitOf ((problemIn tb) .limit)))) × (left ≡ answerOf (outcomeIn tb) answer)
 unfolding outcomeIn
-first-run tb limit e answer m left h = first-concluded (relevancyWalker tb) limit (limitOf ((problemIn tb) .limit)) e answer m left h
+first-run tb deepest limit none e answer m left h = first-concluded (relevancyWalker tb) deepest limit (limitOf ((problemIn tb) .limit)) none e answer m left h

@@ -68,8 +68,8 @@ module _ (tb answer work : List ℕ) (r : Record) where
 
     -- the run goes on in the first part of the work buffer
     pub resume-runs : tooShort tb answer work ≡ false → isValid (take 4096 tb) ≡ true → 65536 ≤ length work → (m : Moved) (left part : List ℕ)
-        → CallLeft (calledIn (findR (groundIn (take 4096 tb))) r further) r answer (take 65536 work) (m .verdict) (m .session) left part
+        → CallLeft (calledIn (findR (groundIn (take 4096 tb))) ((groundIn (take 4096 tb)) .atoms) r further) r answer (take 65536 work) (m .verdict) (m .session) left part
         → Resumes m left (part ++ drop 65536 work)
     resume-runs e v long m left part h =
-        left-called (resumed r further tb answer work) (calledIn (findR (groundIn own)) r further) (resumed-runs tb answer work r further e v) r answer work (m .verdict) (m .session) left (part ++ drop 65536 work)
-        (left-back (calledIn (findR (groundIn own)) r further) r answer work long (m .verdict) (m .session) left part h)
+        left-called (resumed r further tb answer work) (calledIn (findR (groundIn own)) ((groundIn own) .atoms) r further) (resumed-runs tb answer work r further e v) r answer work (m .verdict) (m .session) left (part ++ drop 65536 work)
+        (left-back (calledIn (findR (groundIn own)) ((groundIn own) .atoms) r further) r answer work long (m .verdict) (m .session) left part h)

@@ -13,9 +13,9 @@ use Rattle.ground.specs.declared.verdict.Verdict.the-variants.{Refused}
 use Rattle.ground.specs.Verdict.{verdictOf, answerOf}
 use Rattle.ground.specs.Instance.{groundIn}
 use Rattle.session.specs.declared.record.Session.{Session as Record}
-use Rattle.session.specs.Calls.{calledIn, begunBy, verdictTold, answerLeft, workLeft}
-use Rattle.session.proofs.CallLaws.{screened-short, screened-invalid, screened-through, screened-first, declined-by}
-use Rattle.relevancy.specs.Engine.{outcomeIn, tooShort, fitResult, fitAnswer, fitWork}
+use Rattle.session.specs.Calls.{deepestTold, calledIn, begunBy, verdictTold, recordLeft, answerLeft, workLeft}
+use Rattle.session.proofs.CallLaws.{screened-short, screened-invalid, screened-through, screened-first, declined-by, deepest-lent, deepest-first}
+use Rattle.relevancy.specs.Engine.{outcomeIn, tooShort, fitResult, fitDeepest, fitAnswer, fitWork}
 use Rattle.relevancy.specs.Sessions.{begun, resumed}
 use Rattle.relevancy.proofs.EngineLaws.{Fitted, fit-short, fit-invalid, fit-runs}
 
@@ -60,11 +60,20 @@ module _ (tb answer work : List ℕ) where
       go false true e u =
           as-called run (begun-runs e u) (fit-runs tb answer work e u (verdictOf (outcomeIn own)) (answerOf (outcomeIn own) answer) (replicate 65536 0) refl refl refl)
 
+  -- the figure that a first run tells
+  pub begun-shows : deepestTold (begun tb answer work) ≡ fitDeepest tb answer work
+  unfolding begun fitDeepest
+  begun-shows = deepest-first (findR (groundIn own)) (limitOf ((problemIn own) .limit)) (tooShort tb answer work) (isValid own)
+
+  -- a record lent with no figure holds the longest path entered
+  pub begun-deepest : (r left : Record) → r .deepest ≡ 0 → left ≡ recordLeft (begun tb answer work) r → left .deepest ≡ fitDeepest tb answer work
+  begun-deepest r left lent is = ap (λ (x : Record). x .deepest) is ∙ deepest-lent (begun tb answer work) r lent ∙ begun-shows
+
   -- ---- going on
 
   module _ (r : Record) (further : ℕ) where
     abbrev on : Called
-    on = calledIn (findR (groundIn own)) r further
+    on = calledIn (findR (groundIn own)) ((groundIn own) .atoms) r further
 
     pub resumed-short : tooShort tb answer work ≡ true → resumed r further tb answer work ≡ declined 11
     unfolding resumed
@@ -75,7 +84,7 @@ module _ (tb answer work : List ℕ) where
     resumed-invalid e v = screened-invalid (tooShort tb answer work) (isValid own) on e v
 
     pub resumed-runs : tooShort tb answer work ≡ false → isValid (take 4096 tb) ≡ true
-        → resumed r further tb answer work ≡ calledIn (findR (groundIn (take 4096 tb))) r further
+        → resumed r further tb answer work ≡ calledIn (findR (groundIn (take 4096 tb))) ((groundIn (take 4096 tb)) .atoms) r further
     unfolding resumed
     resumed-runs e v = screened-through (tooShort tb answer work) (isValid own) on e v
 

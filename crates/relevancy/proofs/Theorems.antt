@@ -24,7 +24,7 @@ use Rattle.relevancy.specs.Engine.{outcomeIn, fitResult, fitAnswer}
 use Rattle.relevancy.specs.Sessions.{begun, resumed}
 use Rattle.relevancy.specs.Claims.{Taken, Theorems}
 use Rattle.relevancy.proofs.EngineLaws.{short-table, short-answer, short-work, long-enough, fit-short, fit-invalid}
-use Rattle.relevancy.proofs.SessionLaws.{begun-runs, begun-same, resumed-first}
+use Rattle.relevancy.proofs.SessionLaws.{begun-runs, begun-same, begun-shows, resumed-first}
 
 -- ---- a call that is taken
 
@@ -91,6 +91,7 @@ theorems =
       demand-2 = demand-2;
       taken-or-refused = taken-or-refused;
       begun-same = begun-same;
+      begun-shows = begun-shows;
       begun-told = begun-told;
       resumed-or-refused = resumed-or-refused;
       resumed-first = first;

@@ -1,5 +1,5 @@
 -- Demand 2 of the relevancy engine's operation, whatever the code: the contract of `engine::fit` equates what the operation gives and leaves with
--- `fitResult`, `fitAnswer` and `fitWork`. `proofs/Theorems.antt` proves `Theorems`.
+-- `fitResult`, `fitDeepest`, `fitAnswer` and `fitWork`. `proofs/Theorems.antt` proves `Theorems`.
 use Prim.Native.Nat.{ℕ, _≤_}
 use mathlib.Core.List.{List}
 use mathlib.Core.Logic.{_⊎_}
@@ -12,8 +12,8 @@ use Rattle.problem.specs.Table.{Valid}
 use Rattle.judging.specs.Demand2.{groundLent, limitLent, Demand2}
 use Rattle.ground.specs.declared.verdict.Verdict.the-variants.{Refused}
 use Rattle.session.specs.declared.record.Session.{Session as Record}
-use Rattle.session.specs.Calls.{verdictTold, answerLeft, workLeft}
-use Rattle.relevancy.specs.Engine.{fitResult, fitAnswer, fitWork}
+use Rattle.session.specs.Calls.{verdictTold, deepestTold, answerLeft, workLeft}
+use Rattle.relevancy.specs.Engine.{fitResult, fitDeepest, fitAnswer, fitWork}
 use Rattle.relevancy.specs.Sessions.{begun, resumed}
 
 -- the buffers are long enough, and some accepted text reads to the table
@@ -31,6 +31,8 @@ pub record Theorems : Type 1 where
   pub begun-same : (tb answer work : List ℕ)
       → (verdictTold (begun tb answer work) ≡ fitResult tb answer work) × (answerLeft (begun tb answer work) answer ≡ fitAnswer tb answer work)
       × (workLeft (begun tb answer work) work ≡ fitWork tb answer work)
+  -- and the deepest figure of its answer is the one that its session has; 0 where it is refused
+  pub begun-shows : (tb answer work : List ℕ) → deepestTold (begun tb answer work) ≡ fitDeepest tb answer work
   -- a first run that is taken tells the outcome of the table's walk under its own limit, and leaves the session of it
   pub begun-told : (tb answer work : List ℕ) → Taken tb answer work
       → begun tb answer work ≡ told (outcome (findR (groundLent tb)) (limitLent tb)) (firstSession (findR (groundLent tb)) (limitLent tb))

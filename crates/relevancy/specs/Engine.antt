@@ -5,7 +5,7 @@ use mathlib.Core.List.{List, _++_}
 use lib.Dec.{ltb}
 use lib.ListN.{length, take, drop, replicate}
 use Rattle.search.specs.Relevancy.{findR}
-use Rattle.search.specs.Machine.{Outcome, outcome}
+use Rattle.search.specs.Machine.{Outcome, outcome, deepestUnder}
 use Rattle.problem.specs.Problem.{limitOf}
 use Rattle.problem.specs.Layout.{problemIn}
 use Rattle.problem.specs.Table.{isValid}
@@ -18,6 +18,10 @@ use Rattle.ground.specs.Instance.{groundIn}
 unfoldable pub outcomeIn : List ℕ → Outcome
 outcomeIn tb = outcome (findR (groundIn tb)) (limitOf ((problemIn tb) .limit))
 
+-- the longest path that it enters
+abbrev pub deepestIn : List ℕ → ℕ
+deepestIn tb = deepestUnder (findR (groundIn tb)) (limitOf ((problemIn tb) .limit))
+
 abbrev pub tooShort : List ℕ → List ℕ → List ℕ → Bool
 tooShort tb answer work = ltb (length tb) 4096 || ltb (length answer) 1024 || ltb (length work) 65536
 
@@ -25,6 +29,10 @@ tooShort tb answer work = ltb (length tb) 4096 || ltb (length answer) 1024 || lt
 unfoldable pub fitResult : List ℕ → List ℕ → List ℕ → Verdict
 fitResult tb answer work =
     cond (tooShort tb answer work) (Refused 11) (cond (isValid (take 4096 tb)) (verdictOf (outcomeIn (take 4096 tb))) (Refused 31))
+
+-- the longest path entered
+unfoldable pub fitDeepest : List ℕ → List ℕ → List ℕ → ℕ
+fitDeepest tb answer work = cond (tooShort tb answer work) 0 (cond (isValid (take 4096 tb)) (deepestIn (take 4096 tb)) 0)
 
 unfoldable pub fitAnswer : List ℕ → List ℕ → List ℕ → List ℕ
 fitAnswer tb answer work = cond (tooShort tb answer work) answer (cond (isValid (take 4096 tb)) (answerOf (outcomeIn (take 4096 tb)) answer) answer)

@@ -18,4 +18,4 @@ begun tb answer work = screened (tooShort tb answer work) (isValid (take 4096 tb
 
 -- going on with a session under a further limit
 unfoldable pub resumed : Record → ℕ → List ℕ → List ℕ → List ℕ → Called
-resumed r further tb answer work = screened (tooShort tb answer work) (isValid (take 4096 tb)) (calledIn (findR (groundIn (take 4096 tb))) r further)
+resumed r further tb answer work = screened (tooShort tb answer work) (isValid (take 4096 tb)) (calledIn (findR (groundIn (take 4096 tb))) ((groundIn (take 4096 tb)) .atoms) r further)

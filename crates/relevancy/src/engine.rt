@@ -1,13 +1,13 @@
 // The relevancy engine's operations: a first run, and going on with a session.
 use crate::end::conclude;
 use crate::further::go_further;
-use ground::verdict::Verdict;
 use ground::verdict::limit_in;
 use relevancy_node::index::build;
 use relevancy_resume::left::root_alternatives;
 use relevancy_walk::place::root;
 use relevancy_walk::trail::from_root;
 use session::record::Moved;
+use session::record::Reply;
 use session::record::Session;
 use session::record::blank;
 use session::record::refused;
@@ -24,7 +24,7 @@ ghost use Rattle.ground.specs.Verdict.{verdictOf, answerOf};
 ghost use Rattle.ground.specs.Instance.{groundIn};
 ghost use Rattle.session.specs.Record.{laid};
 ghost use Rattle.session.specs.Calls.{verdictTold, recordLeft, answerLeft, workLeft};
-ghost use Rattle.relevancy.specs.Engine.{outcomeIn, fitResult, fitAnswer, fitWork};
+ghost use Rattle.relevancy.specs.Engine.{outcomeIn, fitResult, fitDeepest, fitAnswer, fitWork};
 ghost use Rattle.relevancy.specs.Sessions.{begun, resumed};
 
 // The walk of a valid table from the root on, under its own limit, in a buffer for its facts.
@@ -36,7 +36,7 @@ fn decide(table: &[u8], answer: &mut [u8], facts: &mut [u8]) -> Moved
     let conds = build(table, false);
     let alts = build(table, true);
     lists::zero(facts);
-    let mut path = [0u8; 9225];
+    let mut path = [0u8; 9227];
     let limit = limit_in(table);
     let found = root(table, &conds, &alts, facts, &mut path);
     let used = root_alternatives(table, &path, found);
@@ -76,11 +76,16 @@ pub fn begin(session: Session, table: &[u8], answer: &mut [u8], work: &mut [u8])
 }
 
 // The same, without a session.
-pub fn fit(table: &[u8], answer: &mut [u8], work: &mut [u8]) -> Verdict
-    ensures { λ r. ⌜ (r ≡ fitResult (now (table .entry)) (now (answer .entry)) (now (work .entry))) × (now (answer .exit) ≡ fitAnswer (now (table .entry)) (now (answer .entry)) (now (work .entry))) × (now (work .exit) ≡ fitWork (now (table .entry)) (now (answer .entry)) (now (work .entry))) ⌝ }
+pub fn fit(table: &[u8], answer: &mut [u8], work: &mut [u8]) -> Reply
+    ensures { λ r. ⌜ (r .verdict ≡ fitResult (now (table .entry)) (now (answer .entry)) (now (work .entry))) × (r .deepest ≡ fitDeepest (now (table .entry)) (now (answer .entry)) (now (work .entry))) × (now (answer .exit) ≡ fitAnswer (now (table .entry)) (now (answer .entry)) (now (work .entry))) × (now (work .exit) ≡ fitWork (now (table .entry)) (now (answer .entry)) (now (work .entry))) ⌝ }
 {
     let moved = begin(blank(), table, answer, work);
-    moved.verdict
+    let session = moved.session;
+    let verdict = moved.verdict;
+    Reply {
+        verdict: verdict,
+        deepest: session.deepest,
+    }
 }
 
 // Goes on with a session on a lent table, under a further limit.

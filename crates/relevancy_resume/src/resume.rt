@@ -23,7 +23,7 @@ ghost use Rattle.relevancy_node.specs.contracts.Index.{ClausesIndexed};
 ghost use Rattle.ground.specs.Instance.{Instance};
 ghost use Rattle.search.specs.Session.{pathOf, placeOf};
 ghost use Rattle.walk.specs.contracts.Walker.{Run};
-ghost use Rattle.walk.specs.contracts.Path.{markAt, pathIn};
+ghost use Rattle.walk.specs.contracts.Path.{markAt, deepestAt, pathIn};
 ghost use Rattle.walk.specs.contracts.Place.{Parted, Reached, Trying, Beginning};
 ghost use Rattle.walk.specs.contracts.Walk.{Leaves, Ended};
 ghost use Rattle.walk.specs.Numbers.{stepsIn, sessionOf};
@@ -133,8 +133,9 @@ fn resume(
     requires { ⌜ Reached (relevancyWalker (now table)) (now facts) (now path) depth done found ⌝ }
     requires { ⌜ pathOf ((relevancyWalker (now table)) .find) (stepsIn (now atoms) (now nexts) depth) ≡ some (pathIn (relevancyWalker (now table)) (now path) depth) ⌝ }
     requires { ⌜ (depth ≤ steps) × (steps ≤ length (now atoms)) × (steps ≤ length (now nexts)) ⌝ }
+    requires { ⌜ steps ≤ deepestAt (now path) ⌝ }
     requires { ⌜ on .count ≤ on .limit ⌝ }
-    ensures { λ x. ⌜ Resumes (relevancyWalker (now (table .entry))) (placeOf ((relevancyWalker (now (table .entry))) .find) (sessionOf (on .standing) (on .count) (now (atoms .entry)) (now (nexts .entry)) steps (on .next))) (now (facts .entry)) (now (path .entry)) depth done (on .count) (on .limit) x (now (facts .exit)) (now (path .exit)) ⌝ }
+    ensures { λ x. ⌜ Resumes (relevancyWalker (now (table .entry))) (placeOf ((relevancyWalker (now (table .entry))) .find) (sessionOf (on .standing) (on .count) (now (atoms .entry)) (now (nexts .entry)) steps (on .next) (deepestAt (now (path .entry))))) (now (facts .entry)) (now (path .entry)) depth done (on .count) (on .limit) x (now (facts .exit)) (now (path .exit)) ⌝ }
 {
     if depth == steps {
         return stand(table, conds, alts, facts, path, depth, done, found, on);
@@ -192,8 +193,9 @@ pub fn go_on(
     requires { ⌜ ClausesIndexed (now table) false (now conds) × ClausesIndexed (now table) true (now alts) ⌝ }
     requires { ⌜ Beginning (relevancyWalker (now table)) found (now facts) (now path) ⌝ }
     requires { ⌜ (steps ≤ length (now atoms)) × (steps ≤ length (now nexts)) ⌝ }
+    requires { ⌜ steps ≤ deepestAt (now path) ⌝ }
     requires { ⌜ on .count ≤ on .limit ⌝ }
-    ensures { λ x. ⌜ GoesOn (relevancyWalker (now (table .entry))) (placeOf ((relevancyWalker (now (table .entry))) .find) (sessionOf (on .standing) (on .count) (now (atoms .entry)) (now (nexts .entry)) steps (on .next))) (on .count) (on .limit) x (now (facts .exit)) (now (path .exit)) ⌝ }
+    ensures { λ x. ⌜ GoesOn (relevancyWalker (now (table .entry))) (placeOf ((relevancyWalker (now (table .entry))) .find) (sessionOf (on .standing) (on .count) (now (atoms .entry)) (now (nexts .entry)) steps (on .next) (deepestAt (now (path .entry))))) (on .count) (deepestAt (now (path .entry))) (on .limit) x (now (facts .exit)) (now (path .exit)) ⌝ }
 {
     resume(
         table,

@@ -48,7 +48,7 @@ module _ (tb : List ℕ) (h : Lawful tb) (facts path : List ℕ) (depth n done :
     abbrev site : Site
     site = record { number = (node .site) .clause; values = (node .site) .values }
 
-    module _ (left : List ℕ) (size : length left ≡ 9225) (wrote : Noted path depth k a b c d t left) where
+    module _ (left : List ℕ) (size : length left ≡ 9227) (wrote : Noted path depth k a b c d t left) where
       site-is : siteAt (relevancyWalker tb) left depth ≡ site
       site-is =
           let i = node .site in
@@ -69,5 +69,5 @@ module _ (tb : List ℕ) (h : Lawful tb) (facts path : List ℕ) (depth n done :
       pub node-split : Finding (relevancyWalker tb) facts path depth n done (ToldSplit m) left-facts left
       node-split =
           found-split (relevancyWalker tb) (sound tb h) facts path depth n done (fresh .room) (fresh .kept) (fresh .named) site (node .listed) (node .found l (fresh .seeded))
-          left-facts left size (wrote .before) site-is (wrote .next) m (node .leaves .store)
+          left-facts left size (wrote .before) (wrote .deepest-is) site-is (wrote .next) m (node .leaves .store)
           (omega (arith, wrote .mark-is, node .part)) (omega (arith, wrote .mark-is, node .more, fresh .opening .part)) rests (node .held l (fresh .seeded)) (node .leaves .kept)

@@ -69,7 +69,7 @@ module _ (tb : List ℕ) (h : Lawful tb) (facts path : List ℕ) (depth : ℕ) (
           worked = added-worked 2050 facts mark atom left n put (hornRules (groundIn tb)) (rests .worked);
         }
 
-    pub entered-fresh : (went : List ℕ) → length went ≡ 9225 → Passed path depth went → TrueFresh tb left went (depth + 1) n (markAt path depth)
+    pub entered-fresh : (went : List ℕ) → length went ≡ 9227 → Passed path depth went → TrueFresh tb left went (depth + 1) n (markAt path depth)
     entered-fresh went size p =
         let kept = entered-kept (relevancyWalker tb) facts path depth 0 some-left went p node in
         record {

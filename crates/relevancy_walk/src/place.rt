@@ -22,7 +22,7 @@ ghost use Rattle.relevancy_node.specs.contracts.Index.{ClausesIndexed};
 ghost use Rattle.ground.specs.contracts.Branching.{NextOf};
 ghost use Rattle.ground.specs.declared.branch.NextBranch.the-variants.{Atom};
 ghost use Rattle.walk.specs.contracts.Alternatives.{listed, Listing};
-ghost use Rattle.walk.specs.contracts.Path.{Room, nextAt, siteAt, altsAt};
+ghost use Rattle.walk.specs.contracts.Path.{Room, nextAt, deepestAt, siteAt, altsAt};
 ghost use Rattle.walk.specs.contracts.Place.{Parted, Finding, Making, Beginning};
 ghost use Rattle.relevancy_walk.specs.contracts.Place.{relevancyWalker, TrueFresh};
 
@@ -153,7 +153,7 @@ pub fn root(
     requires { ⌜ Lawful (now table) ⌝ }
     requires { ⌜ ClausesIndexed (now table) false (now conds) × ClausesIndexed (now table) true (now alts) ⌝ }
     requires { ⌜ Store 2050 (now facts) 0 × Room (now path) 0 ⌝ }
-    ensures { λ x. ⌜ Beginning (relevancyWalker (now (table .entry))) x (now (facts .exit)) (now (path .exit)) ⌝ }
+    ensures { λ x. ⌜ Beginning (relevancyWalker (now (table .entry))) x (now (facts .exit)) (now (path .exit)) × (deepestAt (now (path .exit)) ≡ deepestAt (now (path .entry))) ⌝ }
 {
     let n = start(table, facts);
     find(table, conds, alts, facts, path, 0, n, 0)

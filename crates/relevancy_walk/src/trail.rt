@@ -13,7 +13,7 @@ ghost use Rattle.problem.specs.Table.{Lawful};
 ghost use Rattle.relevancy_node.specs.contracts.Index.{ClausesIndexed};
 ghost use Rattle.ground.specs.Instance.{Instance};
 ghost use Rattle.walk.specs.contracts.Walker.{Run, fromRoot};
-ghost use Rattle.walk.specs.contracts.Path.{markAt};
+ghost use Rattle.walk.specs.contracts.Path.{markAt, deepestAt};
 ghost use Rattle.walk.specs.contracts.Place.{Parted, Reached, Visiting, Trying, Beginning};
 ghost use Rattle.walk.specs.contracts.Walk.{Leaves, Ended, Walks};
 ghost use Rattle.relevancy_walk.specs.contracts.Place.{relevancyWalker};
@@ -120,7 +120,7 @@ pub fn from_root(
     requires { ⌜ Lawful (now table) ⌝ }
     requires { ⌜ ClausesIndexed (now table) false (now conds) × ClausesIndexed (now table) true (now alts) ⌝ }
     requires { ⌜ Beginning (relevancyWalker (now table)) found (now facts) (now path) ⌝ }
-    ensures { λ x. ⌜ Walks (relevancyWalker (now (table .entry))) (fromRoot (relevancyWalker (now (table .entry))) limit) x (now (facts .exit)) (now (path .exit)) ⌝ }
+    ensures { λ x. ⌜ Walks (relevancyWalker (now (table .entry))) (fromRoot (relevancyWalker (now (table .entry))) (deepestAt (now (path .entry))) limit) x (now (facts .exit)) (now (path .exit)) ⌝ }
 {
     visit(table, conds, alts, facts, path, 0, 0, found, 0, limit)
 }

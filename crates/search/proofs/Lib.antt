@@ -2,6 +2,7 @@ pub mod Ground
 pub mod Closure
 pub mod Machine
 pub mod Path
+pub mod Deepest
 pub mod Refuted
 pub mod Sound
 pub mod Relevancy

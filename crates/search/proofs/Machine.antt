@@ -11,7 +11,7 @@ use lib.ListN.{length, length-append}
 use borrow.Author.Tests.{lt-ltb, le-ltb}
 use Rattle.lists.specs.Member.{All}
 use Rattle.search.specs.Ground.{Found, closed, opened, split}
-use Rattle.search.specs.Machine.{Branch, Place, enter, back, after, nextPath, Outcome, Satisfied, Refuted, Exhausted, stopped, answerAt, answer, last, place, placed, advance, root, entries, proceed, outcome, Whole}
+use Rattle.search.specs.Machine.{Branch, Place, enter, back, after, nextPath, Satisfied, Exhausted, stopped, answerAt, answer, last, place, placed, advance, entries, proceed, Whole}
 
 pub last-all {ℓ} : {I : Type 0} (P : Place I → Type ℓ) (s : Place I) (es : List (Place I)) → P s → All P es → P (last s es)
 last-all P s [] h a = h
@@ -29,24 +29,6 @@ answer-satisfied {I} s n m bits e = go (s .found) (nextPath s) e
     go closed o q = absurd (fails o q)
     go (opened b) o q = let same : b ≡ bits = cc in ap opened same
     go (split i ds) o q = absurd (fails o q)
-
--- of an outcome's count
-abbrev pub Counted : (ℕ → Type 0) → Outcome → Type 0
-Counted P (Satisfied n bits) = P n
-Counted P (Refuted n) = P n
-Counted P (Exhausted n) = P n
-
-answer-counted : {I : Type 0} (P : ℕ → Type 0) (s : Place I) (n : ℕ) → P n → Counted P (answer s n)
-answer-counted {I} P s n p = go (s .found) (nextPath s)
-  where
-    over : (o : Option (List (Branch I))) → Counted P (stopped o n)
-    over none = p
-    over (some bs) = p
-
-    go : (f : Found I) (o : Option (List (Branch I))) → Counted P (answerAt f o n)
-    go closed o = over o
-    go (opened bits) o = p
-    go (split i ds) o = over o
 
 module _ {I : Type 0} (find : List ℕ → Found I) where
   pub entries-some : (n : ℕ) (s t : Place I) → advance find s ≡ some t → entries find (suc n) s ≡ t ∷ entries find n t
@@ -148,9 +130,3 @@ module _ {I : Type 0} (find : List ℕ → Found I) where
       go : (o : Option (Place I)) → ((t : Place I) → length (entries find n t) ≤ n) → length {A = Place I} (elim o [ none ↦ [] | some t ↦ t ∷ entries find n t ]) ≤ suc n
       go none h = omega arith
       go (some t) h = let few : length (entries find n t) ≤ n = h t in omega arith
-
-  pub outcome-count : (limit : ℕ) → Counted (λ n. n ≤ limit) (outcome find limit)
-  unfolding proceed
-  outcome-count limit =
-      let es : List (Place I) = entries find limit (root find) in
-      answer-counted (λ n. n ≤ limit) (last (root find) es) (0 + length es) (omega (arith, entries-most limit (root find)))

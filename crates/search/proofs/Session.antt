@@ -13,12 +13,17 @@ use Rattle.lists.proofs.Bytes.{drop-next}
 use Rattle.lists.specs.Test.{T-left, T-right}
 use Rattle.search.specs.Ground.{Found, closed, opened, split}
 use Rattle.search.specs.Machine.{Branch, Place, entered, Genuine}
-use Rattle.search.specs.Session.{Step, Session, altsFound, stepTaken, nodeTaken, standsAt, whereStands, pathOf, nodeOf, placeOf, stepsOf}
+use Rattle.search.specs.Session.{Step, Session, altsFound, stepTaken, nodeTaken, standsAt, deepStands, whereStands, pathOf, nodeOf, placeOf, standsIn, stepsOf}
 use Rattle.search.proofs.Path.{withTried, Reached}
 
 pub cond-some : {A : Type 0} (b : Bool) (x y : A) → cond b (some x) none ≡ some y → (b ≡ true) × (x ≡ y)
 cond-some true x y e = (refl, (cc))
 cond-some false x y e = absurd (Option·none-ne-some y e)
+
+-- the same of an option that is tested first
+guarded-some : {A : Type 0} (b : Bool) (o : Option A) (y : A) → cond b o none ≡ some y → (b ≡ true) × (o ≡ some y)
+guarded-some true o y e = (refl, e)
+guarded-some false o y e = absurd (Option·none-ne-some y e)
 
 -- what is taken off a node was tried
 pub node-tried : {I : Type 0} (f h : Found I) (next : ℕ) → nodeTaken f next ≡ some h → (tried : List ℕ) × (f ≡ withTried tried h)
@@ -138,6 +143,10 @@ module _ {I : Type 0} (find : List ℕ → Found I) where
           → _≡_ {A = Option (Place I)} (elim o [ none ↦ none | some bs ↦ elim (nodeOf find bs (s .next)) [ none ↦ none | some u ↦ whereStands (s .standing) u ] ]) (some t) → Stands s t
       go none u w = absurd (Option·none-ne-some t w)
       go (some bs) u w = at bs u (nodeOf find bs (s .next)) refl w
+
+  -- a session that stands over so many atoms has the figure of a path, and stands
+  pub in-stands : (atoms : ℕ) (s : Session) (t : Place I) → standsIn find atoms s ≡ some t → (deepStands atoms s ≡ true) × (placeOf find s ≡ some t)
+  in-stands atoms s t e = guarded-some (deepStands atoms s) (placeOf find s) t e
 
   pub stands-reached : (s : Session) (t : Place I) → placeOf find s ≡ some t → Reached find t
   stands-reached s t e =

@@ -67,14 +67,14 @@ module _ {I : Type 0} (find : List ℕ → Found I) where
   pub record Alike (u v : Place I) : Type 0 where
     pub next-same : nextPath v ≡ nextPath u
     pub answers : (n : ℕ) → answer v n ≡ answer u n
-    pub leaves : (n : ℕ) → leftBy find (answer v n) v ≡ leftBy find (answer u n) u
+    pub leaves : (n d : ℕ) → leftBy find (answer v n) d v ≡ leftBy find (answer u n) d u
 
   pub alike-self : (u : Place I) → Alike u u
-  alike-self u = record { next-same = refl; answers = λ n. refl; leaves = λ n. refl }
+  alike-self u = record { next-same = refl; answers = λ n. refl; leaves = λ n d. refl }
 
-  going-leaves : (u v : Place I) (o : Option (List (Branch I))) (n : ℕ) → nextPath u ≡ o → nextPath v ≡ o → leftBy find (stopped o n) v ≡ leftBy find (stopped o n) u
-  going-leaves u v none n d e = refl
-  going-leaves u v (some bs) n d e = ap (dueAt find n) (e ∙ sym d)
+  going-leaves : (u v : Place I) (o : Option (List (Branch I))) (n d : ℕ) → nextPath u ≡ o → nextPath v ≡ o → leftBy find (stopped o n) d v ≡ leftBy find (stopped o n) d u
+  going-leaves u v none n d q e = refl
+  going-leaves u v (some bs) n d q e = ap (dueAt find n d) (e ∙ sym q)
 
   -- two places that are not open are alike where the next entry is the same
   alike-going : (u v : Place I) → isOpen (u .found) ≡ false → isOpen (v .found) ≡ false → nextPath v ≡ nextPath u → Alike u v
@@ -82,10 +82,10 @@ module _ {I : Type 0} (find : List ℕ → Found I) where
       record {
         next-same = e;
         answers = λ n. going-answer (v .found) (nextPath v) n b ∙ ap (λ (o : Option (List (Branch I))). stopped o n) e ∙ sym (going-answer (u .found) (nextPath u) n a);
-        leaves = λ n.
-            ap (λ (x : Outcome). leftBy find x v) (going-answer (v .found) (nextPath v) n b ∙ ap (λ (o : Option (List (Branch I))). stopped o n) e)
-            ∙ going-leaves u v (nextPath u) n refl e
-            ∙ sym (ap (λ (x : Outcome). leftBy find x u) (going-answer (u .found) (nextPath u) n a));
+        leaves = λ n d.
+            ap (λ (x : Outcome). leftBy find x d v) (going-answer (v .found) (nextPath v) n b ∙ ap (λ (o : Option (List (Branch I))). stopped o n) e)
+            ∙ going-leaves u v (nextPath u) n d refl e
+            ∙ sym (ap (λ (x : Outcome). leftBy find x d u) (going-answer (u .found) (nextPath u) n a));
       }
 
   -- a session holds this count, and stands at a place like this
@@ -104,53 +104,53 @@ module _ {I : Type 0} (find : List ℕ → Found I) where
   root-going [] f r e = ap isOpen (r .1 .1) ∙ tried-open (r .1 .0) f ∙ e
   root-going (b ∷ bs) f r e = root-split b bs (r .0)
 
-  rests-over : (u : Place I) (n : ℕ) → Reached find u → isOpen (u .found) ≡ false → nextPath u ≡ none → Rests u n (leftBy find (Refuted n) u)
-  rests-over u n r a e =
+  rests-over : (u : Place I) (n d : ℕ) → Reached find u → isOpen (u .found) ≡ false → nextPath u ≡ none → Rests u n (leftBy find (Refuted n) d u)
+  rests-over u n d r a e =
       let w = used-up (find []) (root-going (u .path) (u .found) r a) in
       let v : Place I = record { path = []; found = w .0 } in
       record {
         counted = refl;
         at = v;
-        stands = stands-at find (leftBy find (Refuted n) u) v (record { path-of = refl; node-of = w .1 .taken; right-there = w .1 .over });
+        stands = stands-at find (leftBy find (Refuted n) d u) v (record { path-of = refl; node-of = w .1 .taken; right-there = w .1 .over });
         alike = alike-going u v a (w .1 .going) (w .1 .ends ∙ sym e);
       }
 
-  rests-due : (u : Place I) (n : ℕ) (c : Branch I) (cs : List (Branch I)) → isOpen (u .found) ≡ false → nextPath u ≡ some (c ∷ cs) → Genuine find (c ∷ cs)
-      → Rests u n (dueAt find n (some (c ∷ cs)))
-  rests-due u n c cs a e g =
+  rests-due : (u : Place I) (n d : ℕ) (c : Branch I) (cs : List (Branch I)) → isOpen (u .found) ≡ false → nextPath u ≡ some (c ∷ cs) → Genuine find (c ∷ cs)
+      → Rests u n (dueAt find n d (some (c ∷ cs)))
+  rests-due u n d c cs a e g =
       let v : Place I = record { path = cs; found = split (c .site) (c .atom ∷ c .rest) } in
       record {
         counted = refl;
         at = v;
         stands =
-            stands-at find (dueAt find n (some (c ∷ cs))) v
+            stands-at find (dueAt find n d (some (c ∷ cs))) v
             (record { path-of = steps-path find cs (g .1); node-of = due-node c (g .0 .0) (find (entered cs)) (g .0 .1); right-there = refl });
         alike = alike-going u v a refl (sym e);
       }
 
-  rests-going : (u : Place I) (n : ℕ) → Reached find u → isOpen (u .found) ≡ false → Rests u n (leftBy find (answer u n) u)
-  rests-going u n r a = subst (λ (x : Outcome). Rests u n (leftBy find x u)) (sym (going-answer (u .found) (nextPath u) n a)) (go (nextPath u) refl)
+  rests-going : (u : Place I) (n d : ℕ) → Reached find u → isOpen (u .found) ≡ false → Rests u n (leftBy find (answer u n) d u)
+  rests-going u n d r a = subst (λ (x : Outcome). Rests u n (leftBy find x d u)) (sym (going-answer (u .found) (nextPath u) n a)) (go (nextPath u) refl)
     where
-      go : (o : Option (List (Branch I))) → nextPath u ≡ o → Rests u n (leftBy find (stopped o n) u)
-      go none e = rests-over u n r a e
+      go : (o : Option (List (Branch I))) → nextPath u ≡ o → Rests u n (leftBy find (stopped o n) d u)
+      go none e = rests-over u n d r a e
       go (some []) e = absurd (after-made (u .found) (u .path) e)
-      go (some (c ∷ cs)) e = subst (λ (o : Option (List (Branch I))). Rests u n (dueAt find n o)) (sym e) (rests-due u n c cs a e (next-genuine find u (c ∷ cs) r e))
+      go (some (c ∷ cs)) e = subst (λ (o : Option (List (Branch I))). Rests u n (dueAt find n d o)) (sym e) (rests-due u n d c cs a e (next-genuine find u (c ∷ cs) r e))
 
   -- what is left at a place of the walk rests there
-  pub rests : (u : Place I) (n : ℕ) → Reached find u → Rests u n (leftBy find (answer u n) u)
-  rests u n r = go (u .found) (u .path) r
+  pub rests : (u : Place I) (n d : ℕ) → Reached find u → Rests u n (leftBy find (answer u n) d u)
+  rests u n d r = go (u .found) (u .path) r
     where
       go : (f : Found I) (bs : List (Branch I)) → Reached find (record { path = bs; found = f })
-          → Rests (record { path = bs; found = f }) n (leftBy find (answer (record { path = bs; found = f }) n) (record { path = bs; found = f }))
-      go closed bs w = rests-going (record { path = bs; found = closed }) n w refl
+          → Rests (record { path = bs; found = f }) n (leftBy find (answer (record { path = bs; found = f }) n) d (record { path = bs; found = f }))
+      go closed bs w = rests-going (record { path = bs; found = closed }) n d w refl
       go (opened bits) bs w =
           let v : Place I = record { path = bs; found = opened bits } in
           record {
             counted = refl;
             at = v;
             stands =
-                stands-at find (leftBy find (Satisfied n bits) v) v
+                stands-at find (leftBy find (Satisfied n bits) d v) v
                 (record { path-of = steps-path find bs (w .0); node-of = ap (λ (f : Found I). nodeTaken f 0) (w .1 .1); right-there = refl });
             alike = alike-self v;
           }
-      go (split i ds) bs w = rests-going (record { path = bs; found = split i ds }) n w refl
+      go (split i ds) bs w = rests-going (record { path = bs; found = split i ds }) n d w refl

@@ -1,8 +1,8 @@
 -- A session stands at a place exactly where it is `Right`, for any way of finding a node.
 use Prim.Native.Nat.{ℕ, _-_, _≤_}
-use mathlib.Core.Bool.{Bool, true, false, _&&_}
+use mathlib.Core.Bool.{Bool, true, false, cond, _&&_}
 use mathlib.Core.List.{List, [], _∷_}
-use mathlib.Core.Option.{some}
+use mathlib.Core.Option.{none, some}
 use mathlib.Core.Path.{_≡_, refl, sym, ap, ap₂, subst, _∙_}
 use native.Mathlib.Omega.{arith}
 use lib.Dec.{T, eqb, leb}
@@ -11,9 +11,10 @@ use lib.Seq.{drop-length}
 use borrow.Author.Tests.{le-leb, leb-true, eq-eqb, eqb-true}
 use Rattle.search.specs.Ground.{Found, closed, opened, split}
 use Rattle.search.specs.Machine.{Branch, Place, entered}
-use Rattle.search.specs.Session.{Step, Standing, refuted, satisfied, exhausted, Session, altsFound, nodeTaken, isOpen, isOver, isRoot, standsAt, pathOf, placeOf, stepsOf}
+use Rattle.search.specs.Session.{Step, Standing, refuted, satisfied, exhausted, Session, altsFound, nodeTaken, isOpen, isOver, isRoot, standsAt, pathOf, placeOf, standsIn, stepsOf}
 use Rattle.search.specs.SessionRight.{atomsOf, StepsRight, Right, StandsThere}
-use Rattle.search.proofs.Session.{cond-some, node-tried, is-taken, next-after, step-off, path-genuine, Stands, stands-at, at-stands}
+use Rattle.search.proofs.Deepest.{deep-stands, steps-length}
+use Rattle.search.proofs.Session.{cond-some, node-tried, is-taken, next-after, step-off, path-genuine, Stands, stands-at, at-stands, in-stands}
 use Rattle.search.proofs.SessionRest.{tried-open}
 
 -- ---- its path
@@ -149,7 +150,7 @@ module _ {I : Type 0} (find : List ℕ → Found I) where
   root-steps [] e = refl
   root-steps (b ∷ bs) e = let z : _≡_ {A = ℕ} 0 1 = cc in absurd (omega arith)
 
-  pub right-stands : (s : Session) → Right find s → (t : Place I) × (placeOf find s ≡ some t)
+  pub right-stands : {atoms : ℕ} (s : Session) → Right find atoms s → (t : Place I) × (placeOf find s ≡ some t)
   right-stands s r =
       let w = right-path find (s .path) (r .steps) in
       let p = path-right find (s .path) (w .0) (w .1) in
@@ -176,8 +177,8 @@ module _ {I : Type 0} (find : List ℕ → Found I) where
             }),
       )
 
-  pub stands-right : (s : Session) (t : Place I) → placeOf find s ≡ some t → Right find s
-  stands-right s t e =
+  pub stands-right : (atoms : ℕ) (s : Session) (t : Place I) → placeOf find s ≡ some t → length (s .path) ≤ s .deepest → s .deepest ≤ atoms → Right find atoms s
+  stands-right atoms s t e enough most =
       let w : Stands find s t = at-stands find s t e in
       let p = path-right find (s .path) (t .path) (w .path-of) in
       let n : NodeRight (find (atomsOf (s .path))) (s .next) (s .standing) (t .path) =
@@ -192,7 +193,27 @@ module _ {I : Type 0} (find : List ℕ → Found I) where
         refuted-root = λ q. sym (p .steps-are) ∙ ap (stepsOf find) (n .refuted-root q);
         refuted-over = n .refuted-over;
         refuted-shut = n .refuted-shut;
+        deep-enough = enough;
+        deep-within = most;
       }
+
+  -- its path is as long as that of its place
+  pub stands-length : (s : Session) (t : Place I) → placeOf find s ≡ some t → length (s .path) ≡ length (t .path)
+  stands-length s t e =
+      let p = path-right find (s .path) (t .path) ((at-stands find s t e) .path-of) in
+      ap (λ (steps : List Step). length steps) (sym (p .steps-are)) ∙ steps-length find (t .path)
+
+  -- and so with its figure
+  pub right-in : (atoms : ℕ) (s : Session) → Right find atoms s → (t : Place I) × (standsIn find atoms s ≡ some t)
+  right-in atoms s r =
+      let w = right-stands s r in
+      (w .0, ap (λ (b : Bool). cond b (placeOf find s) none) (deep-stands atoms s (r .deep-enough) (r .deep-within)) ∙ w .1)
+
+  pub in-right : (atoms : ℕ) (s : Session) (t : Place I) → standsIn find atoms s ≡ some t → Right find atoms s
+  in-right atoms s t e =
+      let w = in-stands find atoms s t e in
+      let deep = and-parts (leb (length (s .path)) (s .deepest)) (leb (s .deepest) atoms) (w .0) in
+      stands-right atoms s t (w .1) (leb-true (length (s .path)) (s .deepest) (deep .0)) (leb-true (s .deepest) atoms (deep .1))
 
   pub stands-there : (s : Session) (t : Place I) → placeOf find s ≡ some t → StandsThere find s t
   stands-there s t e =

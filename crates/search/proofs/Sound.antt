@@ -51,6 +51,7 @@ module _ {I : Type 0} (p : Ground I) where
             record { distinct = small .0; below = small .1; short = path-short find (sound .split-fresh) (s .path) (r .0) })
             (trail find limit)
             (trail-reached find limit);
+        short-paths = path-short find (sound .split-fresh);
         ends = walk-ends find (p .atoms) (path-short find (sound .split-fresh));
         refuted = λ limit n e M m.
             never-refuted

@@ -28,7 +28,7 @@ use Rattle.search.proofs.Model.{relevancy-sound}
 use Rattle.search.proofs.OneTrail.{magic-same, same-facts, trail-same, outcome-same}
 use Rattle.search.proofs.MagicPath.{magic-sound}
 use Rattle.search.proofs.SessionLeft.{any-session}
-use Rattle.search.proofs.SessionClaims.{one-walk-kept, any-origin}
+use Rattle.search.proofs.SessionClaims.{one-walk-kept, origin-kept, any-origin}
 
 smallest : {F : Type 0} (k : Key F) (rs : List (Rule F)) (seeds : List F) → Smallest k rs seeds
 smallest k rs seeds = record { seeds-in = least-seeds k rs seeds; closed = least-closed k rs seeds; inside = least-ind k rs seeds }
@@ -84,6 +84,7 @@ theorems =
       one-trail = one-trail;
       by-holding = by-holding;
       one-walk-kept = one-walk-kept;
+      origin-kept = origin-kept;
       any-origin = any-origin;
       cases-hold = cases-hold;
     }

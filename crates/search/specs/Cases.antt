@@ -6,10 +6,10 @@ use mathlib.Core.Path.{_≡_}
 use lib.ListN.{length, getD}
 use Rattle.lists.specs.Key.{natKey}
 use Rattle.lists.specs.Tabulate.{tabulate}
-use Rattle.search.specs.Ground.{Ground}
+use Rattle.search.specs.Ground.{Ground, Found}
 use Rattle.search.specs.Relevancy.{findR}
 use Rattle.search.specs.Magic.{rewriting, findM}
-use Rattle.search.specs.Machine.{Outcome, Satisfied, Refuted, Exhausted, outcome}
+use Rattle.search.specs.Machine.{Outcome, Satisfied, Refuted, Exhausted, outcome, deepestUnder}
 
 -- an instance: its conditions, and its alternatives
 pub record Case : Type 0 where
@@ -27,11 +27,22 @@ problemOf k =
       alts = λ i. (getD (k .instances) i ([], [])) .1;
     }
 
-abbrev pub byRelevancy : Case → Outcome
-byRelevancy k = outcome (findR (problemOf k)) (k .limit)
+-- how each engine finds a node
+abbrev pub relevancyFind : Case → List ℕ → Found ℕ
+relevancyFind k = findR (problemOf k)
 
-abbrev pub byMagic : Case → Outcome
-byMagic k = outcome (findM natKey (k .atoms) (rewriting (problemOf k))) (k .limit)
+abbrev pub magicFind : Case → List ℕ → Found ℕ
+magicFind k = findM natKey (k .atoms) (rewriting (problemOf k))
+
+-- 0 or 1. 0 gives 2 or 3. Not 2. Not 3. Not 1 and 4. The entries are 0, 2 and 3 below it, and 1, where it is open
+abbrev pub deepThenShallow : Case
+deepThenShallow =
+    record {
+      atoms = 5;
+      instances = ([], 0 ∷ 1 ∷ []) ∷ (0 ∷ [], 2 ∷ 3 ∷ []) ∷ (2 ∷ [], []) ∷ (3 ∷ [], []) ∷ (1 ∷ 4 ∷ [], []) ∷ [];
+      limit = 4;
+      expected = Satisfied 4 (false ∷ true ∷ false ∷ false ∷ false ∷ []);
+    }
 
 -- the mistakes, and the problems at which they show
 abbrev pub cases : List Case
@@ -76,12 +87,20 @@ cases =
       limit = 100;
       expected = Satisfied 0 (true ∷ false ∷ false ∷ []);
     }
+    ∷ deepThenShallow
     ∷ []
 
-abbrev pub AsExpected : (Case → Outcome) → Type 0
-AsExpected walk = map walk cases ≡ map (λ k. k .expected) cases
+abbrev pub AsExpected : (Case → List ℕ → Found ℕ) → Type 0
+AsExpected find = map (λ k. outcome (find k) (k .limit)) cases ≡ map (λ k. k .expected) cases
 
--- each walk ends as it should
+-- The deepest figure, under each of these limits. Limit 1: the entry that is due, counted in, gives 2. Limit 2: an entry that is closed at once, not counted, gives 1.
+-- Limit 3, where the session stands at the root: the length of its path is 0. Limit 4, open after 4 entries on a path of 1: the last path entered gives 1
+abbrev pub DeepAsExpected : (Case → List ℕ → Found ℕ) → Type 0
+DeepAsExpected find = map (deepestUnder (find deepThenShallow)) (0 ∷ 1 ∷ 2 ∷ 3 ∷ 4 ∷ []) ≡ 0 ∷ 1 ∷ 2 ∷ 2 ∷ 2 ∷ []
+
+-- each walk ends as it should, and has the figure that it should
 pub record CasesHold : Type 0 where
-  pub relevancy : AsExpected byRelevancy
-  pub magic : AsExpected byMagic
+  pub relevancy : AsExpected relevancyFind
+  pub magic : AsExpected magicFind
+  pub relevancy-deepest : DeepAsExpected relevancyFind
+  pub magic-deepest : DeepAsExpected magicFind

@@ -2,6 +2,7 @@
 use Prim.Native.Nat.{ℕ, suc, _+_, _≤_, _<_}
 use mathlib.Core.Bool.{Bool, not, cond, _&&_}
 use mathlib.Core.List.{List, _++_}
+use mathlib.Core.Option.{some}
 use mathlib.Core.Path.{_≡_}
 use lib.Dec.{eqb, ltb}
 use lib.ListN.{length, take}
@@ -12,9 +13,9 @@ use Rattle.search.specs.Ground.{Ground, Proper, Model, Marked, Found, di
 use Rattle.search.specs.Relevancy.{asked, isTrue, isRelevant, splittable, branches, modelBits, findR}
 use Rattle.search.specs.Magic.{MagicRule, rewriting, findM}
 use Rattle.search.specs.Trails.{OneTrail}
-use Rattle.search.specs.SessionClaims.{Call, OneWalkKept, AnyOrigin}
-use Rattle.search.specs.Session.{Session}
-use Rattle.search.specs.SessionRight.{AnySession}
+use Rattle.search.specs.SessionClaims.{Call, OneWalkKept, OriginKept, AnyOrigin}
+use Rattle.search.specs.Session.{Session, standsIn}
+use Rattle.search.specs.SessionRight.{ShortPaths, AnySession}
 use Rattle.search.specs.Choice.{RelevancyChoice, MagicChoice}
 use Rattle.search.specs.Sound.{SoundFind}
 use Rattle.search.specs.Machine.{Place, entered, Satisfied, Refuted, Exhausted, answer, last, root, entries, trail, proceed, outcome, FullWalk}
@@ -48,6 +49,7 @@ pub record PathFits {I : Type 0} (p : Ground I) (s : Place I) : Type 0 where
 -- Of the walk by any sound way of finding a node
 pub record SoundWalk {I : Type 0} (p : Ground I) (find : List ℕ → Found I) : Type 1 where
   pub paths-fit : (limit : ℕ) → All (PathFits p) (trail find limit)
+  pub short-paths : ShortPaths find (p .atoms)
   -- the walk without a limit ends
   pub ends : (es : List (Place I)) × FullWalk find es
   -- none only where no set of atoms at all is a model
@@ -78,7 +80,7 @@ pub record Theorems : Type 1 where
   pub smallest : {F : Type 0} (k : Key F) (rs : List (Rule F)) (seeds : List F) → Smallest k rs seeds
   pub any-walk : {I : Type 0} (find : List ℕ → Found I) → AnyWalk find
   -- any session: when a call is refused, and what one that is not says and leaves
-  pub any-session : {I : Type 0} (find : List ℕ → Found I) → AnySession find
+  pub any-session : {I : Type 0} (find : List ℕ → Found I) (atoms : ℕ) → AnySession find atoms
   pub sound-walk : {I : Type 0} (p : Ground I) (find : List ℕ → Found I) → SoundFind p find → SoundWalk p find
   -- both walks of a ground problem are sound
   pub relevancy-sound : {I : Type 0} (p : Ground I) → Proper p → SoundFind p (findR p)
@@ -92,7 +94,9 @@ pub record Theorems : Type 1 where
   pub model-given : {I : Type 0} (p : Ground I) (limit n : ℕ) (bits : List Bool) → outcome (findR p) limit ≡ Satisfied n bits → bits ≡ modelAt p (lastPlace (findR p) limit)
   pub one-trail : {I : Type 0} (k : Key I) (p : Ground I) (limit : ℕ) → OneTrail k p limit
   pub by-holding : ByHolding
-  -- a walk in pieces, by both engines in turn, is the whole walk; and a session of any origin goes on alike in both
-  pub one-walk-kept : {I : Type 0} (k : Key I) (p : Ground I) (magic : Bool) (limit : ℕ) (calls : List Call) → OneWalkKept k p magic limit calls
+  -- a walk in pieces, by both engines in turn, is the whole walk; so is one from where a session of other origin stands; and a session of any origin goes on alike in both
+  pub one-walk-kept : {I : Type 0} (k : Key I) (p : Ground I) → Proper p → (magic : Bool) (limit : ℕ) (calls : List Call) → OneWalkKept k p magic limit calls
+  pub origin-kept : {I : Type 0} (k : Key I) (p : Ground I) → Proper p → (s : Session) (t : Place I) (further : ℕ) → standsIn (findR p) (p .atoms) s ≡ some t
+      → s .count + further ≤ 4294967295 → (calls : List Call) → OriginKept k p s t further calls
   pub any-origin : {I : Type 0} (k : Key I) (p : Ground I) → Proper p → (s : Session) (further : ℕ) → AnyOrigin k p s further
   pub cases-hold : CasesHold

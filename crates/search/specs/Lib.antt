@@ -6,6 +6,7 @@ pub mod Machine
 pub mod Sound
 pub mod Choice
 pub mod Trails
+pub mod Deepest
 pub mod Session
 pub mod SessionRight
 pub mod SessionClaims

@@ -1,5 +1,5 @@
 -- The walk, as a machine over any way of finding a node. It knows nothing of clauses.
-use Prim.Native.Nat.{ℕ, zero, suc, _+_}
+use Prim.Native.Nat.{ℕ, zero, suc, _+_, max}
 use mathlib.Core.Bool.{Bool}
 use mathlib.Core.List.{List, [], _∷_, _++_, map}
 use mathlib.Core.Option.{Option, none, some}
@@ -65,6 +65,11 @@ abbrev pub last : {I : Type 0} → Place I → List (Place I) → Place I
 last s [] = s
 last s (t ∷ ts) = last t ts
 
+-- the longest path of these places, or a figure brought that is no shorter
+abbrev pub longest : {I : Type 0} → ℕ → List (Place I) → ℕ
+longest d [] = d
+longest d (t ∷ ts) = longest (max d (length (t .path))) ts
+
 module _ {I : Type 0} (find : List ℕ → Found I) where
   abbrev pub place : List (Branch I) → Place I
   place bs = record { path = bs; found = find (entered bs) }
@@ -96,6 +101,10 @@ module _ {I : Type 0} (find : List ℕ → Found I) where
   -- the count is the entries made, the root not among them
   abbrev pub outcome : ℕ → Outcome
   outcome limit = proceed limit 0 root
+
+  -- the longest path that the walk enters under the limit
+  unfoldable pub deepestUnder : ℕ → ℕ
+  deepestUnder limit = longest 0 (entries limit root)
 
   -- the entries that the walk without a limit makes from a place on
   abbrev pub Whole : Place I → List (Place I) → Type 0

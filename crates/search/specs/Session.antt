@@ -6,7 +6,7 @@ use mathlib.Core.Option.{Option, none, some}
 use lib.Dec.{eqb, ltb, leb}
 use lib.ListN.{length, drop, getD}
 use Rattle.search.specs.Ground.{Found, closed, opened, split}
-use Rattle.search.specs.Machine.{Branch, Place, entered, nextPath, Outcome, Satisfied, Refuted, Exhausted, last, root, entries, proceed}
+use Rattle.search.specs.Machine.{Branch, Place, entered, nextPath, Outcome, Satisfied, Refuted, Exhausted, last, longest, root, entries, proceed}
 
 -- an entry of the path: its atom, and the next alternative of the node that it was entered from
 pub record Step : Type 0 where
@@ -19,12 +19,13 @@ pub data Standing : Type 0 where
   satisfied : Standing
   exhausted : Standing
 
--- the path, the latest entry first, and the next alternative of the last node
+-- the path, the latest entry first, and the next alternative of the last node; and the longest path that was entered (02: U2, U10)
 pub record Session : Type 0 where
   pub standing : Standing
   pub count : ℕ
   pub path : List Step
   pub next : ℕ
+  pub deepest : ℕ
 
 -- the alternatives to enter where a node is found so
 abbrev pub altsFound : {I : Type 0} → Found I → List ℕ
@@ -70,6 +71,10 @@ standsAt refuted s = isRoot (s .path) && isOver (s .found)
 standsAt satisfied s = isOpen (s .found)
 standsAt exhausted s = true
 
+-- U2: "42 also meets a figure below the path's length or above A", the number of atoms
+abbrev pub deepStands : ℕ → Session → Bool
+deepStands atoms s = leb (length (s .path)) (s .deepest) && leb (s .deepest) atoms
+
 abbrev pub whereStands : {I : Type 0} → Standing → Place I → Option (Place I)
 whereStands standing s = cond (standsAt standing s) (some s) none
 
@@ -91,6 +96,10 @@ module _ {I : Type 0} (find : List ℕ → Found I) where
         | some bs ↦ elim (nodeOf bs (s .next)) [ none ↦ none | some t ↦ whereStands (s .standing) t ]
       ]
 
+  -- and so for one whose figure is not that of a path over so many atoms
+  abbrev pub standsIn : ℕ → Session → Option (Place I)
+  standsIn atoms s = cond (deepStands atoms s) (placeOf s) none
+
   -- ---- what a call leaves
 
   -- a path as steps: the next alternative is the one after those entered
@@ -99,25 +108,25 @@ module _ {I : Type 0} (find : List ℕ → Found I) where
   stepsOf (b ∷ bs) = record { atom = b .atom; next = length (altsFound (find (entered bs))) - length (b .rest) } ∷ stepsOf bs
 
   -- spent: at the node whose next alternative would be entered next; nodes that are worked off are dropped
-  abbrev pub dueAt : ℕ → Option (List (Branch I)) → Session
-  dueAt n none = record { standing = exhausted; count = n; path = []; next = 0 }
-  dueAt n (some []) = record { standing = exhausted; count = n; path = []; next = 0 }
-  dueAt n (some (b ∷ bs)) =
-      record { standing = exhausted; count = n; path = stepsOf bs; next = length (altsFound (find (entered bs))) - suc (length (b .rest)) }
+  abbrev pub dueAt : ℕ → ℕ → Option (List (Branch I)) → Session
+  dueAt n d none = record { standing = exhausted; count = n; path = []; next = 0; deepest = d }
+  dueAt n d (some []) = record { standing = exhausted; count = n; path = []; next = 0; deepest = d }
+  dueAt n d (some (b ∷ bs)) =
+      record { standing = exhausted; count = n; path = stepsOf bs; next = length (altsFound (find (entered bs))) - suc (length (b .rest)); deepest = d }
 
   -- fits: at the open node. None: at the root, all its alternatives used up
-  abbrev pub leftBy : Outcome → Place I → Session
-  leftBy (Satisfied n bits) t = record { standing = satisfied; count = n; path = stepsOf (t .path); next = 0 }
-  leftBy (Refuted n) t = record { standing = refuted; count = n; path = []; next = length (altsFound (find [])) }
-  leftBy (Exhausted n) t = dueAt n (nextPath t)
+  abbrev pub leftBy : Outcome → ℕ → Place I → Session
+  leftBy (Satisfied n bits) d t = record { standing = satisfied; count = n; path = stepsOf (t .path); next = 0; deepest = d }
+  leftBy (Refuted n) d t = record { standing = refuted; count = n; path = []; next = length (altsFound (find [])); deepest = d }
+  leftBy (Exhausted n) d t = dueAt n d (nextPath t)
 
-  -- after a run from a place on, which counts as entry `count`, under a limit
-  unfoldable pub sessionAfter : ℕ → ℕ → Place I → Session
-  sessionAfter limit count t = leftBy (proceed find limit count t) (last t (entries find limit t))
+  -- after a run from a place on, which counts as entry `count` and brings a deepest figure, under a limit
+  unfoldable pub sessionAfter : ℕ → ℕ → ℕ → Place I → Session
+  sessionAfter limit count d t = leftBy (proceed find limit count t) (longest d (entries find limit t)) (last t (entries find limit t))
 
   -- a first run under a limit
   abbrev pub firstSession : ℕ → Session
-  firstSession limit = sessionAfter limit 0 (root find)
+  firstSession limit = sessionAfter limit 0 0 (root find)
 
 -- ---- a call
 
@@ -127,8 +136,8 @@ pub data Called : Type 0 where
   told : Outcome → Session → Called
 
 -- Going on with a further limit: 41 if count and limit together pass FFFFFFFF; then 42 unless it is a session of the walk; else on from the place where it stands
-unfoldable pub called : {I : Type 0} → (List ℕ → Found I) → Session → ℕ → Called
-called find s further =
+unfoldable pub called : {I : Type 0} → (List ℕ → Found I) → ℕ → Session → ℕ → Called
+called find atoms s further =
     cond (ltb 4294967295 (s .count + further))
     (declined 41)
-    (elim (placeOf find s) [ none ↦ declined 42 | some t ↦ told (proceed find further (s .count) t) (sessionAfter find further (s .count) t) ])
+    (elim (standsIn find atoms s) [ none ↦ declined 42 | some t ↦ told (proceed find further (s .count) t) (sessionAfter find further (s .count) (s .deepest) t) ])

@@ -1,24 +1,27 @@
 -- The ways out of a call with a session, and what it gives back and leaves on each.
 use Prim.Native.Nat.{ℕ, _+_, _≤_, _<_}
-use mathlib.Core.Bool.{Bool, true, false, cond}
+use mathlib.Core.Bool.{Bool, true, false, cond, _&&_}
 use mathlib.Core.List.{List, _++_}
 use mathlib.Core.Logic.{_⊎_, inl, inr}
 use mathlib.Core.Option.{none, some}
 use mathlib.Core.Path.{_≡_, refl, sym, ap, _∙_}
 use native.Mathlib.Omega.{arith}
+use lib.Dec.{leb}
 use lib.ListN.{drop, replicate}
-use borrow.Author.Tests.{lt-ltb, le-ltb, lt-leb, le-leb}
+use borrow.Author.Tests.{leb-true, lt-ltb, le-ltb, le-leb}
 use Rattle.search.specs.Ground.{Found}
-use Rattle.search.specs.Machine.{Place, Outcome, Satisfied, Refuted, Exhausted, proceed}
-use Rattle.search.specs.Session.{Session, placeOf, sessionAfter, Called, declined, told, called}
+use Rattle.search.specs.Machine.{Place, Outcome, Satisfied, Refuted, Exhausted, proceed, deepestUnder}
+use Rattle.search.specs.Session.{Session, deepStands, placeOf, sessionAfter, Called, declined, told, called}
 use Rattle.search.proofs.Session.{cond-some}
+use Rattle.search.proofs.Deepest.{first-deepest}
 use Rattle.ground.specs.declared.verdict.Verdict.{Verdict}
 use Rattle.ground.specs.declared.verdict.Verdict.the-variants.{Refused}
 use Rattle.ground.specs.Verdict.{verdictOf, answerOf}
 use Rattle.walk.specs.Numbers.{sessionOf}
 use Rattle.session.specs.declared.record.Session.{Session as Record}
 use Rattle.session.specs.Record.{isKept, sessionIn, laid}
-use Rattle.session.specs.Calls.{noSession, calledIn, begunBy, screened, verdictTold, recordLeft, answerLeft, workLeft}
+use Rattle.session.specs.Calls.{noSession, calledIn, begunBy, screened, verdictTold, deepestTold, recordLeft, answerLeft, workLeft}
+use Rattle.session.proofs.RecordLaws.{steps-length, laid-deepest}
 
 -- ---- 11, then 31
 
@@ -54,70 +57,93 @@ screened-first find limit false false c e h = h
 
 -- ---- whether a record holds a session
 
+both : (a b : Bool) → (a && b) ≡ true → (a ≡ true) × (b ≡ true)
+both true b e = (refl, e)
+both false b e = let z : _≡_ {A = ℕ} 0 1 = cc in absurd (omega arith)
+
 module _ (r : Record) where
   -- it counts what the record counts
   pub held-count : (s : Session) → sessionIn r ≡ some s → s .count ≡ r .count
   unfolding sessionIn
   held-count s e =
-      sym (ap (λ (x : Session). x .count) ((cond-some (isKept r) (sessionOf (r .verdict) (r .count) (r .atoms) (r .nexts) (r .length) (r .next)) s e) .1))
+      sym (ap (λ (x : Session). x .count) ((cond-some (isKept r) (sessionOf (r .verdict) (r .count) (r .atoms) (r .nexts) (r .length) (r .next) (r .deepest)) s e) .1))
 
-  pub verdict-unknown : 2 < r .verdict → isKept r ≡ false
-  verdict-unknown l = rw (lt-leb (r .verdict) 2 l)
+-- its figure can be that of a session over so many atoms
+abbrev figureKept : ℕ → Record → Bool
+figureKept atoms r = leb (r .length) (r .deepest) && leb (r .deepest) atoms
 
-  pub path-too-long : r .verdict ≤ 2 → 1024 < r .length → isKept r ≡ false
-  path-too-long v l = rw (le-leb (r .verdict) 2 v, lt-leb (r .length) 1024 l)
+-- and its verdict and length too
+abbrev pub isKeptOver : ℕ → Record → Bool
+isKeptOver atoms r = isKept r && figureKept atoms r
 
-  pub is-kept : r .verdict ≤ 2 → r .length ≤ 1024 → isKept r ≡ true
-  is-kept v l = rw (le-leb (r .verdict) 2 v, le-leb (r .length) 1024 l)
+module _ (atoms : ℕ) (r : Record) where
+  pub is-kept : r .verdict ≤ 2 → r .length ≤ 1024 → r .length ≤ r .deepest → r .deepest ≤ atoms → isKeptOver atoms r ≡ true
+  is-kept v l e d = rw (le-leb (r .verdict) 2 v, le-leb (r .length) 1024 l, le-leb (r .length) (r .deepest) e, le-leb (r .deepest) atoms d)
+
+  pub kept-bounds : isKeptOver atoms r ≡ true → (r .verdict ≤ 2) × (r .length ≤ 1024) × (r .length ≤ r .deepest) × (r .deepest ≤ atoms)
+  kept-bounds e =
+      let all = both (isKept r) (figureKept atoms r) e in
+      let first = both (leb (r .verdict) 2) (leb (r .length) 1024) (all .0) in
+      let figure = both (leb (r .length) (r .deepest)) (leb (r .deepest) atoms) (all .1) in
+      (leb-true (r .verdict) 2 (first .0), leb-true (r .length) 1024 (first .1), leb-true (r .length) (r .deepest) (figure .0), leb-true (r .deepest) atoms (figure .1))
 
 -- ---- then 41, 42, and going on
 
-module _ {I : Type 0} (find : List ℕ → Found I) (r : Record) (further : ℕ) where
+module _ {I : Type 0} (find : List ℕ → Found I) (atoms : ℕ) (r : Record) (further : ℕ) where
   -- the session in the numbers of the record
   abbrev session : Session
-  session = sessionOf (r .verdict) (r .count) (r .atoms) (r .nexts) (r .length) (r .next)
+  session = sessionOf (r .verdict) (r .count) (r .atoms) (r .nexts) (r .length) (r .next) (r .deepest)
 
-  pub called-held : (s : Session) → sessionIn r ≡ some s → calledIn find r further ≡ called find s further
+  -- its path is as long as the record says
+  deep-is : deepStands atoms session ≡ figureKept atoms r
+  deep-is = rw (steps-length (r .atoms) (r .nexts) (r .length))
+
+  pub called-held : (s : Session) → sessionIn r ≡ some s → calledIn find atoms r further ≡ called find atoms s further
   unfolding calledIn
   called-held s e = rw (calledIn, e)
 
-  pub called-none : sessionIn r ≡ none → calledIn find r further ≡ noSession r further
+  pub called-none : sessionIn r ≡ none → calledIn find atoms r further ≡ noSession r further
   unfolding calledIn
   called-none e = rw (calledIn, e)
 
-  called-by : (b : Bool) → isKept r ≡ b → calledIn find r further ≡ cond b (called find session further) (noSession r further)
+  called-by : (b : Bool) → isKept r ≡ b → calledIn find atoms r further ≡ cond b (called find atoms session further) (noSession r further)
   unfolding sessionIn
   called-by true e = called-held session (rw e)
   called-by false e = called-none (rw e)
 
-  pub called-over : 4294967295 < r .count + further → calledIn find r further ≡ declined 41
+  pub called-over : 4294967295 < r .count + further → calledIn find atoms r further ≡ declined 41
   unfolding called
   called-over l = go (isKept r) refl
     where
-      go : (b : Bool) → isKept r ≡ b → calledIn find r further ≡ declined 41
+      go : (b : Bool) → isKept r ≡ b → calledIn find atoms r further ≡ declined 41
       go true e = called-by true e ∙ rw (lt-ltb 4294967295 (r .count + further) l)
       go false e = called-by false e ∙ rw (lt-ltb 4294967295 (r .count + further) l)
 
   module _ (within : r .count + further ≤ 4294967295) where
-    pub called-empty : sessionIn r ≡ none → calledIn find r further ≡ declined 42
+    pub called-empty : sessionIn r ≡ none → calledIn find atoms r further ≡ declined 42
     called-empty e = called-none e ∙ rw (le-ltb 4294967295 (r .count + further) within)
 
-    pub called-unkept : isKept r ≡ false → calledIn find r further ≡ declined 42
-    unfolding sessionIn
-    called-unkept e = called-empty (rw e)
-
-    pub called-nowhere : placeOf find session ≡ none → calledIn find r further ≡ declined 42
-    unfolding called
-    called-nowhere nowhere = go (isKept r) refl
+    -- the test may be of a number that is known to be that of the atoms
+    pub called-unkept : (n : ℕ) → n ≡ atoms → isKeptOver n r ≡ false → calledIn find atoms r further ≡ declined 42
+    unfolding sessionIn called
+    called-unkept n same e = go (isKept r) refl (rw same at e)
       where
-        go : (b : Bool) → isKept r ≡ b → calledIn find r further ≡ declined 42
-        go true e = called-by true e ∙ rw (le-ltb 4294967295 (r .count + further) within, nowhere)
-        go false e = called-unkept e
+        go : (b : Bool) → isKept r ≡ b → (b && figureKept atoms r) ≡ false → calledIn find atoms r further ≡ declined 42
+        go true k f = called-by true k ∙ rw (le-ltb 4294967295 (r .count + further) within, deep-is ∙ f)
+        go false k f = called-empty (rw k)
 
-    pub called-on : isKept r ≡ true → (t : Place I) → placeOf find session ≡ some t
-        → calledIn find r further ≡ told (proceed find further (r .count) t) (sessionAfter find further (r .count) t)
+    pub called-nowhere : isKeptOver atoms r ≡ true → placeOf find session ≡ none → calledIn find atoms r further ≡ declined 42
     unfolding called
-    called-on e t stands = called-by true e ∙ rw (le-ltb 4294967295 (r .count + further) within, stands)
+    called-nowhere e nowhere =
+        let all = both (isKept r) (figureKept atoms r) e in
+        called-by true (all .0) ∙ rw (le-ltb 4294967295 (r .count + further) within, deep-is ∙ all .1, nowhere)
+
+    pub called-on : isKeptOver atoms r ≡ true → (t : Place I) → placeOf find session ≡ some t
+        → calledIn find atoms r further ≡ told (proceed find further (r .count) t) (sessionAfter find further (r .count) (r .deepest) t)
+    unfolding called
+    called-on e t stands =
+        let all = both (isKept r) (figureKept atoms r) e in
+        called-by true (all .0) ∙ rw (le-ltb 4294967295 (r .count + further) within, deep-is ∙ all .1, stands)
 
 -- ---- what it gives back and leaves
 
@@ -141,3 +167,17 @@ declined-by (declined n) e h = let same : n ≡ e = cc in ap declined same
 declined-by (told (Satisfied n bits) s) e h = let z : _≡_ {A = ℕ} 0 1 = cc in absurd (omega arith)
 declined-by (told (Refuted n) s) e h = let z : _≡_ {A = ℕ} 0 1 = cc in absurd (omega arith)
 declined-by (told (Exhausted n) s) e h = let z : _≡_ {A = ℕ} 0 1 = cc in absurd (omega arith)
+
+-- ---- the deepest figure
+
+-- the record that a call leaves has the figure that it tells, where it was lent one with none
+pub deepest-lent : (c : Called) (r : Record) → r .deepest ≡ 0 → (recordLeft c r) .deepest ≡ deepestTold c
+deepest-lent (declined e) r lent = lent
+deepest-lent (told o s) r lent = laid-deepest s
+
+-- a first run tells the longest path entered, if it comes through
+pub deepest-first : {I : Type 0} (find : List ℕ → Found I) (limit : ℕ) (short valid : Bool)
+    → deepestTold (screened short valid (begunBy find limit)) ≡ cond short 0 (cond valid (deepestUnder find limit) 0)
+deepest-first find limit true valid = refl
+deepest-first find limit false true = first-deepest find limit
+deepest-first find limit false false = refl

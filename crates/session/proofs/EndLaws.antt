@@ -1,5 +1,5 @@
 -- The end of a run: what is written down of its path is the session that it leaves, and its verdict, session and answer are those of the run.
-use Prim.Native.Nat.{ℕ, suc, _+_, _-_, _≤_}
+use Prim.Native.Nat.{ℕ, _+_, _-_, _≤_}
 use mathlib.Core.Bool.{Bool, true, not, _||_}
 use mathlib.Core.List.{List, [], _∷_, _++_, map, append-nil}
 use mathlib.Core.Logic.{inl, inr}
@@ -13,13 +13,14 @@ use lib.Seq.{length-take-le}
 use Rattle.lists.specs.Bytes.{isSet, bit}
 use Rattle.lists.proofs.Tabulate.{tabulate-length}
 use Rattle.search.specs.Relevancy.{modelBits}
-use Rattle.search.specs.Machine.{Branch, Place, Outcome, proceed, outcome}
+use Rattle.search.specs.Machine.{Place, Outcome, root, proceed, outcome}
 use Rattle.search.specs.Session.{Session, altsFound, placeOf, stepsOf, sessionAfter, firstSession, Called, declined, told}
+use Rattle.search.proofs.Deepest.{steps-length}
 use Rattle.ground.specs.declared.verdict.Verdict.{Verdict}
 use Rattle.ground.specs.declared.verdict.Verdict.the-variants.{Refused}
 use Rattle.ground.specs.Verdict.{verdictOf, answerOf}
 use Rattle.walk.specs.contracts.Walker.{Walker, Run, fromRoot}
-use Rattle.walk.specs.contracts.Path.{Room, nextAt, pathIn}
+use Rattle.walk.specs.contracts.Path.{Room, nextAt, deepestAt, pathIn}
 use Rattle.walk.specs.contracts.Place.{bitsIn, NodesNamed}
 use Rattle.walk.specs.contracts.Walk.{Walks, Tells}
 use Rattle.walk.specs.Numbers.{sessionOf}
@@ -37,11 +38,11 @@ use Rattle.walk.proofs.LeftLaws.{walks-left}
 use Rattle.session.specs.declared.record.Session.{Session as Record}
 use Rattle.session.specs.declared.record.Moved.{Moved}
 use Rattle.session.specs.declared.end.Left.{Left}
-use Rattle.session.specs.Record.{isKept, slots, laid}
+use Rattle.session.specs.Record.{slots, laid}
 use Rattle.session.specs.Calls.{calledIn, workLeft}
 use Rattle.session.specs.contracts.End.{depthOf, answerBy, movedBy, PathLaid, LeftBy, comesOut, Concluded}
 use Rattle.session.proofs.RecordLaws.{laid-as, slots-left}
-use Rattle.session.proofs.CallLaws.{called-nowhere, called-on, CallLeft, left-declined, left-told}
+use Rattle.session.proofs.CallLaws.{isKeptOver, called-nowhere, called-on, CallLeft, left-declined, left-told}
 
 -- ---- the answer
 
@@ -67,14 +68,10 @@ answer-kept (LimitMet e) tag bits answer = refl
 -- ---- the path written down
 
 -- a path in steps has a step for each entry
-steps-length : {I : Type 0} (w : Walker I) (path : List ℕ) (e : ℕ) → length (stepsOf (w .find) (pathIn w path e)) ≡ e
-steps-length {I} w path e = go (pathIn w path e) ∙ path-length w path e
-  where
-    go : (bs : List (Branch I)) → length (stepsOf (w .find) bs) ≡ length bs
-    go [] = refl
-    go (b ∷ bs) = ap suc (go bs)
+steps-left : {I : Type 0} (w : Walker I) (path : List ℕ) (e : ℕ) → length (stepsOf (w .find) (pathIn w path e)) ≡ e
+steps-left w path e = steps-length (w .find) (pathIn w path e) ∙ path-length w path e
 
-module _ {I : Type 0} (w : Walker I) (y : Walked) (path : List ℕ) (x : Left) where
+module _ {I : Type 0} (w : Walker I) (y : Walked) (path : List ℕ) (x : Left) (deepest : x .deepest ≡ deepestAt path) where
   by-end : (z : Walked) → y ≡ z → LeftBy w z path x → LeftBy w y path x
   by-end z same h = subst (λ (v : Walked). LeftBy w v path x) (sym same) h
 
@@ -83,13 +80,13 @@ module _ {I : Type 0} (w : Walker I) (y : Walked) (path : List ℕ) (x : Left) w
     pub left-open : (c : ℕ) → y ≡ Opened c e → x .next ≡ 0 → LeftBy w y path x
     left-open c same next =
         let as-slots = slots-left w path e (x .atoms) (x .nexts) was long-a long-n deep in
-        by-end (Opened c e) same (λ r. record { next-is = next; atoms-are = as-slots .0; nexts-are = as-slots .1 })
+        by-end (Opened c e) same (λ r. record { next-is = next; atoms-are = as-slots .0; nexts-are = as-slots .1; deepest-is = deepest })
 
     -- where another entry is due there
     pub left-due : y ≡ LimitMet e → x .next ≡ nextAt path e → LeftBy w y path x
     left-due same next =
         let as-slots = slots-left w path e (x .atoms) (x .nexts) was long-a long-n deep in
-        by-end (LimitMet e) same (λ r. record { next-is = next; atoms-are = as-slots .0; nexts-are = as-slots .1 })
+        by-end (LimitMet e) same (λ r. record { next-is = next; atoms-are = as-slots .0; nexts-are = as-slots .1; deepest-is = deepest })
 
   -- where all is closed
   pub left-shut : tagOf walked-type y ≡ 0 → x .atoms ≡ replicate 1024 0 → x .nexts ≡ replicate 1024 0 → x .next ≡ length (altsFound (w .find [])) → LeftBy w y path x
@@ -97,7 +94,7 @@ module _ {I : Type 0} (w : Walker I) (y : Walked) (path : List ℕ) (x : Left) w
   left-shut tag ea en next = go y refl tag
     where
       go : (z : Walked) → y ≡ z → tagOf walked-type z ≡ 0 → LeftBy w y path x
-      go (Shut c) same tag = by-end (Shut c) same (λ r. record { next-is = next; atoms-are = ea; nexts-are = en })
+      go (Shut c) same tag = by-end (Shut c) same (λ r. record { next-is = next; atoms-are = ea; nexts-are = en; deepest-is = deepest })
       go (Opened c e) same tag = let z : _≡_ {A = ℕ} 1 0 = tag in absurd (omega arith)
       go (LimitMet e) same tag = let z : _≡_ {A = ℕ} 2 0 = tag in absurd (omega arith)
 
@@ -133,11 +130,11 @@ module _ {I : Type 0} (w : Walker I) (r : Run I) where
     answer-of (LimitMet e) tells = sym (ap (λ (o : Outcome). answerOf o answer) tells)
 
     session-of : (y : Walked) → PathLaid (sessionLeft w r y path) x → movedBy y (r .limit) x .session ≡ laid (sessionLeft w r y path)
-    session-of (Shut c) at = laid-as (movedBy (Shut c) (r .limit) x .session) (sessionLeft w r (Shut c) path) refl refl refl (at .next-is) (at .atoms-are) (at .nexts-are)
+    session-of (Shut c) at = laid-as (movedBy (Shut c) (r .limit) x .session) (sessionLeft w r (Shut c) path) refl refl refl (at .next-is) (at .atoms-are) (at .nexts-are) (at .deepest-is)
     session-of (Opened c e) at =
-        laid-as (movedBy (Opened c e) (r .limit) x .session) (sessionLeft w r (Opened c e) path) refl (sym (steps-length w path e)) refl (at .next-is) (at .atoms-are) (at .nexts-are)
+        laid-as (movedBy (Opened c e) (r .limit) x .session) (sessionLeft w r (Opened c e) path) refl (sym (steps-left w path e)) refl (at .next-is) (at .atoms-are) (at .nexts-are) (at .deepest-is)
     session-of (LimitMet e) at =
-        laid-as (movedBy (LimitMet e) (r .limit) x .session) (sessionLeft w r (LimitMet e) path) refl (sym (steps-length w path e)) refl (at .next-is) (at .atoms-are) (at .nexts-are)
+        laid-as (movedBy (LimitMet e) (r .limit) x .session) (sessionLeft w r (LimitMet e) path) refl (sym (steps-left w path e)) refl (at .next-is) (at .atoms-are) (at .nexts-are) (at .deepest-is)
 
 -- a run's path has been written down, and its verdict and answer given: of every run that ends so
 pub concluded : {I : Type 0} (w : Walker I) → Tied w → (y : Walked) (limit : ℕ) (facts path answer : List ℕ) (x : Left) (m : Moved) (left : List ℕ)
@@ -195,37 +192,39 @@ left-whole c r answer work whole o s so v moved left part is-v is-r is-a is-w =
 
 -- ---- a run that ends a call
 
--- what a first run says and leaves
-pub first-concluded : {I : Type 0} (w : Walker I) (limit n : ℕ) → limit ≡ n → (answer : List ℕ) (m : Moved) (left : List ℕ) → Concluded w (fromRoot w limit) answer m left
+-- what a first run says and leaves, which brings no figure
+pub first-concluded : {I : Type 0} (w : Walker I) (d limit n : ℕ) → d ≡ 0 → limit ≡ n → (answer : List ℕ) (m : Moved) (left : List ℕ) → Concluded w (fromRoot w d limit) answer m left
     → (m .verdict ≡ verdictOf (outcome (w .find) n)) × (m .session ≡ laid (firstSession (w .find) n)) × (left ≡ answerOf (outcome (w .find) n) answer)
-first-concluded w limit n e answer m left h =
+first-concluded w d limit n no-figure e answer m left h =
     let all : limit - 0 ≡ n = omega (arith, e) in (
       h .verdict-is ∙ ap (λ (k : ℕ). verdictOf (outcome (w .find) k)) all,
-      h .session-is ∙ ap (λ (k : ℕ). laid (firstSession (w .find) k)) all,
+      h .session-is ∙ ap (λ (k : ℕ). laid (sessionAfter (w .find) (limit - 0) 0 k (root (w .find)))) no-figure ∙ ap (λ (k : ℕ). laid (firstSession (w .find) k)) all,
       h .answer-is ∙ ap (λ (k : ℕ). answerOf (outcome (w .find) k) answer) all,
     )
 
--- what going on says and leaves, with the session in a record, under the limit that its count and the further one make
-module _ {I : Type 0} (w : Walker I) (r : Record) (further : ℕ) (kept : isKept r ≡ true) (within : r .count + further ≤ 4294967295) where
-  abbrev place : Option (Place I)
-  place = placeOf (w .find) (sessionOf (r .verdict) (r .count) (r .atoms) (r .nexts) (r .length) (r .next))
+-- what going on says and leaves, with the session in a record over so many atoms, under the limit that its count and the further one make
+module _ {I : Type 0} (w : Walker I) (atoms : ℕ) (r : Record) (further : ℕ) (kept : isKeptOver atoms r ≡ true) (within : r .count + further ≤ 4294967295) where
+  -- from where it stands, whatever the figure is
+  abbrev place : ℕ → Option (Place I)
+  place d = placeOf (w .find) (sessionOf (r .verdict) (r .count) (r .atoms) (r .nexts) (r .length) (r .next) d)
 
-  module _ (limit : ℕ) (x : Resumed) (facts path : List ℕ)
-      (goes : GoesOn w (placeOf (w .find) (sessionOf (r .verdict) (r .count) (r .atoms) (r .nexts) (r .length) (r .next))) (r .count) limit x facts path) where
+  -- the figure brought is the record's
+  module _ (d : ℕ) (brings : d ≡ r .deepest) (limit : ℕ) (x : Resumed) (facts path : List ℕ)
+      (goes : GoesOn w (placeOf (w .find) (sessionOf (r .verdict) (r .count) (r .atoms) (r .nexts) (r .length) (r .next) d)) (r .count) d limit x facts path) where
     -- it is none of the walk
-    pub further-nowhere : OneOf (0 ∷ []) (tagOf resumed-type x) → calledIn (w .find) r further ≡ declined 42
-    further-nowhere tag = called-nowhere (w .find) r further within (go x tag goes)
+    pub further-nowhere : OneOf (0 ∷ []) (tagOf resumed-type x) → calledIn (w .find) atoms r further ≡ declined 42
+    further-nowhere tag = called-nowhere (w .find) atoms r further within kept (sym (ap place brings) ∙ go x tag goes)
       where
-        go : (z : Resumed) → OneOf (0 ∷ []) (tagOf resumed-type z) → GoesOn w place (r .count) limit z facts path → place ≡ none
+        go : (z : Resumed) → OneOf (0 ∷ []) (tagOf resumed-type z) → GoesOn w (place d) (r .count) d limit z facts path → place d ≡ none
         go Nowhere tag h = h
         go (On y) tag h = let z : _≡_ {A = ℕ} 1 0 = tag in absurd (omega arith)
 
     module _ (y : Walked) (on : x ≡ On y) where
-      walks-on : WalksOn w place (r .count) limit y facts path
-      walks-on = subst (λ (z : Resumed). GoesOn w place (r .count) limit z facts path) on goes
+      walks-on : WalksOn w (place d) (r .count) d limit y facts path
+      walks-on = subst (λ (z : Resumed). GoesOn w (place d) (r .count) d limit z facts path) on goes
 
       abbrev run : Run I
-      run = record { start = walks-on .start; base = r .count; limit = limit }
+      run = record { start = walks-on .start; base = r .count; brought = d; limit = limit }
 
       pub further-walks : (run : Run I) × ((run .limit ≡ limit) × Walks w run y facts path)
       further-walks = (run, (refl, walks-on .walks))
@@ -233,13 +232,14 @@ module _ {I : Type 0} (w : Walker I) (r : Record) (further : ℕ) (kept : isKept
       -- it is concluded, and the work buffer is zero
       pub further-concluded : limit ≡ r .count + further → (answer work : List ℕ) → length work ≡ 65536 → (m : Moved) (left rest : List ℕ)
           → ((run : Run I) → run .limit ≡ limit → Walks w run y facts path → Concluded w run answer m left) → rest ≡ replicate (length work) 0
-          → CallLeft (calledIn (w .find) r further) r answer work (m .verdict) (m .session) left rest
+          → CallLeft (calledIn (w .find) atoms r further) r answer work (m .verdict) (m .session) left rest
       further-concluded e answer work whole m left rest ends zeros =
           let left-over : limit - r .count ≡ further = omega (arith, e) in
+          let t : Place I = walks-on .start in
           let h = ends run refl (walks-on .walks) in
-          left-whole (calledIn (w .find) r further) r answer work whole (proceed (w .find) further (r .count) (walks-on .start)) (sessionAfter (w .find) further (r .count) (walks-on .start))
-          (called-on (w .find) r further within kept (walks-on .start) (walks-on .stands)) (m .verdict) (m .session) left rest
-          (h .verdict-is ∙ ap (λ (k : ℕ). verdictOf (proceed (w .find) k (r .count) (walks-on .start))) left-over)
-          (h .session-is ∙ ap (λ (k : ℕ). laid (sessionAfter (w .find) k (r .count) (walks-on .start))) left-over)
-          (h .answer-is ∙ ap (λ (k : ℕ). answerOf (proceed (w .find) k (r .count) (walks-on .start)) answer) left-over)
+          left-whole (calledIn (w .find) atoms r further) r answer work whole (proceed (w .find) further (r .count) t) (sessionAfter (w .find) further (r .count) (r .deepest) t)
+          (called-on (w .find) atoms r further within kept t (sym (ap place brings) ∙ walks-on .stands)) (m .verdict) (m .session) left rest
+          (h .verdict-is ∙ ap (λ (k : ℕ). verdictOf (proceed (w .find) k (r .count) t)) left-over)
+          (h .session-is ∙ ap (λ (k : ℕ). laid (sessionAfter (w .find) k (r .count) d t)) left-over ∙ ap (λ (b : ℕ). laid (sessionAfter (w .find) further (r .count) b t)) brings)
+          (h .answer-is ∙ ap (λ (k : ℕ). answerOf (proceed (w .find) k (r .count) t) answer) left-over)
           (zeros ∙ ap (λ (n : ℕ). replicate n 0) whole)

@@ -7,7 +7,7 @@ use mathlib.Core.Option.{some}
 use mathlib.Core.Path.{_≡_, refl, sym, ap, subst, _∙_}
 use native.Mathlib.Omega.{arith}
 use lib.Dec.{leb}
-use lib.ListN.{length, getD, set, replicate, length-set, length-replicate}
+use lib.ListN.{length, getD, set, length-set, length-replicate}
 use lib.Seq.{getD-set-same, getD-set-other, ext-getD}
 use borrow.Author.Tests.{le-leb}
 use Rattle.lists.proofs.Bytes.{zeros-at}
@@ -34,7 +34,7 @@ slots-end f (s ∷ steps) j l = getD-set-other (slots f steps) (length steps) j 
 
 -- ---- steps by their numbers
 
-steps-length : (atoms nexts : List ℕ) (k : ℕ) → length (stepsIn atoms nexts k) ≡ k
+pub steps-length : (atoms nexts : List ℕ) (k : ℕ) → length (stepsIn atoms nexts k) ≡ k
 unfolding stepsIn
 steps-length atoms nexts zero = refl
 steps-length atoms nexts (suc k) = ap suc (steps-length atoms nexts k)
@@ -102,11 +102,16 @@ held-laid s l = rw (verdict-known (s .standing), le-leb (length (s .path)) 1024 
 
 -- a record is fixed by its fields
 pub laid-as : (r : Record) (s : Session) → r .count ≡ s .count → r .length ≡ length (s .path) → r .verdict ≡ verdictNumber (s .standing) → r .next ≡ s .next
-    → r .atoms ≡ slots (λ t. t .atom) (s .path) → r .nexts ≡ slots (λ t. t .next) (s .path) → r ≡ laid s
+    → r .atoms ≡ slots (λ t. t .atom) (s .path) → r .nexts ≡ slots (λ t. t .next) (s .path) → r .deepest ≡ s .deepest → r ≡ laid s
 unfolding laid
-laid-as r s count long verdict next ea en =
-    let same : record { count = r .count; length = r .length; verdict = r .verdict; next = r .next; atoms = r .atoms; nexts = r .nexts } ≡ laid s = rw (count, long, verdict, next, ea, en) in
+laid-as r s count long verdict next ea en deepest =
+    let same : record { count = r .count; length = r .length; verdict = r .verdict; next = r .next; atoms = r .atoms; nexts = r .nexts; deepest = r .deepest } ≡ laid s =
+    rw (count, long, verdict, next, ea, en, deepest) in
     same
+
+pub laid-deepest : (s : Session) → (laid s) .deepest ≡ s .deepest
+unfolding laid
+laid-deepest s = refl
 
 -- ---- what an engine writes down
 

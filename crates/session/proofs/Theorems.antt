@@ -6,8 +6,9 @@ use mathlib.Core.Option.{some}
 use mathlib.Core.Path.{_≡_, refl, sym, ap, subst}
 use lib.Dec.{T, leb, leb→le}
 use lib.ListN.{length, getD}
+use borrow.Author.Tests.{le-leb}
 use Rattle.lists.specs.Test.{T-left, T-right}
-use Rattle.search.specs.Session.{Step, Session, Called, declined}
+use Rattle.search.specs.Session.{Step, Session, Called}
 use Rattle.search.proofs.Session.{cond-some}
 use Rattle.ground.specs.declared.verdict.Verdict.the-variants.{Refused}
 use Rattle.walk.specs.Numbers.{stepsIn, sessionOf}
@@ -16,15 +17,15 @@ use Rattle.session.specs.Record.{isKept, sessionIn, laid}
 use Rattle.session.specs.Calls.{verdictTold, recordLeft, answerLeft, workLeft}
 use Rattle.session.specs.Claims.{SameSeen, Theorems}
 use Rattle.session.proofs.RecordLaws.{slots-end, steps-same, held-laid}
-use Rattle.session.proofs.CallLaws.{is-kept, declined-by}
+use Rattle.session.proofs.CallLaws.{declined-by}
 
 -- the session in a record's numbers
 abbrev inNumbers : Record → Session
-inNumbers r = sessionOf (r .verdict) (r .count) (r .atoms) (r .nexts) (r .length) (r .next)
+inNumbers r = sessionOf (r .verdict) (r .count) (r .atoms) (r .nexts) (r .length) (r .next) (r .deepest)
 
 held-when : (r : Record) → ((s : Session) × (sessionIn r ≡ some s)) ↔ ((r .verdict ≤ 2) × (r .length ≤ 1024))
 unfolding sessionIn
-held-when r = (λ h. known (h .0) (h .1), λ h. (inNumbers r, rw (is-kept r (h .0) (h .1))))
+held-when r = (λ h. known (h .0) (h .1), λ h. (inNumbers r, rw (le-leb (r .verdict) 2 (h .0), le-leb (r .length) 1024 (h .1))))
   where
     known : (s : Session) → sessionIn r ≡ some s → (r .verdict ≤ 2) × (r .length ≤ 1024)
     known s e =
@@ -38,7 +39,7 @@ held-when r = (λ h. known (h .0) (h .1), λ h. (inNumbers r, rw (is-kept r (h .
 past-unseen : (r q : Record) → SameSeen r q → sessionIn r ≡ sessionIn q
 unfolding sessionIn
 past-unseen r q same =
-    rw (steps-same (r .atoms) (r .nexts) (q .atoms) (q .nexts) (r .length) (same .atoms) (same .nexts), same .count, same .length, same .verdict, same .next)
+    rw (steps-same (r .atoms) (r .nexts) (q .atoms) (q .nexts) (r .length) (same .atoms) (same .nexts), same .count, same .length, same .verdict, same .next, same .deepest)
 
 zeros-past : (s : Session) (j : ℕ) → length (s .path) ≤ j → (getD ((laid s) .atoms) j 0 ≡ 0) × (getD ((laid s) .nexts) j 0 ≡ 0)
 unfolding laid

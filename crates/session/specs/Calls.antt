@@ -19,9 +19,9 @@ use Rattle.session.specs.Record.{sessionIn, laid}
 abbrev pub noSession : Record → ℕ → Called
 noSession r further = cond (ltb 4294967295 (r .count + further)) (declined 41) (declined 42)
 
--- going on with the session in a record
-unfoldable pub calledIn : {I : Type 0} → (List ℕ → Found I) → Record → ℕ → Called
-calledIn find r further = elim (sessionIn r) [ none ↦ noSession r further | some s ↦ called find s further ]
+-- going on with the session in a record, over so many atoms
+unfoldable pub calledIn : {I : Type 0} → (List ℕ → Found I) → ℕ → Record → ℕ → Called
+calledIn find atoms r further = elim (sessionIn r) [ none ↦ noSession r further | some s ↦ called find atoms s further ]
 
 -- a first run under a limit
 abbrev pub begunBy : {I : Type 0} → (List ℕ → Found I) → ℕ → Called
@@ -36,6 +36,11 @@ screened short valid c = cond short (declined 11) (cond valid c (declined 31))
 abbrev pub verdictTold : Called → Verdict
 verdictTold (declined e) = Refused e
 verdictTold (told o s) = verdictOf o
+
+-- the deepest figure in an answer; a refusal has none
+abbrev pub deepestTold : Called → ℕ
+deepestTold (declined e) = 0
+deepestTold (told o s) = s .deepest
 
 abbrev pub recordLeft : Called → Record → Record
 recordLeft (declined e) r = r

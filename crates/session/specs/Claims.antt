@@ -19,6 +19,7 @@ pub record SameSeen (r q : Record) : Type 0 where
   pub next : r .next ≡ q .next
   pub atoms : (j : ℕ) → j < r .length → getD (r .atoms) j 0 ≡ getD (q .atoms) j 0
   pub nexts : (j : ℕ) → j < r .length → getD (r .nexts) j 0 ≡ getD (q .nexts) j 0
+  pub deepest : r .deepest ≡ q .deepest
 
 pub record Theorems : Type 0 where
   -- a verdict or a length that no session has holds none, and no other record is refused so

@@ -15,7 +15,7 @@ isKept r = leb (r .verdict) 2 && leb (r .length) 1024
 
 -- the session in a record; what stands past the path is not looked at
 unfoldable pub sessionIn : Record → Option Session
-sessionIn r = cond (isKept r) (some (sessionOf (r .verdict) (r .count) (r .atoms) (r .nexts) (r .length) (r .next))) none
+sessionIn r = cond (isKept r) (some (sessionOf (r .verdict) (r .count) (r .atoms) (r .nexts) (r .length) (r .next) (r .deepest))) none
 
 abbrev pub verdictNumber : Standing → ℕ
 verdictNumber refuted = 0
@@ -37,4 +37,5 @@ laid s =
       next = s .next;
       atoms = slots (λ t. t .atom) (s .path);
       nexts = slots (λ t. t .next) (s .path);
+      deepest = s .deepest;
     }

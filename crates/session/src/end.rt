@@ -11,11 +11,12 @@ ghost use Rattle.lists.specs.Bytes.{isSet};
 ghost use Rattle.search.specs.Relevancy.{modelBits};
 ghost use Rattle.session.specs.contracts.End.{depthOf, answerBy, movedBy};
 
-// What a run leaves of its path: the next alternative of the last node, and the slots of the record.
+// What a run leaves of its path: the next alternative of the last node, the slots of the record, and how many entries the longest path had.
 pub struct Left {
     pub next: u8,
     pub atoms: [u16; 1024],
     pub nexts: [u8; 1024],
+    pub deepest: u32,
 }
 
 // Gives the model where a place is open.
@@ -39,6 +40,7 @@ pub fn moved(walked: Walked, limit: u32, left: Left) -> Moved
     let next = left.next;
     let atoms = left.atoms;
     let nexts = left.nexts;
+    let deepest = left.deepest;
     match walked {
         Walked::Opened(count, depth) => Moved {
             verdict: Verdict::Satisfied(count),
@@ -49,6 +51,7 @@ pub fn moved(walked: Walked, limit: u32, left: Left) -> Moved
                 next: next,
                 atoms: atoms,
                 nexts: nexts,
+                deepest: deepest,
             },
         },
         Walked::Shut(count) => Moved {
@@ -60,6 +63,7 @@ pub fn moved(walked: Walked, limit: u32, left: Left) -> Moved
                 next: next,
                 atoms: atoms,
                 nexts: nexts,
+                deepest: deepest,
             },
         },
         Walked::Exhausted(depth) => Moved {
@@ -71,6 +75,7 @@ pub fn moved(walked: Walked, limit: u32, left: Left) -> Moved
                 next: next,
                 atoms: atoms,
                 nexts: nexts,
+                deepest: deepest,
             },
         },
     }

@@ -11,10 +11,10 @@ use types.Run.{OneOf}
 use lib.ListN.{length, drop, getD, set, replicate, length-append, length-drop}
 use lib.Seq.{getD-set-same, getD-set-other}
 use Rattle.search.specs.Ground.{Found}
-use Rattle.search.specs.Machine.{Branch, Place, Outcome, Satisfied, Refuted, Exhausted, nextPath, last, entries, proceed, Genuine}
-use Rattle.search.specs.Session.{satisfied, exhausted, altsFound, stepsOf, dueAt, leftBy, sessionAfter}
+use Rattle.search.specs.Machine.{Branch, Place, Outcome, Satisfied, Refuted, Exhausted, nextPath, last, longest, entries, proceed, Genuine}
+use Rattle.search.specs.Session.{satisfied, exhausted, Session, altsFound, stepsOf, dueAt, leftBy, sessionAfter}
 use Rattle.walk.specs.contracts.Walker.{Walker, Run}
-use Rattle.walk.specs.contracts.Path.{nextAt, siteAt, altsAt, entryAt, entryBefore, pathIn}
+use Rattle.walk.specs.contracts.Path.{nextAt, deepestAt, siteAt, altsAt, entryAt, entryBefore, pathIn}
 use Rattle.walk.specs.contracts.Place.{bitsIn, placeIn, Beginning}
 use Rattle.walk.specs.contracts.Walk.{OneDue, Walks}
 use Rattle.walk.specs.Numbers.{stepsIn}
@@ -142,31 +142,34 @@ module _ {I : Type 0} (w : Walker I) (tied : Tied w) (r : Run I) where
   abbrev end : Place I
   end = last (r .start) (entries (w .find) (r .limit - r .base) (r .start))
 
-  -- what is left, by the outcome
-  by-outcome : (o : Outcome) → proceed (w .find) (r .limit - r .base) (r .base) (r .start) ≡ o
-      → sessionAfter (w .find) (r .limit - r .base) (r .base) (r .start) ≡ leftBy (w .find) o (last (r .start) (entries (w .find) (r .limit - r .base) (r .start)))
+  abbrev deep : ℕ
+  deep = longest (r .brought) (entries (w .find) (r .limit - r .base) (r .start))
+
+  -- what is left, by the outcome and the longest path entered
+  by-outcome : (o : Outcome) → proceed (w .find) (r .limit - r .base) (r .base) (r .start) ≡ o → (d : ℕ) → deep ≡ d
+      → sessionAfter (w .find) (r .limit - r .base) (r .base) (r .brought) (r .start) ≡ leftBy (w .find) o d end
   unfolding sessionAfter
-  by-outcome o told = ap (λ (x : Outcome). leftBy (w .find) x end) told
+  by-outcome o told d deepest = ap₂ (λ (x : Outcome) (n : ℕ). leftBy (w .find) x n end) told deepest
 
   -- a run leaves the session of how it ends
   pub walks-left : (y : Walked) (facts path : List ℕ) → Walks w r y facts path
-      → sessionAfter (w .find) (r .limit - r .base) (r .base) (r .start) ≡ sessionLeft w r y path
-  walks-left (Shut c) facts path h = by-outcome (Refuted c) (walks-tell w r (Shut c) facts path h)
+      → sessionAfter (w .find) (r .limit - r .base) (r .base) (r .brought) (r .start) ≡ sessionLeft w r y path
+  walks-left (Shut c) facts path h =
+      by-outcome (Refuted c) (walks-tell w r (Shut c) facts path h) (deepestAt path) (ap (longest (r .brought)) (h .0) ∙ h .1 .at-latest .deep)
   walks-left (Opened c e) facts path h =
       let here : end ≡ placeIn w facts path e (ToldOpen 0) = ap (last (r .start)) (h .0) ∙ h .1 .here in
-      by-outcome (Satisfied c (bitsIn w facts)) (walks-tell w r (Opened c e) facts path h)
-      ∙ ap (λ (t : Place I). record { standing = satisfied; count = c; path = stepsOf (w .find) (t .path); next = 0 }) here
+      by-outcome (Satisfied c (bitsIn w facts)) (walks-tell w r (Opened c e) facts path h) (deepestAt path) (ap (longest (r .brought)) (h .0) ∙ h .1 .deep)
+      ∙ ap (λ (t : Place I). record { standing = satisfied; count = c; path = stepsOf (w .find) (t .path); next = 0; deepest = deepestAt path }) here
   walks-left (LimitMet e) facts path h =
       let ds = altsAt w path e in
       let next-is : nextPath end ≡ some (entryAt w path e ∷ pathIn w path e) =
       ap nextPath (h .0 .at-latest .here) ∙ h .0 .next ∙ next-some w path e (h .1 .left-over) in
       let left : length ds - suc (length (drop (suc (nextAt path e)) ds)) ≡ nextAt path e = omega (arith, length-drop (suc (nextAt path e)) ds, h .1 .left-over) in
-      by-outcome (Exhausted (r .limit)) (walks-tell w r (LimitMet e) facts path h)
-      ∙ ap (dueAt (w .find) (r .limit)) next-is
-      ∙ ap
-      (λ (f : Found I). record { standing = exhausted; count = r .limit; path = stepsOf (w .find) (pathIn w path e); next = length (altsFound f) - suc (length (drop (suc (nextAt path e)) ds)) })
-      (due-here facts path e (h .1) .found)
-      ∙ ap (λ (n : ℕ). record { standing = exhausted; count = r .limit; path = stepsOf (w .find) (pathIn w path e); next = n }) left
+      let due : ℕ → Session = λ n. record { standing = exhausted; count = r .limit; path = stepsOf (w .find) (pathIn w path e); next = n; deepest = deepestAt path } in
+      by-outcome (Exhausted (r .limit)) (walks-tell w r (LimitMet e) facts path h) (deepestAt path) (h .0 .at-latest .deep)
+      ∙ ap (dueAt (w .find) (r .limit) (deepestAt path)) next-is
+      ∙ ap (λ (f : Found I). due (length (altsFound f) - suc (length (drop (suc (nextAt path e)) ds)))) (due-here facts path e (h .1) .found)
+      ∙ ap due left
 
 -- ---- the root, all its alternatives used up
 

@@ -1,11 +1,11 @@
 -- A node's record: nine bytes stored one after another, four of them the values of up to four variables.
-use Prim.Native.Nat.{ℕ, suc, _+_, _≤_, _<_}
+use Prim.Native.Nat.{ℕ, suc, _+_, _-_, _≤_, _<_}
 use mathlib.Core.List.{List, [], _∷_, _++_, append-assoc}
-use mathlib.Core.Path.{_≡_, sym, ap, _∙_}
+use mathlib.Core.Path.{_≡_, refl, sym, ap, _∙_}
 use native.Mathlib.Nat.{add-zero}
 use native.Mathlib.Omega.{arith}
 use lib.ListN.{length, take, drop, getD, set, List·getD-append}
-use lib.Seq.{length-take-le, getD-take, sets, sets-eq}
+use lib.Seq.{length-take-le, getD-take, getD-drop, sets, sets-eq}
 use Rattle.lists.proofs.Bytes.{getD-skip}
 
 module _ (path : List ℕ) (at : ℕ) (a b c d e f g h i : ℕ) (room : at + 9 ≤ length path) where
@@ -44,12 +44,23 @@ module _ (path : List ℕ) (at : ℕ) (a b c d e f g h i : ℕ) (room : at + 9 �
   pub stored-first : getD stored at 0 ≡ a
   stored-first = ap (λ (j : ℕ). getD stored j 0) (sym (add-zero at)) ∙ stored-byte 0 (omega arith)
 
-  -- and those before them are kept
+  -- and those before and behind them are kept
   pub stored-before : (j : ℕ) → j < at → getD stored j 0 ≡ getD path j 0
   stored-before j l =
       ap (λ (xs : List ℕ). getD xs j 0) stored-whole
       ∙ List·getD-append (take at path) (bytes ++ drop (at + 9) path) 0 j (omega (arith, front))
       ∙ getD-take at path j 0 l
+
+  pub stored-behind : (j : ℕ) → at + 9 ≤ j → getD stored j 0 ≡ getD path j 0
+  stored-behind j l =
+      let k : ℕ = j - (at + 9) in
+      let there : at + (9 + k) ≡ j = omega arith in
+      let same : getD stored (at + (9 + k)) 0 ≡ getD path (at + 9 + k) 0 =
+      ap (λ (xs : List ℕ). getD xs (at + (9 + k)) 0) stored-whole
+      ∙ getD-skip (take at path) (bytes ++ drop (at + 9) path) at (9 + k) front
+      ∙ getD-skip bytes (drop (at + 9) path) 9 k refl
+      ∙ getD-drop (at + 9) path k 0 in
+      ap (λ (i : ℕ). getD stored i 0) (sym there) ∙ same ∙ ap (λ (i : ℕ). getD path i 0) (omega arith)
 
 -- v values that stand in four bytes, with 0 after them
 pub take-four : (values : List ℕ) (a b c d v : ℕ) → length values ≡ v → v ≤ 4 → getD values 0 0 ≡ a → getD values 1 0 ≡ b → getD values 2 0 ≡ c → getD values 3 0 ≡ d

@@ -1,18 +1,18 @@
--- The path in its buffer: it looks at its own bytes alone; a node written down, read back, and passed on to its next alternative.
-use Prim.Native.Nat.{ℕ, zero, suc, _+_, _-_, _%_, _/_, _≤_, _<_}
+-- The path in its buffer: it looks at its own bytes alone; a node written down, read back, and passed on to its next alternative; the longest path entered.
+use Prim.Native.Nat.{ℕ, zero, suc, _+_, _-_, _%_, _/_, max, _≤_, _<_}
 use mathlib.Core.List.{List, [], _∷_}
 use mathlib.Core.Option.{some}
 use mathlib.Core.Path.{_≡_, refl, ap, _∙_}
 use native.Mathlib.Numerals.{add-one}
 use native.Mathlib.Omega.{arith}
-use lib.ListN.{length, take, drop, getD, set}
+use lib.ListN.{length, take, drop, getD, set, length-set}
 use lib.Seq.{getD-set-same, getD-set-other, split-at, drop-cons}
 use Rattle.lists.proofs.Digits.{two-back}
 use Rattle.search.specs.Ground.{Found, split}
 use Rattle.search.specs.Machine.{Branch, entered, enter, back, Genuine}
 use Rattle.walk.specs.contracts.Walker.{Site, Walker, Sound}
-use Rattle.walk.specs.contracts.Path.{Room, nodeAt, numberAt, fourAt, nextAt, markAt, PathKept, Noted, Passed, Turned, siteAt, altsAt, entryAt, entryBefore, pathIn, nextIn}
-use Rattle.walk.proofs.NodeRecord.{stored-byte, stored-first, stored-before, take-four}
+use Rattle.walk.specs.contracts.Path.{Room, nodeAt, numberAt, fourAt, nextAt, markAt, deepestAt, PathKept, Noted, Passed, Turned, siteAt, altsAt, entryAt, entryBefore, pathIn, nextIn}
+use Rattle.walk.proofs.NodeRecord.{stored-byte, stored-first, stored-before, stored-behind, take-four}
 
 -- ---- a node's own bytes
 
@@ -58,6 +58,9 @@ module _ (path : List ℕ) (depth number a b c d mark : ℕ) (room : Room path d
   byte : (i : ℕ) → i < 9 → getD stored (nodeAt depth + i) 0 ≡ getD (number % 256 ∷ number / 256 % 256 ∷ a ∷ b ∷ c ∷ d ∷ 0 ∷ mark % 256 ∷ mark / 256 % 256 ∷ []) i 0
   byte = stored-byte path (nodeAt depth) (number % 256) (number / 256 % 256) a b c d 0 (mark % 256) (mark / 256 % 256) fits
 
+  behind : (i : ℕ) → nodeAt depth + 9 ≤ i → getD stored i 0 ≡ getD path i 0
+  behind = stored-behind path (nodeAt depth) (number % 256) (number / 256 % 256) a b c d 0 (mark % 256) (mark / 256 % 256) fits
+
   pub noted : Noted path depth number a b c d mark stored
   noted =
       record {
@@ -68,6 +71,7 @@ module _ (path : List ℕ) (depth number a b c d mark : ℕ) (room : Room path d
         next = byte 6 (omega arith);
         mark-is = rw (byte 7 (omega arith), byte 8 (omega arith)) (two-back mark small);
         before = λ i l. stored-before path (nodeAt depth) (number % 256) (number / 256 % 256) a b c d 0 (mark % 256) (mark / 256 % 256) fits i l;
+        deepest-is = rw (behind 9225 (omega (arith, room .deep)), behind 9226 (omega (arith, room .deep)));
       }
 
 -- ---- a node turned to another alternative, and passed on
@@ -90,16 +94,40 @@ module _ (path : List ℕ) (depth : ℕ) (room : Room path depth) where
         next-is = getD-set-same path (nodeAt depth + 6) next 0 (omega (arith, room .size, room .deep));
         mark-is = rw (other next (nodeAt depth + 7) (λ e. omega arith), other next (nodeAt depth + 8) (λ e. omega arith));
         before = λ i l. other next i (λ e. omega arith);
+        deepest-is = rw (other next 9225 (λ e. omega (arith, room .deep)), other next 9226 (λ e. omega (arith, room .deep)));
       }
 
-  pub passed : Passed path depth (set path (nodeAt depth + 6) (nextAt path depth + 1))
-  passed =
+  -- turned to the one after its next one, and the path that ends with that counted in
+  pub passed : (left : List ℕ) → PathKept (set path (nodeAt depth + 6) (nextAt path depth + 1)) 1025 left → deepestAt left ≡ max (deepestAt path) (depth + 1) → Passed path depth left
+  passed left kept counted =
       let t = turned (nextAt path depth + 1) in
-      record { number-is = t .number-is; four = t .four; next = t .next-is; mark-is = t .mark-is; before = t .before }
+      let put : List ℕ = set path (nodeAt depth + 6) (nextAt path depth + 1) in
+      let own = own-bytes put left 1025 depth kept (omega (arith, room .deep)) in
+      record {
+        number-is = number-same put left depth own ∙ t .number-is;
+        four = four-same put left depth own ∙ t .four;
+        next = next-same put left depth own ∙ t .next-is;
+        mark-is = mark-same put left depth own ∙ t .mark-is;
+        before = λ i l. kept i (omega (arith, room .deep)) ∙ t .before i l;
+        deepest-is = counted;
+      }
+
+-- the longest path entered written down
+pub brought : (path : List ℕ) (deepest : ℕ) → length path ≡ 9227 → deepest < 65536
+    → (deepestAt (set (set path 9225 (deepest % 256)) 9226 (deepest / 256 % 256)) ≡ deepest) × PathKept path 1025 (set (set path 9225 (deepest % 256)) 9226 (deepest / 256 % 256))
+brought path deepest size small =
+    let low : List ℕ = set path 9225 (deepest % 256) in (
+      rw (
+        getD-set-other low 9226 9225 (deepest / 256 % 256) 0 (λ e. omega arith),
+        getD-set-same path 9225 (deepest % 256) 0 (omega arith),
+        getD-set-same low 9226 (deepest / 256 % 256) 0 (omega (arith, length-set path 9225 (deepest % 256))),
+      ) (two-back deepest small),
+      λ i l. getD-set-other low 9226 i (deepest / 256 % 256) 0 (λ e. omega arith) ∙ getD-set-other path 9225 i (deepest % 256) 0 (λ e. omega arith),
+    )
 
 -- where the nodes from the next one on have changed since
-pub passed-still : (path went left : List ℕ) (depth : ℕ) → Passed path depth went → PathKept went (depth + 1) left → Passed path depth left
-passed-still path went left depth p kept =
+pub passed-still : (path went left : List ℕ) (depth : ℕ) → Passed path depth went → PathKept went (depth + 1) left → deepestAt left ≡ deepestAt went → Passed path depth left
+passed-still path went left depth p kept figure =
     let own = own-bytes went left (depth + 1) depth kept (omega arith) in
     record {
       number-is = number-same went left depth own ∙ p .number-is;
@@ -107,6 +135,7 @@ passed-still path went left depth p kept =
       next = next-same went left depth own ∙ p .next;
       mark-is = mark-same went left depth own ∙ p .mark-is;
       before = λ i l. kept i (omega arith) ∙ p .before i l;
+      deepest-is = figure ∙ p .deepest-is;
     }
 
 -- ---- what the nodes stand for

@@ -1,5 +1,5 @@
 -- A place made: found, written down where it is split, and the entry after those made before.
-use Prim.Native.Nat.{ℕ, _+_, _≤_, _<_}
+use Prim.Native.Nat.{ℕ, _+_, max, _≤_, _<_}
 use mathlib.Core.Bool.{Bool, true, false}
 use mathlib.Core.List.{List, [], _∷_}
 use mathlib.Core.Option.{some}
@@ -11,12 +11,13 @@ use lib.ListN.{length, drop}
 use Rattle.search.specs.Ground.{Found, split}
 use Rattle.search.specs.Machine.{Branch, entered, place, placed}
 use Rattle.store.specs.contracts.Store.{Store, Undone, logged}
+use Rattle.walk.specs.contracts.Trail.{AtEntry}
 use Rattle.walk.specs.contracts.Walker.{Site, Walker, Run, Sound, branchOf}
-use Rattle.walk.specs.contracts.Path.{Room, nextAt, markAt, PathKept, Passed, siteAt, altsAt, entryAt, pathIn, nextIn}
+use Rattle.walk.specs.contracts.Path.{Room, nextAt, markAt, deepestAt, PathKept, Passed, siteAt, altsAt, entryAt, pathIn, nextIn}
 use Rattle.walk.specs.contracts.Place.{factsOf, foundIn, placeIn, NodesNamed, AtSplit, Parted, Ready, Reached, Visiting, Finding, Making, Beginning}
 use Rattle.walk.specs.declared.answer.Found.{Found as Told}
 use Rattle.walk.specs.declared.answer.Found.the-variants.{Split}
-use Rattle.walk.proofs.PathLaws.{number-same, four-same, own-bytes, site-same, path-same, path-entered, passed-still, next-some}
+use Rattle.walk.proofs.PathLaws.{number-same, four-same, own-bytes, site-same, path-same, path-length, path-entered, passed-still, next-some}
 use Rattle.walk.proofs.TrailLaws.{entry-made}
 
 module _ {I : Type 0} (w : Walker I) where
@@ -81,13 +82,18 @@ module _ {I : Type 0} (w : Walker I) where
       → w .Holds x (entered (pathIn w path depth)) (logged left (w .capacity) (factsOf x)) → Ready w left path depth done x
       → ((i : ℕ) → i ≤ n → logged left (w .capacity) i ≡ logged facts (w .capacity) i) → Finding w facts path depth n done x left path
   found-here facts path depth n done x left room kept named found store holds ready logs =
-      record { reached = record { room = room; kept = kept; named = named; found = found; store = store; holds = holds; ready = ready }; logs = logs; before = λ i l. refl }
+      record {
+        reached = record { room = room; kept = kept; named = named; found = found; store = store; holds = holds; ready = ready };
+        logs = logs;
+        before = λ i l. refl;
+        deepest-is = refl;
+      }
 
   -- ---- a node found to be split, and written down
 
   module _ (sound : Sound w) (facts path : List ℕ) (depth n done : ℕ) (room : Room path depth) (kept : w .Kept (pathIn w path depth)) (named : NodesNamed w path depth)
       (site : Site) (listed : w .Named site) (found : w .find (entered (pathIn w path depth)) ≡ split (w .instance site) (w .alts site))
-      (left-facts left : List ℕ) (size : length left ≡ 9225) (before : PathKept path depth left) (site-is : siteAt w left depth ≡ site) (none-yet : nextAt left depth ≡ 0)
+      (left-facts left : List ℕ) (size : length left ≡ 9227) (before : PathKept path depth left) (figure : deepestAt left ≡ deepestAt path) (site-is : siteAt w left depth ≡ site) (none-yet : nextAt left depth ≡ 0)
       (m : ℕ) (store : Store (w .capacity) left-facts m) (few : markAt left depth ≤ m) (more : done ≤ markAt left depth)
       (rests : w .RestsAt site (entered (pathIn w path depth)) (logged left-facts (w .capacity) (markAt left depth)))
       (holds : w .Holds (Split m) (entered (pathIn w path depth)) (logged left-facts (w .capacity) m))
@@ -125,6 +131,7 @@ module _ {I : Type 0} (w : Walker I) where
               };
           logs = logs;
           before = before;
+          deepest-is = figure;
         }
 
   -- ---- the next place is made
@@ -144,12 +151,17 @@ module _ {I : Type 0} (w : Walker I) where
         ap (λ (d : Found I). record { path = pathIn w left (depth + 1); found = d }) (f .reached .found) in
         let made : placed (w .find) (nextIn w path depth) ≡ some (placeIn w left-facts left (depth + 1) x) =
         ap (placed (w .find)) (next-some w path depth some-left ∙ ap some (sym path-is)) ∙ ap some place-is in
+        let counted : max (deepestAt path) (length (pathIn w left (depth + 1))) ≡ deepestAt left =
+        ap (max (deepestAt path)) (path-length w left (depth + 1)) ∙ sym (p .deepest-is) ∙ sym (f .deepest-is) in
         record {
           made = made;
-          trail = λ r below due. entry-made (w .find) (r .start) (r .base) count (nextIn w path depth) (placeIn w left-facts left (depth + 1) x) due made;
+          trail =
+              λ r below due.
+              subst (AtEntry (w .find) (r .start) (r .brought) (r .base) (count + 1) (placeIn w left-facts left (depth + 1) x)) counted
+              (entry-made (w .find) (r .start) (r .base) count (nextIn w path depth) (placeIn w left-facts left (depth + 1) x) due made);
           reached = f .reached;
           path-is = path-is;
-          passed = passed-still path went left depth p (f .before);
+          passed = passed-still path went left depth p (f .before) (f .deepest-is);
           logs = λ i l. f .logs i (omega arith) ∙ logs i l;
         }
 

@@ -15,8 +15,9 @@ use Rattle.search.specs.Ground.{Found, closed, opened, split}
 use Rattle.search.specs.Machine.{Branch, Place, entered, back, nextPath}
 use Rattle.search.specs.Session.{Step, Standing, refuted, satisfied, exhausted, Session, stepTaken, nodeTaken, isRoot, isOver, pathOf, nodeOf, placeOf}
 use Rattle.store.specs.contracts.Store.{Store, Undone, logged}
+use Rattle.walk.specs.contracts.Trail.{AtEntry}
 use Rattle.walk.specs.contracts.Walker.{Walker, Run}
-use Rattle.walk.specs.contracts.Path.{nextAt, markAt, PathKept, Passed, Turned, siteAt, altsAt, entryAt, pathIn, nextIn}
+use Rattle.walk.specs.contracts.Path.{nextAt, markAt, deepestAt, PathKept, Turned, siteAt, altsAt, entryAt, pathIn, nextIn}
 use Rattle.walk.specs.contracts.Place.{bitsIn, placeIn, Parted, Reached, Trying, Making}
 use Rattle.walk.specs.contracts.Walk.{AllShut, Leaves, Ended}
 use Rattle.walk.specs.Numbers.{standingBy, stepsIn, sessionOf}
@@ -33,7 +34,7 @@ use Rattle.walk.proofs.PlaceLaws.{named-kept, split-same, split-parted}
 use Rattle.walk.proofs.answer.Found.{the-type as found-type}
 use Rattle.walk.proofs.answer.Resumed.{the-type as resumed-type}
 use Rattle.walk.proofs.answer.Walked.{the-type as walked-type}
-use Rattle.walk.proofs.WalkLaws.{split-unopened, visit-open, visit-closed, closed-ended, passes, passes-ended, leaves-as, ended-as, after-passed, after-logs, after-parted, after-tries, root-walks}
+use Rattle.walk.proofs.WalkLaws.{split-unopened, visit-open, visit-closed, closed-ended, passes, passes-ended, leaves-as, ended-as, after-mark, after-before, after-logs, after-parted, after-tries, root-walks}
 
 -- ---- the verdict by its number
 
@@ -164,15 +165,15 @@ module _ {I : Type 0} (find : List ℕ → Found I) where
     none-on i e (suc k) zero same = absurd (omega (arith, same))
     none-on i e (suc k) (suc n) same = steps-on n none (none-on i e k n (omega (arith, same)))
 
-    module _ (standing count steps next depth : ℕ) (bs : List (Branch I)) (so-far : pathOf find (stepsIn atoms nexts depth) ≡ some bs) (more : depth < steps) where
+    module _ (standing count steps next deepest depth : ℕ) (bs : List (Branch I)) (so-far : pathOf find (stepsIn atoms nexts depth) ≡ some bs) (more : depth < steps) where
       -- the next entry is none of the walk
-      nowhere : stepTaken (find (entered bs)) (record { atom = getD atoms depth 0; next = getD nexts depth 0 }) bs ≡ none → placeOf find (sessionOf standing count atoms nexts steps next) ≡ none
+      nowhere : stepTaken (find (entered bs)) (record { atom = getD atoms depth 0; next = getD nexts depth 0 }) bs ≡ none → placeOf find (sessionOf standing count atoms nexts steps next deepest) ≡ none
       nowhere e =
-          place-none (sessionOf standing count atoms nexts steps next)
+          place-none (sessionOf standing count atoms nexts steps next deepest)
           (none-on (suc depth) (steps-on depth (some bs) so-far ∙ e) (steps - suc depth) steps (omega arith))
 
       pub nowhere-entry : (i : I) (ds : List ℕ) → find (entered bs) ≡ split i ds → isTaken ds (getD nexts depth 0) (getD atoms depth 0) ≡ false
-          → placeOf find (sessionOf standing count atoms nexts steps next) ≡ none
+          → placeOf find (sessionOf standing count atoms nexts steps next deepest) ≡ none
       nowhere-entry i ds e out = nowhere (rw (e, out))
 
     pub entry-again : (depth : ℕ) (bs : List (Branch I)) → pathOf find (stepsIn atoms nexts depth) ≡ some bs
@@ -272,7 +273,7 @@ module _ {I : Type 0} (w : Walker I) (path : List ℕ) (depth next : ℕ) (put :
   turned-path : pathIn w put depth ≡ pathIn w path depth
   turned-path = path-same w path put depth (t .before)
 
-  pub turned-parted : (facts : List ℕ) → length put ≡ 9225 → Parted w facts path depth → Parted w facts put depth
+  pub turned-parted : (facts : List ℕ) → length put ≡ 9227 → Parted w facts path depth → Parted w facts put depth
   turned-parted facts size node =
       record {
         room = record { size = size; deep = node .room .deep };
@@ -288,11 +289,13 @@ module _ {I : Type 0} (w : Walker I) (path : List ℕ) (depth next : ℕ) (put :
   abbrev start : Place I
   start = record { path = pathIn w path depth; found = split (w .instance (siteAt w path depth)) (drop next (altsAt w path depth)) }
 
-  turned-tries : (count limit : ℕ) → Trying w (record { start = start; base = count; limit = limit }) put depth count
+  turned-tries : (count limit : ℕ) → Trying w (record { start = start; base = count; brought = deepestAt path; limit = limit }) put depth count
   turned-tries count limit =
       let same : nextPath start ≡ nextIn w put depth = rw (altsAt, turned-site, turned-path, t .next-is) in
+      let at : AtEntry (w .find) start (deepestAt path) count count start (deepestAt put) =
+      subst (AtEntry (w .find) start (deepestAt path) count count start) (sym (t .deepest-is)) (at-start (w .find) start (deepestAt path) count) in
       next-as (w .find) start count count (nextPath start) (nextIn w put depth) same
-      (next-of (w .find) start count count start (split-unopened (w .instance (siteAt w path depth)) (drop next (altsAt w path depth))) (at-start (w .find) start count))
+      (next-of (w .find) start count count start (split-unopened (w .instance (siteAt w path depth)) (drop next (altsAt w path depth))) at)
 
 -- ---- what was said from one state of the node on, from an earlier one
 
@@ -354,7 +357,7 @@ module _ {I : Type 0} (w : Walker I) (facts path : List ℕ) (depth done count l
         start = t;
         stands = closed-as n at true e;
         leaves = visit-closed w facts path depth done count limit within left undone;
-        ended = closed-ended w (record { start = t; base = count; limit = limit }) facts path depth count n (at-start (w .find) t count) left;
+        ended = closed-ended w (record { start = t; base = count; brought = deepestAt path; limit = limit }) facts path depth count n (at-start (w .find) t (deepestAt path) count) left;
       }
 
   open-as : (n : ℕ) → Reached w facts path depth done (ToldOpen n) → (b : Bool) → b ≡ openStands (standingBy standing) next
@@ -371,7 +374,7 @@ module _ {I : Type 0} (w : Walker I) (facts path : List ℕ) (depth done count l
       → GoneOn w (lastIn w path depth standing next) facts path depth done count limit (Opened count depth) facts path
   open-goes n at e within =
       let t : Place I = placeIn w facts path depth (ToldOpen n) in
-      record { start = t; stands = open-as n at true e; leaves = visit-open w facts path depth done count limit within n at; ended = at-start (w .find) t count }
+      record { start = t; stands = open-as n at true e; leaves = visit-open w facts path depth done count limit within n at; ended = at-start (w .find) t (deepestAt path) count }
 
   module _ (n : ℕ) (at : Reached w facts path depth done (ToldSplit n)) where
     split-as : (b : Bool) → b ≡ splitStands (standingBy standing) depth (altsAt w path depth) next
@@ -392,7 +395,7 @@ module _ {I : Type 0} (w : Walker I) (facts path : List ℕ) (depth done count l
         → ((r : Run I) → r .limit ≡ limit → Trying w r put depth count → Ended w r put depth y last-facts last)
         → GoneOn w (lastIn w path depth standing next) facts path depth done count limit y last-facts last
     split-goes e own undone put t y last-facts last leaves ended =
-        let r : Run I = record { start = start w path depth next put t; base = count; limit = limit } in
+        let r : Run I = record { start = start w path depth next put t; base = count; brought = deepestAt path; limit = limit } in
         record {
           start = start w path depth next put t;
           stands = split-as true e;
@@ -403,7 +406,7 @@ module _ {I : Type 0} (w : Walker I) (facts path : List ℕ) (depth done count l
 -- ---- an entry made again, and what comes back from below
 
 module _ {I : Type 0} (w : Walker I) (facts path : List ℕ) (depth done n : ℕ) (at : Reached w facts path depth done (ToldSplit n))
-    (own : List ℕ) (undone : Undone (w .capacity) facts (markAt path depth) own) (next : ℕ) (put : List ℕ) (t : Turned path depth (next - 1) put) (size : length put ≡ 9225) where
+    (own : List ℕ) (undone : Undone (w .capacity) facts (markAt path depth) own) (next : ℕ) (put : List ℕ) (t : Turned path depth (next - 1) put) (size : length put ≡ 9227) where
   pub again-parted : Parted w own put depth
   again-parted = turned-parted w path depth (next - 1) put t own size (split-parted w facts path depth done n at own undone)
 
@@ -415,6 +418,10 @@ module _ {I : Type 0} (w : Walker I) (facts path : List ℕ) (depth done n : ℕ
       rw (altsAt, turned-site w path depth (next - 1) put t, t .next-is) (inside, same)
 
   module _ (x : Told) (made-facts made : List ℕ) (went : Making w own put depth 0 x made-facts made) where
+    -- the path of a session is no longer than the figure that it brings: entered again, it changes nothing
+    pub again-deepest : depth < deepestAt path → deepestAt made ≡ deepestAt path
+    again-deepest deep = omega (arith, went .passed .deepest-is, t .deepest-is)
+
     -- the steps so far and this one stand for the path made
     pub again-path : (atoms nexts : List ℕ) → next ≡ getD nexts depth 0 → pathOf (w .find) (stepsIn atoms nexts depth) ≡ some (pathIn w path depth)
         → isTaken (altsAt w path depth) next (getD atoms depth 0) ≡ true → pathOf (w .find) (stepsIn atoms nexts (depth + 1)) ≡ some (pathIn w made (depth + 1))
@@ -435,29 +442,37 @@ module _ {I : Type 0} (w : Walker I) (facts path : List ℕ) (depth done n : ℕ
 
     module _ (o : Option (Place I)) (mark count limit : ℕ) (mark-is : mark ≡ markAt put depth) (y : Walked) (after-facts after : List ℕ)
         (below : GoneOn w o made-facts made (depth + 1) mark count limit y after-facts after) where
+      -- the run that has gone on, and how it ended below
+      abbrev run : Run I
+      run = record { start = below .start; base = count; brought = deepestAt path; limit = limit }
+
+      run-ended : depth < deepestAt path → Ended w run made (depth + 1) y after-facts after
+      run-ended deep =
+          subst (λ (d : ℕ). Ended w (record { start = below .start; base = count; brought = d; limit = limit }) made (depth + 1) y after-facts after) (again-deepest deep) (below .ended)
+
       -- what is open or due below is so here
-      pub again-passes : OneOf (1 ∷ 2 ∷ []) (tagOf walked-type y) → GoneOn w o facts path depth done count limit y after-facts after
-      again-passes tag =
+      pub again-passes : depth < deepestAt path → OneOf (1 ∷ 2 ∷ []) (tagOf walked-type y) → GoneOn w o facts path depth done count limit y after-facts after
+      again-passes deep tag =
           record {
             start = below .start;
             stands = below .stands;
             leaves = passes w after-facts after limit made-facts made (depth + 1) mark count facts path depth done count y tag (below .leaves);
-            ended = passes-ended w after-facts after (record { start = below .start; base = count; limit = limit }) made (depth + 1) path depth y tag (below .ended);
+            ended = passes-ended w after-facts after run made (depth + 1) path depth y tag (run-ended deep);
           }
 
       -- all is shut below: the alternatives left here are tried
-      module _ (c : ℕ) (shut-is : y ≡ Shut c) (long : length after ≡ 9225) where
+      module _ (c : ℕ) (shut-is : y ≡ Shut c) (long : length after ≡ 9227) where
         shut : AllShut w made-facts made (depth + 1) (markAt put depth) count limit c after-facts after
         shut = leaves-as w made-facts made (depth + 1) mark (markAt put depth) count limit y (Shut c) after-facts after mark-is shut-is (below .leaves)
 
-        passed-on : Passed put depth after
-        passed-on = after-passed w own put depth again-parted 0 x made-facts made went limit c after-facts after long shut
+        same-mark : markAt after depth ≡ markAt put depth
+        same-mark = after-mark w own put depth again-parted 0 x made-facts made went limit c after-facts after long shut
 
         pub again-within : c ≤ limit
         again-within = shut .within
 
         pub again-part : done ≤ markAt after depth
-        again-part = omega (arith, passed-on .mark-is, t .mark-is, at .ready .0)
+        again-part = omega (arith, same-mark, t .mark-is, at .ready .0)
 
         pub again-node : Parted w after-facts after depth
         again-node = after-parted w own put depth again-parted 0 x made-facts made went limit c after-facts after long shut
@@ -468,36 +483,35 @@ module _ {I : Type 0} (w : Walker I) (facts path : List ℕ) (depth done n : ℕ
             ∙ undone .kept i (omega (arith, at .ready .0))
 
         before : PathKept path depth after
-        before i l = passed-on .before i l ∙ t .before i l
+        before i l = after-before w own put depth again-parted 0 x made-facts made went limit c after-facts after long shut i l ∙ t .before i l
 
-        pub again-on : (z : Walked) (last-facts last : List ℕ) → Leaves w after-facts after depth done c limit z last-facts last
+        pub again-on : depth < deepestAt path → (z : Walked) (last-facts last : List ℕ) → Leaves w after-facts after depth done c limit z last-facts last
             → ((r : Run I) → r .limit ≡ limit → Trying w r after depth c → Ended w r after depth z last-facts last)
             → GoneOn w o facts path depth done count limit z last-facts last
-        again-on z last-facts last leaves ended =
-            let r : Run I = record { start = below .start; base = count; limit = limit } in
+        again-on deep z last-facts last leaves ended =
             record {
               start = below .start;
               stands = below .stands;
               leaves = rebased-leaves w facts path after-facts after depth done count c limit logs before (shut .grows) z last-facts last leaves;
               ended =
-                  rebased-ended w facts path after-facts after depth done count c limit before r z last-facts last
-                  (ended r refl
-                  (after-tries w own put depth again-parted 0 x made-facts made went limit c after-facts after long shut r
-                  (ended-as w r made (depth + 1) y (Shut c) after-facts after shut-is (below .ended))));
+                  rebased-ended w facts path after-facts after depth done count c limit before run z last-facts last
+                  (ended run refl
+                  (after-tries w own put depth again-parted 0 x made-facts made went limit c after-facts after long shut run
+                  (ended-as w run made (depth + 1) y (Shut c) after-facts after shut-is (run-ended deep))));
             }
 
 -- ---- the answers that a match tells apart
 
 -- a step below a node that is not split
 pub leaf-nowhere : {I : Type 0} (w : Walker I) (facts path : List ℕ) (depth done : ℕ) (x : Told) → Reached w facts path depth done x → OneOf (0 ∷ 1 ∷ []) (tagOf found-type x)
-    → (atoms nexts : List ℕ) (standing count steps next : ℕ) → pathOf (w .find) (stepsIn atoms nexts depth) ≡ some (pathIn w path depth) → depth < steps
-    → placeOf (w .find) (sessionOf standing count atoms nexts steps next) ≡ none
-leaf-nowhere w facts path depth done (ToldClosed n) at tag atoms nexts standing count steps next so-far more =
-    nowhere (w .find) atoms nexts standing count steps next depth (pathIn w path depth) so-far more (rw (at .found))
-leaf-nowhere w facts path depth done (ToldOpen n) at tag atoms nexts standing count steps next so-far more =
-    nowhere (w .find) atoms nexts standing count steps next depth (pathIn w path depth) so-far more (rw (at .found))
-leaf-nowhere w facts path depth done (ToldSplit n) at (inl z) atoms nexts standing count steps next so-far more = let y : _≡_ {A = ℕ} 2 0 = z in absurd (omega arith)
-leaf-nowhere w facts path depth done (ToldSplit n) at (inr z) atoms nexts standing count steps next so-far more = let y : _≡_ {A = ℕ} 2 1 = z in absurd (omega arith)
+    → (atoms nexts : List ℕ) (standing count steps next deepest : ℕ) → pathOf (w .find) (stepsIn atoms nexts depth) ≡ some (pathIn w path depth) → depth < steps
+    → placeOf (w .find) (sessionOf standing count atoms nexts steps next deepest) ≡ none
+leaf-nowhere w facts path depth done (ToldClosed n) at tag atoms nexts standing count steps next deepest so-far more =
+    nowhere (w .find) atoms nexts standing count steps next deepest depth (pathIn w path depth) so-far more (rw (at .found))
+leaf-nowhere w facts path depth done (ToldOpen n) at tag atoms nexts standing count steps next deepest so-far more =
+    nowhere (w .find) atoms nexts standing count steps next deepest depth (pathIn w path depth) so-far more (rw (at .found))
+leaf-nowhere w facts path depth done (ToldSplit n) at (inl z) atoms nexts standing count steps next deepest so-far more = let y : _≡_ {A = ℕ} 2 0 = z in absurd (omega arith)
+leaf-nowhere w facts path depth done (ToldSplit n) at (inr z) atoms nexts standing count steps next deepest so-far more = let y : _≡_ {A = ℕ} 2 1 = z in absurd (omega arith)
 
 module _ {I : Type 0} (w : Walker I) (o : Option (Place I)) (facts path : List ℕ) (depth done count limit : ℕ) (left-facts left : List ℕ) where
   pub resumes-nowhere : (x : Resumed) → OneOf (0 ∷ []) (tagOf resumed-type x) → Resumes w o facts path depth done count limit x left-facts left → o ≡ none
@@ -508,14 +522,14 @@ module _ {I : Type 0} (w : Walker I) (o : Option (Place I)) (facts path : List �
   resumes-on x y e h = subst (λ (z : Resumed). Resumes w o facts path depth done count limit z left-facts left) e h
 
 -- the place where a session stands is that at its last node
-pub resumes-last : (I : Type 0) (w : Walker I) (facts path : List ℕ) (depth done count limit : ℕ) (atoms nexts : List ℕ) (standing steps next : ℕ)
+pub resumes-last : (I : Type 0) (w : Walker I) (facts path : List ℕ) (depth done count limit : ℕ) (atoms nexts : List ℕ) (standing steps next deepest : ℕ)
     → pathOf (w .find) (stepsIn atoms nexts depth) ≡ some (pathIn w path depth) → depth ≡ steps
     → (x : Resumed) (left-facts left : List ℕ) → Resumes w (lastIn w path depth standing next) facts path depth done count limit x left-facts left
-    → Resumes w (placeOf (w .find) (sessionOf standing count atoms nexts steps next)) facts path depth done count limit x left-facts left
-resumes-last I w facts path depth done count limit atoms nexts standing steps next so-far over x left-facts left h =
+    → Resumes w (placeOf (w .find) (sessionOf standing count atoms nexts steps next deepest)) facts path depth done count limit x left-facts left
+resumes-last I w facts path depth done count limit atoms nexts standing steps next deepest so-far over x left-facts left h =
     let whole = subst (λ (j : ℕ). pathOf (w .find) (stepsIn atoms nexts j) ≡ some (pathIn w path depth)) over so-far in
     subst (λ (o : Option (Place I)). Resumes w o facts path depth done count limit x left-facts left)
-    (sym (place-last (w .find) (sessionOf standing count atoms nexts steps next) (pathIn w path depth) whole)) h
+    (sym (place-last (w .find) (sessionOf standing count atoms nexts steps next deepest) (pathIn w path depth) whole)) h
 
 -- ---- a whole run on
 
@@ -525,11 +539,11 @@ unfolding stepsIn pathIn
 root-so-far w path atoms nexts = refl
 
 module _ {I : Type 0} (w : Walker I) (o : Option (Place I)) (count limit : ℕ) where
-  pub goes-on : (facts path : List ℕ) (done : ℕ) (x : Resumed) (left-facts left : List ℕ) → Resumes w o facts path 0 done count limit x left-facts left → GoesOn w o count limit x left-facts left
+  pub goes-on : (facts path : List ℕ) (done : ℕ) (x : Resumed) (left-facts left : List ℕ) → Resumes w o facts path 0 done count limit x left-facts left → GoesOn w o count (deepestAt path) limit x left-facts left
   goes-on facts path done Nowhere left-facts left h = h
   goes-on facts path done (On y) left-facts left h =
       record {
         start = h .start;
         stands = h .stands;
-        walks = root-walks w (record { start = h .start; base = count; limit = limit }) facts path done count y left-facts left (h .leaves) (h .ended);
+        walks = root-walks w (record { start = h .start; base = count; brought = deepestAt path; limit = limit }) facts path done count y left-facts left (h .leaves) (h .ended);
       }

@@ -16,7 +16,7 @@ use Rattle.walk.specs.declared.answer.Walked.{Walked}
 use Rattle.walk.specs.declared.answer.Walked.the-variants.{Shut, Opened, Exhausted as LimitMet}
 use Rattle.walk.proofs.PathLaws.{path-same}
 use Rattle.walk.proofs.TrailLaws.{next-as}
-use Rattle.walk.proofs.WalkLaws.{leaves-as, ended-as, after-passed, after-logs, after-parted, after-tries, after-falls}
+use Rattle.walk.proofs.WalkLaws.{leaves-as, ended-as, after-mark, after-before, after-logs, after-parted, after-tries, after-falls}
 
 module _ {I : Type 0} (w : Walker I) (facts path : List ℕ) (depth count limit : ℕ) where
   -- after c entries some alternatives of the node are shut, and the one after them is due
@@ -52,7 +52,7 @@ module _ {I : Type 0} (w : Walker I) (facts path : List ℕ) (depth count limit 
     shut : AllShut w made-facts made (depth + 1) (markAt now depth) (c + 1) limit d after-facts after
     shut = leaves-as w made-facts made (depth + 1) own (markAt now depth) (c + 1) limit y (Shut d) after-facts after own-is is-shut left
 
-    long : length after ≡ 9225
+    long : length after ≡ 9227
     long = size ∙ went .reached .room .size
 
     pub tried-falls : triesLeft w after-facts after depth < triesLeft w now-facts now depth
@@ -60,15 +60,16 @@ module _ {I : Type 0} (w : Walker I) (facts path : List ℕ) (depth count limit 
 
     pub tried-on : Tried after-facts after d
     tried-on =
-        let passed = after-passed w now-facts now depth (tried .parted) c x made-facts made went limit d after-facts after long shut in
+        let mark = after-mark w now-facts now depth (tried .parted) c x made-facts made went limit d after-facts after long shut in
+        let before = after-before w now-facts now depth (tried .parted) c x made-facts made went limit d after-facts after long shut in
         let logs = after-logs w now-facts now depth (tried .parted) c x made-facts made went limit d after-facts after long shut in
         record {
           parted = after-parted w now-facts now depth (tried .parted) c x made-facts made went limit d after-facts after long shut;
           grows = omega (arith, tried .grows, shut .grows);
           within = shut .within;
-          mark-is = passed .mark-is ∙ tried .mark-is;
+          mark-is = mark ∙ tried .mark-is;
           logs = λ i l. logs i (omega (arith, tried .mark-is)) ∙ tried .logs i l;
-          before = λ i l. passed .before i l ∙ tried .before i l;
+          before = λ i l. before i l ∙ tried .before i l;
           falls = omega (arith, tried-falls, tried .falls);
           tries =
               λ r e due.

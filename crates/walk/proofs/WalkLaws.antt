@@ -13,13 +13,13 @@ use lib.ListN.{length, drop, getD, replicate, drop-of-length-le, length-replicat
 use Rattle.lists.specs.Key.{natKey}
 use Rattle.lists.specs.Member.{All, has, In}
 use Rattle.search.specs.Ground.{Found, closed, opened, split}
-use Rattle.search.specs.Machine.{Branch, entered, enter, back, placed, root}
+use Rattle.search.specs.Machine.{Branch, Place, entered, enter, back, placed, root}
 use types.Run.{OneOf}
 use Rattle.store.specs.contracts.Store.{Store, Undone, logged}
 use Rattle.store.proofs.Laws.{logged-grows}
 use Rattle.walk.specs.contracts.Trail.{AtEntry}
 use Rattle.walk.specs.contracts.Walker.{Site, Walker, Run, fromRoot, Sound}
-use Rattle.walk.specs.contracts.Path.{nextAt, markAt, Passed, siteAt, altsAt, entryAt, pathIn, nextIn}
+use Rattle.walk.specs.contracts.Path.{nodeAt, nextAt, markAt, deepestAt, PathKept, siteAt, altsAt, entryAt, pathIn, nextIn}
 use Rattle.walk.specs.contracts.Place.{bitsIn, placeIn, Parted, Reached, Visiting, Trying, Making, Beginning}
 use Rattle.walk.specs.contracts.Walk.{untrue, triesLeft, visitsLeft, AllShut, Leaves, Ended, Walks, Tells}
 use Rattle.walk.specs.declared.answer.Found.{Found as Told}
@@ -28,7 +28,7 @@ use Rattle.walk.specs.declared.answer.Walked.{Walked}
 use Rattle.walk.specs.declared.answer.Walked.the-variants.{Shut, Opened, Exhausted as LimitMet}
 use Rattle.walk.proofs.answer.Found.{the-type as found-type}
 use Rattle.walk.proofs.answer.Walked.{the-type as walked-type}
-use Rattle.walk.proofs.PathLaws.{site-same, path-same, passed-still, next-some}
+use Rattle.walk.proofs.PathLaws.{number-same, four-same, next-same, mark-same, own-bytes, site-same, path-same, next-some}
 use Rattle.walk.proofs.TrailLaws.{at-start, next-of, next-as, all-made, open-over, answer-open, answer-shut, answer-due}
 use Rattle.walk.proofs.PlaceLaws.{named-kept, split-same}
 
@@ -170,32 +170,39 @@ module _ {I : Type 0} (w : Walker I) (facts path : List ℕ) (depth : ℕ) (node
 
   -- one is entered, and it is shut: the next one is tried
   module _ (count : ℕ) (x : Told) (made-facts made : List ℕ) (went : Making w facts path depth count x made-facts made)
-      {from : ℕ} (limit c : ℕ) (after-facts after : List ℕ) (size : length after ≡ 9225) (shut : AllShut w made-facts made (depth + 1) (markAt path depth) from limit c after-facts after) where
-    pub after-passed : Passed path depth after
-    after-passed = passed-still path made after depth (went .passed) (shut .before)
+      {from : ℕ} (limit c : ℕ) (after-facts after : List ℕ) (size : length after ≡ 9227) (shut : AllShut w made-facts made (depth + 1) (markAt path depth) from limit c after-facts after) where
+    -- the node's own bytes are as they were left when the place was made
+    own : (j : ℕ) → nodeAt depth ≤ j → j < nodeAt depth + 9 → getD after j 0 ≡ getD made j 0
+    own = own-bytes made after (depth + 1) depth (shut .before) (omega arith)
 
     after-next : nextAt after depth ≡ nextAt path depth + 1
-    after-next = after-passed .next
+    after-next = next-same made after depth own ∙ went .passed .next
+
+    pub after-mark : markAt after depth ≡ markAt path depth
+    after-mark = mark-same made after depth own ∙ went .passed .mark-is
+
+    pub after-before : PathKept path depth after
+    after-before i l = shut .before i (omega arith) ∙ went .passed .before i l
 
     after-site : siteAt w after depth ≡ siteAt w path depth
-    after-site = site-same w path after depth (after-passed .number-is) (after-passed .four)
+    after-site = site-same w path after depth (number-same made after depth own ∙ went .passed .number-is) (four-same made after depth own ∙ went .passed .four)
 
     after-path : pathIn w after depth ≡ pathIn w path depth
-    after-path = path-same w path after depth (after-passed .before)
+    after-path = path-same w path after depth after-before
 
     pub after-logs : (i : ℕ) → i ≤ markAt path depth → logged after-facts (w .capacity) i ≡ logged facts (w .capacity) i
     after-logs i l = shut .undone .kept i l ∙ went .logs i l
 
     after-log : logged facts (w .capacity) (markAt path depth) ≡ logged after-facts (w .capacity) (markAt after depth)
-    after-log = sym (after-logs (markAt path depth) (omega arith)) ∙ ap (logged after-facts (w .capacity)) (sym (after-passed .mark-is))
+    after-log = sym (after-logs (markAt path depth) (omega arith)) ∙ ap (logged after-facts (w .capacity)) (sym after-mark)
 
     pub after-parted : Parted w after-facts after depth
     after-parted =
         record {
           room = record { size = size; deep = node .room .deep };
           kept = subst (w .Kept) (sym after-path) (node .kept);
-          named = named-kept w path after depth (after-passed .before) (node .named);
-          store = subst (Store (w .capacity) after-facts) (sym (after-passed .mark-is)) (shut .undone .store);
+          named = named-kept w path after depth after-before (node .named);
+          store = subst (Store (w .capacity) after-facts) (sym after-mark) (shut .undone .store);
           at-split =
               split-same w path after depth (logged facts (w .capacity) (markAt path depth)) (logged after-facts (w .capacity) (markAt after depth)) after-site after-path after-log (node .at-split);
         }
@@ -272,9 +279,10 @@ blank-store size r n e z =
       flags = λ a l. ap (λ (x : List ℕ). getD x a 0) z ∙ getD-replicate n a 0 0 (omega arith);
     }
 
--- the root that has just been made is where a first run begins
-pub start-visiting : {I : Type 0} (w : Walker I) (limit : ℕ) (facts path : List ℕ) (x : Told) → Beginning w x facts path → Visiting w (fromRoot w limit) facts path 0 x 0
-start-visiting w limit facts path x begun = subst (AtEntry (w .find) (root (w .find)) 0 0) (begun .made) (at-start (w .find) (root (w .find)) 0)
+-- the root that has just been made is where a run from it begins, which brings the figure that stands behind the path
+pub start-visiting : {I : Type 0} (w : Walker I) (limit : ℕ) (facts path : List ℕ) (x : Told) → Beginning w x facts path → Visiting w (fromRoot w (deepestAt path) limit) facts path 0 x 0
+start-visiting {I} w limit facts path x begun =
+    subst (λ (t : Place I). AtEntry (w .find) (root (w .find)) (deepestAt path) 0 0 t (deepestAt path)) (begun .made) (at-start (w .find) (root (w .find)) (deepestAt path) 0)
 
 module _ {I : Type 0} (w : Walker I) (r : Run I) where
   -- visiting the root, or what a run has instead, is the whole run

@@ -15,5 +15,5 @@ unfoldable pub stepsIn : List ℕ → List ℕ → ℕ → List Step
 stepsIn atoms nexts zero = []
 stepsIn atoms nexts (suc i) = record { atom = getD atoms i 0; next = getD nexts i 0 } ∷ stepsIn atoms nexts i
 
-abbrev pub sessionOf : ℕ → ℕ → List ℕ → List ℕ → ℕ → ℕ → Session
-sessionOf standing count atoms nexts n next = record { standing = standingBy standing; count = count; path = stepsIn atoms nexts n; next = next }
+abbrev pub sessionOf : ℕ → ℕ → List ℕ → List ℕ → ℕ → ℕ → ℕ → Session
+sessionOf standing count atoms nexts n next deepest = record { standing = standingBy standing; count = count; path = stepsIn atoms nexts n; next = next; deepest = deepest }

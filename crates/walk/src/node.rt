@@ -1,10 +1,11 @@
 // A node's record in the path, nine bytes: the number of the clause or rule that it is split by (2, low byte first), the values of 80, 81, 82, 83 (0 for a
-// variable that the clause lacks), the next alternative, and how many facts the node has (2, low byte first).
+// variable that the clause lacks), the next alternative, and how many facts the node has (2, low byte first). Behind 1,025 of them stands how long the longest path
+// was that the walk has entered (2, low byte first).
 use lists::pair;
 ghost use mathlib.Core.Path.{_≡_};
 ghost use Prim.Native.Nat.{_+_, _<_};
-ghost use lib.ListN.{set};
-ghost use Rattle.walk.specs.contracts.Path.{Room, nodeAt, numberAt, fourAt, nextAt, markAt, Noted};
+ghost use lib.ListN.{length, set};
+ghost use Rattle.walk.specs.contracts.Path.{Room, nodeAt, numberAt, fourAt, nextAt, markAt, deepestAt, PathKept, Noted, Passed};
 
 // The number of the clause or rule that a node is split by.
 pub fn number(path: &[u8], depth: usize) -> usize
@@ -41,14 +42,34 @@ pub fn mark(path: &[u8], depth: usize) -> usize
     pair(path[at + 7], path[at + 8])
 }
 
-// Goes on to the alternative after the next one.
+// The longest path that was entered.
+pub fn deepest(path: &[u8]) -> usize
+    requires { ⌜ length (now path) ≡ 9227 ⌝ }
+    ensures { λ r. ⌜ r ≡ deepestAt (now (path .entry)) ⌝ }
+{
+    pair(path[9225], path[9226])
+}
+
+// Takes this for the longest path entered so far.
+pub fn bring(path: &mut [u8], deepest: usize)
+    requires { ⌜ (length (now path) ≡ 9227) × (deepest < 65536) ⌝ }
+    ensures { λ _. ⌜ (deepestAt (now (path .exit)) ≡ deepest) × PathKept (now (path .entry)) 1025 (now (path .exit)) ⌝ }
+{
+    path[9225] = (deepest % 256) as u8;
+    path[9226] = (deepest / 256 % 256) as u8;
+}
+
+// Goes on to the alternative after the next one: the path that ends with it is entered.
 pub fn pass(path: &mut [u8], depth: usize)
     requires { ⌜ Room (now path) depth ⌝ }
     requires { ⌜ nextAt (now path) depth < 255 ⌝ }
-    ensures { λ _. ⌜ now (path .exit) ≡ set (now (path .entry)) (nodeAt depth + 6) (nextAt (now (path .entry)) depth + 1) ⌝ }
+    ensures { λ _. ⌜ Passed (now (path .entry)) depth (now (path .exit)) ⌝ }
 {
     let at = 9 * depth + 6;
     path[at] = path[at] + 1;
+    if deepest(path) <= depth {
+        bring(path, depth + 1);
+    }
 }
 
 // Turns to another alternative.

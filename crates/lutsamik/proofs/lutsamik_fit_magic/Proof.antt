@@ -1,6 +1,6 @@
 -- `lutsamik::lutsamik_fit_magic` meets its contract.
 use borrow.Author.Needs.{needs}
-use mathlib.Core.Path.{ap, _∙_}
+use mathlib.Core.Path.{ap₂, _∙_}
 use Rattle.lutsamik.specs.Pack.{packVerdict}
 use Rattle.lutsamik.proofs.lutsamik_fit_magic.Statement.{statement}
 use Rattle.lutsamik.proofs.lutsamik_fit_magic.Tie as tie
@@ -10,10 +10,10 @@ lutsamik-fit-magic-spec =
     tie.close
     (tie.spec
     (λ c κs. search needs)  -- fit-requires
-    (λ c κs. search needs)  -- pack-verdict-requires
+    (λ c κs. search needs)  -- pack-reply-requires
     (λ c. search needs)  -- same-length
     (λ c. search needs)  -- same-length-2
     (λ c. search needs)  -- same-length-3
     (λ c.
     let fit = c .before .before .before .before .before .before .before .fit in
-    (c .pack-verdict .ensures ∙ ap packVerdict (fit .ensures .0), fit .ensures .1, fit .ensures .2, fit .ensures .3)))  -- returns
+    (c .pack-reply .ensures ∙ ap₂ packVerdict (fit .ensures .0) (fit .ensures .1), fit .ensures .2, fit .ensures .3, fit .ensures .4)))  -- returns

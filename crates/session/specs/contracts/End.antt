@@ -32,17 +32,18 @@ answerBy (LimitMet e) bits answer = answer
 
 abbrev pub movedBy : Walked → ℕ → Left → Moved
 movedBy (Shut c) limit x =
-    record { verdict = IsRefuted c; session = record { count = c; length = 0; verdict = 0; next = x .next; atoms = x .atoms; nexts = x .nexts } }
+    record { verdict = IsRefuted c; session = record { count = c; length = 0; verdict = 0; next = x .next; atoms = x .atoms; nexts = x .nexts; deepest = x .deepest } }
 movedBy (Opened c e) limit x =
-    record { verdict = IsSatisfied c; session = record { count = c; length = e; verdict = 1; next = x .next; atoms = x .atoms; nexts = x .nexts } }
+    record { verdict = IsSatisfied c; session = record { count = c; length = e; verdict = 1; next = x .next; atoms = x .atoms; nexts = x .nexts; deepest = x .deepest } }
 movedBy (LimitMet e) limit x =
-    record { verdict = IsExhausted limit; session = record { count = limit; length = e; verdict = 2; next = x .next; atoms = x .atoms; nexts = x .nexts } }
+    record { verdict = IsExhausted limit; session = record { count = limit; length = e; verdict = 2; next = x .next; atoms = x .atoms; nexts = x .nexts; deepest = x .deepest } }
 
 -- the path of a session is written down
 pub record PathLaid (s : Session) (x : Left) : Type 0 where
   pub next-is : x .next ≡ s .next
   pub atoms-are : x .atoms ≡ slots (λ t. t .atom) (s .path)
   pub nexts-are : x .nexts ≡ slots (λ t. t .next) (s .path)
+  pub deepest-is : x .deepest ≡ s .deepest
 
 module _ {I : Type 0} (w : Walker I) where
   -- of every run that ends so, with this path in its buffer
@@ -56,5 +57,5 @@ module _ {I : Type 0} (w : Walker I) where
 
     pub record Concluded (answer : List ℕ) (x : Moved) (left : List ℕ) : Type 0 where
       pub verdict-is : x .verdict ≡ verdictOf comesOut
-      pub session-is : x .session ≡ laid (sessionAfter (w .find) (r .limit - r .base) (r .base) (r .start))
+      pub session-is : x .session ≡ laid (sessionAfter (w .find) (r .limit - r .base) (r .base) (r .brought) (r .start))
       pub answer-is : left ≡ answerOf comesOut answer

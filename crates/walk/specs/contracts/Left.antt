@@ -7,7 +7,7 @@ use Rattle.search.specs.Ground.{split}
 use Rattle.search.specs.Machine.{Branch, entered}
 use Rattle.search.specs.Session.{refuted, satisfied, exhausted, Session, altsFound, stepsOf}
 use Rattle.walk.specs.contracts.Walker.{Site, Walker, Run}
-use Rattle.walk.specs.contracts.Path.{nextAt, siteAt, altsAt, pathIn}
+use Rattle.walk.specs.contracts.Path.{nextAt, deepestAt, siteAt, altsAt, pathIn}
 use Rattle.walk.specs.Numbers.{stepsIn}
 use Rattle.walk.specs.declared.answer.Walked.{Walked}
 use Rattle.walk.specs.declared.answer.Walked.the-variants.{Shut, Opened, Exhausted as LimitMet}
@@ -31,6 +31,6 @@ module _ {I : Type 0} (w : Walker I) where
 
   -- the session that a run leaves which ends so
   abbrev pub sessionLeft : Run I → Walked → List ℕ → Session
-  sessionLeft r (Shut c) path = record { standing = refuted; count = c; path = []; next = length (altsFound (w .find [])) }
-  sessionLeft r (Opened c e) path = record { standing = satisfied; count = c; path = stepsOf (w .find) (pathIn w path e); next = 0 }
-  sessionLeft r (LimitMet e) path = record { standing = exhausted; count = r .limit; path = stepsOf (w .find) (pathIn w path e); next = nextAt path e }
+  sessionLeft r (Shut c) path = record { standing = refuted; count = c; path = []; next = length (altsFound (w .find [])); deepest = deepestAt path }
+  sessionLeft r (Opened c e) path = record { standing = satisfied; count = c; path = stepsOf (w .find) (pathIn w path e); next = 0; deepest = deepestAt path }
+  sessionLeft r (LimitMet e) path = record { standing = exhausted; count = r .limit; path = stepsOf (w .find) (pathIn w path e); next = nextAt path e; deepest = deepestAt path }

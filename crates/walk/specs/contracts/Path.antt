@@ -1,5 +1,5 @@
--- The path in a buffer of its own: 1,025 records of nine bytes, as `src/node.rt` has them.
-use Prim.Native.Nat.{ℕ, zero, suc, _+_, _-_, _*_, _≤_, _<_}
+-- The path in a buffer of its own: 1,025 records of nine bytes, as `src/node.rt` has them, and the deepest figure behind them.
+use Prim.Native.Nat.{ℕ, zero, suc, _+_, _-_, _*_, max, _≤_, _<_}
 use mathlib.Core.List.{List, [], _∷_}
 use mathlib.Core.Option.{Option}
 use mathlib.Core.Path.{_≡_}
@@ -9,7 +9,7 @@ use Rattle.walk.specs.contracts.Walker.{Site, Walker, branchOf}
 
 -- there is a record for the node at this depth
 pub record Room (path : List ℕ) (depth : ℕ) : Type 0 where
-  pub size : length path ≡ 9225
+  pub size : length path ≡ 9227
   pub deep : depth ≤ 1024
 
 abbrev pub nodeAt : ℕ → ℕ
@@ -27,6 +27,10 @@ nextAt path i = getD path (nodeAt i + 6) 0
 abbrev pub markAt : List ℕ → ℕ → ℕ
 markAt path i = getD path (nodeAt i + 7) 0 + 256 * getD path (nodeAt i + 8) 0
 
+-- the longest path that was entered
+abbrev pub deepestAt : List ℕ → ℕ
+deepestAt path = getD path 9225 0 + 256 * getD path 9226 0
+
 -- the nodes before one are kept
 abbrev pub PathKept : List ℕ → ℕ → List ℕ → Type 0
 PathKept path depth left = (i : ℕ) → i < nodeAt depth → getD left i 0 ≡ getD path i 0
@@ -38,14 +42,16 @@ pub record Noted (path : List ℕ) (depth number a b c d mark : ℕ) (left : Lis
   pub next : nextAt left depth ≡ 0
   pub mark-is : markAt left depth ≡ mark
   pub before : PathKept path depth left
+  pub deepest-is : deepestAt left ≡ deepestAt path
 
--- the node at a depth has passed on to the alternative after its next one, and the nodes before it are kept
+-- the node at a depth has passed on to the alternative after its next one, whose path is counted in, and the nodes before it are kept
 pub record Passed (path : List ℕ) (depth : ℕ) (left : List ℕ) : Type 0 where
   pub number-is : numberAt left depth ≡ numberAt path depth
   pub four : fourAt left depth ≡ fourAt path depth
   pub next : nextAt left depth ≡ nextAt path depth + 1
   pub mark-is : markAt left depth ≡ markAt path depth
   pub before : PathKept path depth left
+  pub deepest-is : deepestAt left ≡ max (deepestAt path) (depth + 1)
 
 -- the node at a depth has another next alternative, and the nodes before it are kept
 pub record Turned (path : List ℕ) (depth next : ℕ) (left : List ℕ) : Type 0 where
@@ -54,6 +60,7 @@ pub record Turned (path : List ℕ) (depth next : ℕ) (left : List ℕ) : Type 
   pub next-is : nextAt left depth ≡ next
   pub mark-is : markAt left depth ≡ markAt path depth
   pub before : PathKept path depth left
+  pub deepest-is : deepestAt left ≡ deepestAt path
 
 module _ {I : Type 0} (w : Walker I) where
   -- what node i is split at

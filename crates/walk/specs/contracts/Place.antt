@@ -12,7 +12,7 @@ use Rattle.store.specs.contracts.Store.{Store, logged}
 use Rattle.lists.specs.Bytes.{isSet}
 use Rattle.walk.specs.contracts.Trail.{AtEntry, NextEntry}
 use Rattle.walk.specs.contracts.Walker.{Walker, Run, branchOf}
-use Rattle.walk.specs.contracts.Path.{Room, nextAt, markAt, PathKept, Passed, siteAt, altsAt, entryAt, pathIn, nextIn}
+use Rattle.walk.specs.contracts.Path.{Room, nextAt, markAt, deepestAt, PathKept, Passed, siteAt, altsAt, entryAt, pathIn, nextIn}
 use Rattle.walk.specs.declared.answer.Found.{Found as Told}
 use Rattle.walk.specs.declared.answer.Found.the-variants.{Closed, Open, Split}
 
@@ -71,19 +71,20 @@ module _ {I : Type 0} (w : Walker I) where
     pub holds : w .Holds x (entered (pathIn w path depth)) (logged facts (w .capacity) (factsOf x))
     pub ready : Ready facts path depth done x
 
-  -- the node at this depth is entry `count` of a run
+  -- the node at this depth is entry `count` of a run, and the longest path entered stands behind the path
   abbrev pub Visiting : Run I → List ℕ → List ℕ → ℕ → Told → ℕ → Type 0
-  Visiting r facts path depth x count = AtEntry (w .find) (r .start) (r .base) count (placeIn facts path depth x)
+  Visiting r facts path depth x count = AtEntry (w .find) (r .start) (r .brought) (r .base) count (placeIn facts path depth x) (deepestAt path)
 
   -- `count` entries of a run are made, and the next alternative of the node at this depth, or what comes behind it, is due
   abbrev pub Trying : Run I → List ℕ → ℕ → ℕ → Type 0
-  Trying r path depth count = NextEntry (w .find) (r .start) (r .base) count (nextIn w path depth)
+  Trying r path depth count = NextEntry (w .find) (r .start) (r .brought) (r .base) count (nextIn w path depth) (deepestAt path)
 
   -- a node just entered, with n facts, has been found
   pub record Finding (facts path : List ℕ) (depth n done : ℕ) (x : Told) (left-facts left : List ℕ) : Type 0 where
     pub reached : Reached left-facts left depth done x
     pub logs : (i : ℕ) → i ≤ n → logged left-facts (w .capacity) i ≡ logged facts (w .capacity) i
     pub before : PathKept path depth left
+    pub deepest-is : deepestAt left ≡ deepestAt path
 
   -- The next place has been made: path, next alternatives and how it is found are those of the walk, and it is the entry after entry `count` of every run that stood
   -- there with its limit not met. The split node that it comes from has one alternative less to enter, and its facts are kept

@@ -11,7 +11,7 @@ use Rattle.search.specs.Machine.{Branch, Place, entered}
 use Rattle.search.specs.Session.{Standing, refuted, satisfied, exhausted, nodeTaken, whereStands}
 use Rattle.walk.specs.Numbers.{standingBy}
 use Rattle.walk.specs.contracts.Walker.{Walker}
-use Rattle.walk.specs.contracts.Path.{pathIn}
+use Rattle.walk.specs.contracts.Path.{deepestAt, pathIn}
 use Rattle.walk.specs.contracts.Walk.{Leaves, Ended, Walks}
 use Rattle.walk.specs.declared.answer.Resumed.{Resumed}
 use Rattle.walk.specs.declared.answer.Resumed.the-variants.{Nowhere, On}
@@ -59,7 +59,7 @@ module _ {I : Type 0} (w : Walker I) where
     pub start : Place I
     pub stands : o ≡ some start
     pub leaves : Leaves w facts path depth done count limit x left-facts left
-    pub ended : Ended w (record { start = start; base = count; limit = limit }) path depth x left-facts left
+    pub ended : Ended w (record { start = start; base = count; brought = deepestAt path; limit = limit }) path depth x left-facts left
 
   abbrev pub Resumes : Option (Place I) → List ℕ → List ℕ → ℕ → ℕ → ℕ → ℕ → Resumed → List ℕ → List ℕ → Type 0
   Resumes o facts path depth done count limit Nowhere left-facts left = o ≡ none
@@ -67,11 +67,11 @@ module _ {I : Type 0} (w : Walker I) where
 
   -- ---- a whole run on from where a session stands, if it is one of the walk
 
-  pub record WalksOn (o : Option (Place I)) (count limit : ℕ) (x : Walked) (facts path : List ℕ) : Type 0 where
+  pub record WalksOn (o : Option (Place I)) (count brought limit : ℕ) (x : Walked) (facts path : List ℕ) : Type 0 where
     pub start : Place I
     pub stands : o ≡ some start
-    pub walks : Walks w (record { start = start; base = count; limit = limit }) x facts path
+    pub walks : Walks w (record { start = start; base = count; brought = brought; limit = limit }) x facts path
 
-  abbrev pub GoesOn : Option (Place I) → ℕ → ℕ → Resumed → List ℕ → List ℕ → Type 0
-  GoesOn o count limit Nowhere facts path = o ≡ none
-  GoesOn o count limit (On x) facts path = WalksOn o count limit x facts path
+  abbrev pub GoesOn : Option (Place I) → ℕ → ℕ → ℕ → Resumed → List ℕ → List ℕ → Type 0
+  GoesOn o count brought limit Nowhere facts path = o ≡ none
+  GoesOn o count brought limit (On x) facts path = WalksOn o count brought limit x facts path

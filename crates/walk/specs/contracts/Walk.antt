@@ -11,7 +11,7 @@ use Rattle.search.specs.Machine.{Satisfied, Refuted, Exhausted, back, entries, 
 use Rattle.store.specs.contracts.Store.{Undone, logged}
 use Rattle.walk.specs.contracts.Trail.{NextEntry}
 use Rattle.walk.specs.contracts.Walker.{Walker, Run}
-use Rattle.walk.specs.contracts.Path.{nextAt, markAt, PathKept, altsAt, pathIn}
+use Rattle.walk.specs.contracts.Path.{nextAt, markAt, deepestAt, PathKept, altsAt, pathIn}
 use Rattle.walk.specs.contracts.Place.{bitsIn, Visiting, Trying, Parted, Reached}
 use Rattle.walk.specs.declared.answer.Found.{Found as Told}
 use Rattle.walk.specs.declared.answer.Found.the-variants.{Closed, Open, Split}
@@ -64,7 +64,7 @@ module _ {I : Type 0} (w : Walker I) where
   -- ---- and where a run stands then: it is to go on behind the path; its entry c is the open place; all entries that its limit allows are made, and that alternative is due
 
   abbrev pub Ended : Run I → List ℕ → ℕ → Walked → List ℕ → List ℕ → Type 0
-  Ended r path depth (Shut c) left-facts left = NextEntry (w .find) (r .start) (r .base) c (back (pathIn w path depth))
+  Ended r path depth (Shut c) left-facts left = NextEntry (w .find) (r .start) (r .brought) (r .base) c (back (pathIn w path depth)) (deepestAt left)
   Ended r path depth (Opened c e) left-facts left = Visiting w r left-facts left e (Open 0) c
   Ended r path depth (LimitMet e) left-facts left = Trying w r left e (r .limit)
 
@@ -77,7 +77,7 @@ module _ {I : Type 0} (w : Walker I) where
 
     -- how it ends, and the last place made, which stands in the buffers where it is open or another is due
     abbrev pub Walks : Walked → List ℕ → List ℕ → Type 0
-    Walks (Shut c) facts path = AllMade c × NextEntry (w .find) (r .start) (r .base) c none × (c ≤ r .limit)
+    Walks (Shut c) facts path = AllMade c × NextEntry (w .find) (r .start) (r .brought) (r .base) c none (deepestAt path) × (c ≤ r .limit)
     Walks (Opened c e) facts path = AllMade c × Visiting w r facts path e (Open 0) c × OneOpen (r .limit) c e facts path
     Walks (LimitMet e) facts path = Trying w r path e (r .limit) × OneDue e facts path
 

@@ -34,15 +34,17 @@ pub record Walker (I : Type 0) : Type 1 where
   -- what is held at a place found so, under entered atoms: of a list of facts
   pub Holds : Told → List ℕ → List ℕ → Type 0
 
--- One run of a walk: where it begins, which counts as its entry `base`, and how many entries its limit allows, those before the start counted
+-- One run of a walk: where it begins, which counts as its entry `base`, the deepest figure that it brings, and how many entries its limit allows, those before the start
+-- counted
 pub record Run (I : Type 0) : Type 0 where
   pub start : Place I
   pub base : ℕ
+  pub brought : ℕ
   pub limit : ℕ
 
--- a first run begins at the root, and nothing is entered before it
-abbrev pub fromRoot : {I : Type 0} → Walker I → ℕ → Run I
-fromRoot w limit = record { start = root (w .find); base = 0; limit = limit }
+-- a run from the root on, with nothing entered before it
+abbrev pub fromRoot : {I : Type 0} → Walker I → ℕ → ℕ → Run I
+fromRoot w brought limit = record { start = root (w .find); base = 0; brought = brought; limit = limit }
 
 -- the entry of alternative j of a site
 abbrev pub branchOf : {I : Type 0} → Walker I → Site → ℕ → Branch I

@@ -1,7 +1,7 @@
 -- `lutsamik::calls::begin_magic` meets its contract.
 use borrow.Author.Needs.{needs}
-use mathlib.Core.Path.{ap, _∙_}
-use Rattle.lutsamik.specs.Pack.{packVerdict}
+use mathlib.Core.Path.{_∙_}
+use Rattle.lutsamik.proofs.CallLaws.{magic-packed}
 use Rattle.lutsamik.proofs.calls.begin_magic.Statement.{statement}
 use Rattle.lutsamik.proofs.calls.begin_magic.Tie as tie
 
@@ -17,4 +17,4 @@ begin-magic-spec =
     (λ c.
     let begin = c .before .before .before .before .before .before .before .begin in
     let packed = c .pack-moved .ensures in
-    (packed .0 ∙ ap packVerdict (begin .ensures .0), packed .1 ∙ begin .ensures .1, begin .ensures .2, begin .ensures .3, begin .ensures .4)))  -- returns
+    (packed .0 ∙ magic-packed _ _ _ _ _ (begin .ensures .0) (begin .ensures .1), packed .1 ∙ begin .ensures .1, begin .ensures .2, begin .ensures .3, begin .ensures .4)))  -- returns

@@ -1,7 +1,7 @@
 -- `lutsamik::calls::begin_relevancy` meets its contract.
 use borrow.Author.Needs.{needs}
-use mathlib.Core.Path.{ap, _∙_}
-use Rattle.lutsamik.specs.Pack.{packVerdict}
+use mathlib.Core.Path.{_∙_}
+use Rattle.lutsamik.proofs.CallLaws.{relevancy-packed}
 use Rattle.lutsamik.proofs.calls.begin_relevancy.Statement.{statement}
 use Rattle.lutsamik.proofs.calls.begin_relevancy.Tie as tie
 
@@ -16,4 +16,4 @@ begin-relevancy-spec =
     (λ c.
     let begin = c .before .before .before .before .before .begin in
     let packed = c .pack-moved .ensures in
-    (packed .0 ∙ ap packVerdict (begin .ensures .0), packed .1 ∙ begin .ensures .1, begin .ensures .2, begin .ensures .3)))  -- returns
+    (packed .0 ∙ relevancy-packed _ _ _ _ (begin .ensures .0) (begin .ensures .1), packed .1 ∙ begin .ensures .1, begin .ensures .2, begin .ensures .3)))  -- returns

@@ -1,7 +1,8 @@
 -- `lutsamik::calls::resume_relevancy` meets its contract.
 use borrow.Author.Needs.{needs}
-use mathlib.Core.Path.{ap, _∙_}
-use Rattle.lutsamik.specs.Pack.{packVerdict}
+use mathlib.Core.Path.{_∙_}
+use Rattle.relevancy.specs.Sessions.{resumed}
+use Rattle.lutsamik.proofs.CallLaws.{call-packed}
 use Rattle.lutsamik.proofs.calls.resume_relevancy.Statement.{statement}
 use Rattle.lutsamik.proofs.calls.resume_relevancy.Tie as tie
 
@@ -15,5 +16,7 @@ resume-relevancy-spec =
     (λ c. search needs)  -- same-length-2
     (λ c.
     let resume = c .before .before .before .before .before .resume in
+    let a = c .before .before .before .before .before .before .before .before .before .before .before .args in
+    let on = resumed (a .session) (a .further) (a .table .now) (a .answer .now) (a .work .now) in
     let packed = c .pack-moved .ensures in
-    (packed .0 ∙ ap packVerdict (resume .ensures .0), packed .1 ∙ resume .ensures .1, resume .ensures .2, resume .ensures .3)))  -- returns
+    (packed .0 ∙ call-packed on (a .session) (resume .ensures .0) (resume .ensures .1), packed .1 ∙ resume .ensures .1, resume .ensures .2, resume .ensures .3)))  -- returns

@@ -32,12 +32,12 @@ conclude-spec =
     (λ c κs.
     let p = c .before in
     let few = atoms-few p in
-    let sizes = begun p .pre .1 .0 in
+    let sizes = begun p .pre .1 .1 .0 in
     (few, omega (arith, few, sizes .0), omega (arith, sizes .1)))  -- give-model-requires
-    (λ c κs. let s = c .before .before .before .before .before .before .before .before .before .before .before in let run = s .pre .1 .1 .0 in (s .pre .0, ((s .args .facts .now, (run .0, run .1 .1)), s .pre .1 .1 .1)))  -- path-left-requires
+    (λ c κs. let s = c .before .before .before .before .before .before .before .before .before .before .before in let run = s .pre .1 .1 .1 .0 in (s .pre .0, (s .pre .1 .0, ((s .args .facts .now, (run .0, run .1 .1)), s .pre .1 .1 .1 .1))))  -- path-left-requires
     (λ c κs.
     let s = c .before .before .before .before .before .before .before .before .before .before .before .before in
-    let run = s .pre .1 .1 .0 in
+    let run = s .pre .1 .1 .1 .0 in
     ends-within (magicWalker (s .args .rules .now)) (run .0) (s .args .walked) (s .args .facts .now) (s .args .path .now) (run .1 .1))  -- moved-requires
     (λ c. search needs)  -- same-length
     (λ c.

@@ -1,15 +1,21 @@
 -- `magic::engine::decide` meets its contract.
 use Prim.Native.Nat.{ℕ}
-use mathlib.Core.Path.{refl, _∙_}
+use mathlib.Core.Path.{_≡_, refl, _∙_}
 use native.Mathlib.Omega.{arith}
 use borrow.Author.Needs.{needs}
-use lib.ListN.{length, length-replicate}
+use lib.ListN.{length, replicate, length-replicate}
+use Rattle.lists.proofs.Bytes.{zeros-at}
 use Rattle.walk.specs.contracts.Walker.{fromRoot}
+use Rattle.walk.specs.contracts.Path.{deepestAt}
 use Rattle.walk.proofs.WalkLaws.{blank-store}
 use Rattle.magic_walk.specs.contracts.Place.{magicWalker}
 use Rattle.magic.proofs.EngineLaws.{first-run}
 use Rattle.magic.proofs.engine.decide.Statement.{statement}
 use Rattle.magic.proofs.engine.decide.Tie as tie
+
+-- a blank path has no entry
+none-entered : deepestAt (replicate 9227 0) ≡ 0
+none-entered = omega (arith, zeros-at 9227 9225, zeros-at 9227 9226)
 
 pub decide-spec : {M : Type 1} → statement M
 decide-spec =
@@ -21,7 +27,7 @@ decide-spec =
     (λ c κs.
     let s = c .before .before .before .before .before .before .before .before .before .before .before in
     let z = c .before .before .before .before .before .zero in
-    (s .pre .0, ((c .before .before .before .before .before .before .before) .build .ensures, (blank-store 18434 (z .last .0) (length (s .args .facts .now)) (s .pre .1 .1) (z .ensures), record { size = length-replicate {A = ℕ} 9225 0; deep = omega arith }))))  -- root-requires
+    (s .pre .0, ((c .before .before .before .before .before .before .before) .build .ensures, (blank-store 18434 (z .last .0) (length (s .args .facts .now)) (s .pre .1 .1) (z .ensures), record { size = length-replicate {A = ℕ} 9227 0; deep = omega arith }))))  -- root-requires
     (λ c. search needs)  -- slice-aggregate-root-alternatives
     (λ c κs.
     let s = c .before .before .before .before .before .before .before .before .before .before .before .before .before .before .before .before in
@@ -30,7 +36,8 @@ decide-spec =
     (λ c. search needs)  -- slice-aggregate-from-root
     (λ c κs.
     let s = c .before .before .before .before .before .before .before .before .before .before .before .before .before .before .before .before .before .before .before .before in
-    (s .pre .0, ((c .before .before .before .before .before .before .before .before .before .before .before .before .before .before .before .before) .build .ensures, (c .before .before .before .before .before .before .before .before) .root .ensures)))  -- from-root-requires
+    let b = c .before .before .before .before .before .before .before .before .root in
+    (s .pre .0, ((c .before .before .before .before .before .before .before .before .before .before .before .before .before .before .before .before) .build .ensures, (b .ensures .0, b .ensures .1))))  -- from-root-requires
     (λ c. search needs)  -- slice-aggregate-conclude
     (λ c κs.
     let s = c .before .before .before .before .before .before .before .before .before .before .before .before .before .before .before .before .before .before .before .before .before .before .before .before .before .before .before in
@@ -40,15 +47,21 @@ decide-spec =
     let z = c .before .before .before .before .before .before .before .before .before .before .before .before .before .before .before .before .before .before .before .before .before .zero in (
       s .pre .0,
       (
-        (s .pre .1 .0, f .kept .1 .1 .0 ∙ b .kept .1 .1 .0 ∙ z .kept .0 ∙ s .pre .1 .1),
-        ((fromRoot (magicWalker (s .args .rules .now)) (s .args .limit), (refl, f .ensures)), u .ensures),
+        f .kept .1 .1 .1 .0 ∙ b .kept .1 .1 .1 .0 ∙ length-replicate {A = ℕ} 9227 0,
+        (
+          (s .pre .1 .0, f .kept .1 .1 .0 ∙ b .kept .1 .1 .0 ∙ z .kept .0 ∙ s .pre .1 .1),
+          ((fromRoot (magicWalker (s .args .rules .now)) (deepestAt (b .last .1 .1 .1 .0)) (s .args .limit), (refl, f .ensures)), u .ensures),
+        ),
       ),
     ))  -- conclude-requires
     (λ c. search needs)  -- same-length
-    (λ c. c .before .before .before .before .before .before .before .before .before .from-root .kept .1 .1 .0 ∙ (c .before .before .before .before .before .before .before .before .before .before .before .before .before .before .before .before .before .before) .root .kept .1 .1 .0 ∙ (c .before .before .before .before .before .before .before .before .before .before .before .before .before .before .before .before .before .before .before .before .before .before .before .before) .zero .kept .0)  -- same-length-2
+    (λ c. (c .before .before .before .before .before .before .before .before .before) .from-root .kept .1 .1 .0 ∙ (c .before .before .before .before .before .before .before .before .before .before .before .before .before .before .before .before .before .before) .root .kept .1 .1 .0 ∙ (c .before .before .before .before .before .before .before .before .before .before .before .before .before .before .before .before .before .before .before .before .before .before .before .before) .zero .kept .0)  -- same-length-2
     (λ c.
-    let a = c .before .before .before .before .before .before .before .before .before .before .before .before .before .before .before .before .before .before .before .before .before .before .before .before .before .before .before .before .before .before .args in
+    let s = c .before .before .before .before .before .before .before .before .before .before .before .before .before .before .before .before .before .before .before .before .before .before .before .before .before .before .before .before .before .before in
+    let a = s .args in
+    let b = c .before .before .before .before .before .before .before .before .before .before .before .before .before .before .before .before .before .before .root in
     let f = c .before .before .before .before .before .before .before .before .before .from-root in
     let d = c .before .before .conclude in
-    first-run (a .rules .now) (a .limit) (a .answer .now) (d .result) (d .last .1 .1 .1 .0)
-    (d .ensures (fromRoot (magicWalker (a .rules .now)) (a .limit)) refl (f .ensures))))  -- returns
+    let deepest : ℕ = deepestAt (b .last .1 .1 .1 .0) in
+    first-run (a .rules .now) deepest (a .limit) (b .ensures .2 ∙ none-entered) (a .answer .now) (d .result) (d .last .1 .1 .1 .0)
+    (d .ensures (fromRoot (magicWalker (a .rules .now)) deepest (a .limit)) refl (f .ensures))))  -- returns

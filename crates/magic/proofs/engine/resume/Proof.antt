@@ -9,6 +9,7 @@ use lib.ListN.{length, take}
 use lib.Seq.{length-take-le}
 use Rattle.problem.specs.Table.{isValid}
 use Rattle.problem.proofs.Theorems.{valid-table}
+use Rattle.ground.specs.Instance.{groundIn}
 use Rattle.rewriting.specs.Facts.{findIn}
 use Rattle.rewriting.specs.Rewrite.{rulesOver}
 use Rattle.session.specs.Calls.{calledIn}
@@ -55,7 +56,7 @@ good e = sym (e .before .valid .ensures) ∙ not-false (e .before .valid .result
 -- what going on says and leaves, of the parts lent
 ran : (u : tie.After-run-on)
     → let a = begun (u .before .before .before .before .before .before .before) .args in
-    CallMade (calledIn (findIn (rulesOver (take 4096 (a .table .now)) (take 16384 (a .rules .now)))) (a .session) (a .further)) (a .session) (take 4096 (a .table .now)) (take 16384 (a .rules .now)) (a .answer .now)
+    CallMade (calledIn (findIn (rulesOver (take 4096 (a .table .now)) (take 16384 (a .rules .now)))) ((groundIn (take 4096 (a .table .now))) .atoms) (a .session) (a .further)) (a .session) (take 4096 (a .table .now)) (take 16384 (a .rules .now)) (a .answer .now)
     (take 65536 (a .work .now)) (u .run-on .result) (u .run-on .last .1 .1 .1 .0) (u .run-on .last .1 .1 .1 .1 .0) (u .run-on .last .1 .1 .1 .1 .1 .0)
 ran u = u .run-on .ensures
 

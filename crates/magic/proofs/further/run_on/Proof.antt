@@ -1,9 +1,9 @@
 -- `magic::further::run_on` meets its contract.
-use mathlib.Core.List.{List}
 use mathlib.Core.Path.{_∙_, ap}
 use borrow.Author.Needs.{needs}
 use lib.ListN.{replicate}
 use Rattle.search.specs.Session.{Called}
+use Rattle.ground.specs.Instance.{groundIn}
 use Rattle.ground.proofs.AtomLaws.{table-size}
 use Rattle.rewriting.specs.Facts.{findIn}
 use Rattle.rewriting.specs.Rewrite.{rulesOver}
@@ -17,15 +17,15 @@ begun g = g .before .before .before .before .before .before
 
 -- the call, by the rules that it leaves
 abbrev call : tie.After-go-further → Called
-call g = let a = begun g .args in calledIn (findIn (rulesOver (a .table .now) (a .rules .now))) (a .session) (a .further)
+call g = let a = begun g .args in calledIn (findIn (rulesOver (a .table .now) (a .rules .now))) ((groundIn (a .table .now)) .atoms) (a .session) (a .further)
 
 -- which is the one that was made
 says : (g : tie.After-go-further) → Says (call g) (begun g .args .session) (begun g .args .answer .now) (g .go-further .result) (g .go-further .last .1 .1 .1 .0)
 says g =
     let s = begun g in
     let a = s .args in
-    says-alike (calledIn (findIn (rulesOver (a .table .now) (replicate 16384 0))) (a .session) (a .further)) (call g) (a .session) (a .answer .now)
-    (called-alike (a .table .now) (replicate 16384 0) (a .rules .now) (s .pre .0) (a .session) (a .further))
+    says-alike (calledIn (findIn (rulesOver (a .table .now) (replicate 16384 0))) ((groundIn (a .table .now)) .atoms) (a .session) (a .further)) (call g) (a .session) (a .answer .now)
+    (called-alike (a .table .now) (replicate 16384 0) (a .rules .now) (s .pre .0) ((groundIn (a .table .now)) .atoms) (a .session) (a .further))
     (g .go-further .result) (g .go-further .last .1 .1 .1 .0) (g .go-further .ensures)
 
 pub run-on-spec : {M : Type 1} → statement M

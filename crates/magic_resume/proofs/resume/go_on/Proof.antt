@@ -3,6 +3,7 @@ use native.Mathlib.Omega.{arith}
 use borrow.Author.Needs.{needs}
 use Rattle.search.specs.Session.{placeOf}
 use Rattle.walk.specs.Numbers.{sessionOf}
+use Rattle.walk.specs.contracts.Path.{deepestAt}
 use Rattle.walk.proofs.ResumeLaws.{root-so-far, goes-on}
 use Rattle.magic_walk.specs.contracts.Place.{magicWalker}
 use Rattle.magic_resume.proofs.resume.go_on.Statement.{statement}
@@ -17,7 +18,7 @@ go-on-spec =
     let w = magicWalker (s .args .rules .now) in
     let sizes = s .pre .1 .1 .1 .0 in
     let so-far = root-so-far w (s .args .path .now) (s .args .atoms .now) (s .args .nexts .now) in
-    (s .pre .0, (s .pre .1 .0, (s .pre .1 .1 .0 .reached, (so-far, ((omega arith, sizes .0, sizes .1), s .pre .1 .1 .1 .1))))))  -- resume-requires
+    (s .pre .0, (s .pre .1 .0, (s .pre .1 .1 .0 .reached, (so-far, ((omega arith, sizes .0, sizes .1), (s .pre .1 .1 .1 .1 .0, s .pre .1 .1 .1 .1 .1)))))))  -- resume-requires
     (λ c. search needs)  -- same-length
     (λ c. search needs)  -- same-length-2
     (λ c.
@@ -25,5 +26,5 @@ go-on-spec =
     let a = s .args in
     let w = magicWalker (a .rules .now) in
     let q = c .before .before .before .before .resume in
-    let place = placeOf (w .find) (sessionOf (a .on .standing) (a .on .count) (a .atoms .now) (a .nexts .now) (a .steps) (a .on .next)) in
+    let place = placeOf (w .find) (sessionOf (a .on .standing) (a .on .count) (a .atoms .now) (a .nexts .now) (a .steps) (a .on .next) (deepestAt (a .path .now))) in
     goes-on w place (a .on .count) (a .on .limit) (a .facts .now) (a .path .now) 0 (q .result) (q .last .1 .1 .0) (q .last .1 .1 .1 .0) (q .ensures)))  -- returns

@@ -4,7 +4,6 @@ use native.Mathlib.Omega.{arith}
 use borrow.Author.Needs.{needs}
 use Rattle.store.specs.contracts.Store.{Store}
 use Rattle.walk.specs.contracts.Path.{Passed}
-use Rattle.walk.proofs.PathLaws.{passed}
 use Rattle.magic_walk.proofs.SoundLaws.{sound}
 use Rattle.magic_walk.proofs.FreshLaws.{next-small, added-opening, added-room, added-fresh, added-made}
 use Rattle.magic_walk.proofs.place.enter.Statement.{statement}
@@ -21,7 +20,7 @@ abbrev begun : tie.After-add → tie.Start
 begun z = z .before .before .before .before .before .before .before .before .before .before .before .before .before
 
 gone : (z : tie.After-add) → Passed (begun z .args .path .now) (begun z .args .depth) (went z .pass .last .0)
-gone z = let s = begun z in subst (Passed (s .args .path .now) (s .args .depth)) (sym (went z .pass .ensures)) (passed (s .args .path .now) (s .args .depth) (s .pre .1 .1 .0 .room))
+gone z = went z .pass .ensures
 
 pub enter-spec : {M : Type 1} → statement M
 enter-spec =

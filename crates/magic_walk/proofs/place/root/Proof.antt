@@ -32,4 +32,5 @@ root-spec =
     let s = g .before .before .before .before .before in (
       root-made (magicWalker (s .args .rules .now)) (g .start .last .1 .0) (s .args .path .now) (g .start .result) (f .find .result) (f .find .last .1 .1 .0) (f .find .last .1 .1 .1 .0) (f .find .ensures .0),
       f .find .ensures .1,
+      f .find .ensures .0 .deepest-is,
     )))  -- returns

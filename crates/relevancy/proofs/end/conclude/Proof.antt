@@ -30,12 +30,12 @@ conclude-spec =
     let s = c .before .before .before .before .before .before .before .before in
     let n = atoms-are (c .before) in
     let few = atoms-few (problemIn (s .args .table .now)) (s .pre .0 .fits) in
-    let sizes = s .pre .1 .1 .0 in
+    let sizes = s .pre .1 .1 .1 .0 in
     (omega (arith, n, few), omega (arith, n, few, sizes .0), omega (arith, sizes .1)))  -- give-model-requires
-    (λ c κs. let s = c .before .before .before .before .before .before .before .before .before .before .before in let run = s .pre .1 .1 .1 in (s .pre .0, (s .pre .1 .0, (s .args .facts .now, (run .0, run .1 .1)))))  -- path-left-requires
+    (λ c κs. let s = c .before .before .before .before .before .before .before .before .before .before .before in let run = s .pre .1 .1 .1 .1 in (s .pre .0, (s .pre .1 .0, (s .pre .1 .1 .0, (s .args .facts .now, (run .0, run .1 .1))))))  -- path-left-requires
     (λ c κs.
     let s = c .before .before .before .before .before .before .before .before .before .before .before .before in
-    let run = s .pre .1 .1 .1 in
+    let run = s .pre .1 .1 .1 .1 in
     ends-within (relevancyWalker (s .args .table .now)) (run .0) (s .args .walked) (s .args .facts .now) (s .args .path .now) (run .1 .1))  -- moved-requires
     (λ c. search needs)  -- same-length
     (λ c.

@@ -1,17 +1,23 @@
 -- `relevancy::engine::decide` meets its contract.
 use Prim.Native.Nat.{ℕ}
-use mathlib.Core.Path.{refl, _∙_}
+use mathlib.Core.Path.{_≡_, refl, _∙_}
 use native.Mathlib.Omega.{arith}
 use borrow.Author.Needs.{needs}
-use lib.ListN.{length, length-replicate}
+use lib.ListN.{length, replicate, length-replicate}
+use Rattle.lists.proofs.Bytes.{zeros-at}
 use Rattle.ground.proofs.AtomLaws.{table-size}
 use Rattle.ground.proofs.VerdictLaws.{limit-of}
 use Rattle.walk.specs.contracts.Walker.{fromRoot}
+use Rattle.walk.specs.contracts.Path.{deepestAt}
 use Rattle.walk.proofs.WalkLaws.{blank-store}
 use Rattle.relevancy_walk.specs.contracts.Place.{relevancyWalker}
 use Rattle.relevancy.proofs.EngineLaws.{first-run}
 use Rattle.relevancy.proofs.engine.decide.Statement.{statement}
 use Rattle.relevancy.proofs.engine.decide.Tie as tie
+
+-- a blank path has no entry
+none-entered : deepestAt (replicate 9227 0) ≡ 0
+none-entered = omega (arith, zeros-at 9227 9225, zeros-at 9227 9226)
 
 pub decide-spec : {M : Type 1} → statement M
 decide-spec =
@@ -28,23 +34,27 @@ decide-spec =
       s .pre .0,
       (
         ((c .before .before .before .before .before .before .before .before .before .before) .build .ensures, (c .before .before .before .before .before .before .before .before .before) .build2 .ensures),
-        (blank-store 2050 (z .last .0) (length (s .args .facts .now)) (s .pre .1 .1) (z .ensures), record { size = length-replicate {A = ℕ} 9225 0; deep = omega arith }),
+        (blank-store 2050 (z .last .0) (length (s .args .facts .now)) (s .pre .1 .1) (z .ensures), record { size = length-replicate {A = ℕ} 9227 0; deep = omega arith }),
       ),
     ))  -- root-requires
     (λ c. search needs)  -- slice-aggregate-root-alternatives
-    (λ c κs. let s = c .before .before .before .before .before .before .before .before .before .before .before .before .before .before .before .before .before .before .before in let b = c .before .before .before .before .root in (s .pre .0, (b .last .1 .1 .1 .0, b .ensures)))  -- root-alternatives-requires
+    (λ c κs. let s = c .before .before .before .before .before .before .before .before .before .before .before .before .before .before .before .before .before .before .before in let b = c .before .before .before .before .root in (s .pre .0, (b .last .1 .1 .1 .0, b .ensures .0)))  -- root-alternatives-requires
     (λ c. search needs)  -- slice-aggregate-from-root
-    (λ c κs. let s = c .before .before .before .before .before .before .before .before .before .before .before .before .before .before .before .before .before .before .before .before .before .before .before .before in (s .pre .0, (((c .before .before .before .before .before .before .before .before .before .before .before .before .before .before .before .before .before .before .before .before) .build .ensures, (c .before .before .before .before .before .before .before .before .before .before .before .before .before .before .before .before .before .before .before) .build2 .ensures), (c .before .before .before .before .before .before .before .before .before) .root .ensures)))  -- from-root-requires
+    (λ c κs. let s = c .before .before .before .before .before .before .before .before .before .before .before .before .before .before .before .before .before .before .before .before .before .before .before .before in (s .pre .0, (((c .before .before .before .before .before .before .before .before .before .before .before .before .before .before .before .before .before .before .before .before) .build .ensures, (c .before .before .before .before .before .before .before .before .before .before .before .before .before .before .before .before .before .before .before) .build2 .ensures), (c .before .before .before .before .before .before .before .before .before) .root .ensures .0)))  -- from-root-requires
     (λ c. search needs)  -- slice-aggregate-conclude
     (λ c κs.
     let s = c .before .before .before .before .before .before .before .before .before .before .before .before .before .before .before .before .before .before .before .before .before .before .before .before .before .before .before .before .before .before .before in
+    let b = c .before .before .before .before .before .before .before .before .before .before .before .before .before .before .before .before .root in
     let f = c .before .before .before .before .before .before .from-root in (
       s .pre .0,
       (
-        (c .before .before .before .before .before .before .before .before .before .before .before) .root-alternatives .ensures,
+        f .kept .1 .1 .1 .1 .0 ∙ b .kept .1 .1 .1 .1 .0 ∙ length-replicate {A = ℕ} 9227 0,
         (
-          (s .pre .1 .0, f .kept .1 .1 .1 .0 ∙ (c .before .before .before .before .before .before .before .before .before .before .before .before .before .before .before .before) .root .kept .1 .1 .1 .0 ∙ (c .before .before .before .before .before .before .before .before .before .before .before .before .before .before .before .before .before .before .before .before .before .before .before .before) .zero .kept .0 ∙ s .pre .1 .1),
-          (fromRoot (relevancyWalker (s .args .table .now)) ((c .before .before .before .before .before .before .before .before .before .before .before .before .before .before .before .before .before .before .before .before .before) .limit-in .result), (refl, f .ensures)),
+          (c .before .before .before .before .before .before .before .before .before .before .before) .root-alternatives .ensures,
+          (
+            (s .pre .1 .0, f .kept .1 .1 .1 .0 ∙ b .kept .1 .1 .1 .0 ∙ (c .before .before .before .before .before .before .before .before .before .before .before .before .before .before .before .before .before .before .before .before .before .before .before .before) .zero .kept .0 ∙ s .pre .1 .1),
+            (fromRoot (relevancyWalker (s .args .table .now)) (deepestAt (b .last .1 .1 .1 .1 .0)) ((c .before .before .before .before .before .before .before .before .before .before .before .before .before .before .before .before .before .before .before .before .before) .limit-in .result), (refl, f .ensures)),
+          ),
         ),
       ),
     ))  -- conclude-requires
@@ -53,7 +63,9 @@ decide-spec =
     (λ c.
     let a = c .before .before .before .before .before .before .before .before .before .before .before .before .before .before .before .before .before .before .before .before .before .before .before .before .before .before .before .before .before .before .before .before .before .before .args in
     let l = c .before .before .before .before .before .before .before .before .before .before .before .before .before .before .before .before .before .before .before .before .before .before .before .before .limit-in in
+    let b = c .before .before .before .before .before .before .before .before .before .before .before .before .before .before .before .before .before .before .before .root in
     let f = c .before .before .before .before .before .before .before .before .before .from-root in
     let d = c .before .before .conclude in
-    first-run (a .table .now) (l .result) (l .ensures ∙ limit-of (a .table .now)) (a .answer .now) (d .result) (d .last .1 .1 .1 .0)
-    (d .ensures (fromRoot (relevancyWalker (a .table .now)) (l .result)) refl (f .ensures))))  -- returns
+    let deepest : ℕ = deepestAt (b .last .1 .1 .1 .1 .0) in
+    first-run (a .table .now) deepest (l .result) (b .ensures .1 ∙ none-entered) (l .ensures ∙ limit-of (a .table .now)) (a .answer .now) (d .result) (d .last .1 .1 .1 .0)
+    (d .ensures (fromRoot (relevancyWalker (a .table .now)) deepest (l .result)) refl (f .ensures))))  -- returns

@@ -10,14 +10,14 @@ use borrow.Fn.Kinds.{In}
 use borrow.Fn.PlainCycle.{Measures, is, falls, and}
 use Rattle.ground.specs.Instance.{Instance}
 use Rattle.search.specs.Session.{placeOf}
-use Rattle.walk.specs.contracts.Path.{Turned, siteAt, altsAt, pathIn}
+use Rattle.walk.specs.contracts.Path.{deepestAt, Turned, siteAt, altsAt, pathIn}
 use Rattle.walk.specs.contracts.Place.{Reached}
 use Rattle.walk.specs.Numbers.{sessionOf}
 use Rattle.walk.specs.contracts.Resume.{isTaken}
 use Rattle.walk.specs.declared.answer.Found.the-variants.{Split}
 use Rattle.walk.proofs.PathLaws.{turned}
 use Rattle.walk.proofs.PlaceLaws.{reached-as}
-use Rattle.walk.proofs.ResumeLaws.{taken-some, nowhere-entry, split-found, again-parted, again-next, again-path, again-passes, again-within, again-part, again-node, again-on, leaf-nowhere, resumes-nowhere, resumes-on, resumes-last}
+use Rattle.walk.proofs.ResumeLaws.{taken-some, nowhere-entry, split-found, again-parted, again-next, again-deepest, again-path, again-passes, again-within, again-part, again-node, again-on, leaf-nowhere, resumes-nowhere, resumes-on, resumes-last}
 use Rattle.relevancy_walk.specs.contracts.Place.{relevancyWalker}
 use Rattle.relevancy_resume.proofs.resume.resume.Reads as resume
 use Rattle.relevancy_resume.proofs.resume.resume.Kinds as resume-kinds
@@ -72,6 +72,7 @@ taken-here t c =
     c .is-taken .ensures ∙ ap (λ (ds : List ℕ). isTaken ds (getD (s .args .nexts .now) (s .args .depth) 0) (getD (s .args .atoms .now) (s .args .depth) 0)) (c .before .alternatives-at .ensures .1)
 
 pub +resume-spec : {M : Type 1} → statement M
+unfolding placeOf
 +resume-spec =
     close μ-resume
     (λ bound.
@@ -79,19 +80,19 @@ pub +resume-spec : {M : Type 1} → statement M
     (λ c κs.
     let s = c .before .before .before .before .before .before .before .before in
     let w = relevancyWalker (s .args .table .now) in
-    (s .pre .1 .0, (s .pre .1 .1 .0, (s .pre .1 .1 .1 .0, s .pre .1 .1 .1 .1 .1 .1))))  -- stand-requires
+    (s .pre .1 .0, (s .pre .1 .1 .0, (s .pre .1 .1 .1 .0, s .pre .1 .1 .1 .1 .1 .1 .1))))  -- stand-requires
     (λ c. search needs)  -- same-length
     (λ c. search needs)  -- same-length-2
     (λ c.
     let s = c .before .before .before .before .before .before .before .before .before .before .before .before .before in
     let w = relevancyWalker (s .args .table .now) in
     let y = c .before .before .before .before .stand in
-    resumes-last Instance w (s .args .facts .now) (s .args .path .now) (s .args .depth) (s .args .done) (s .args .on .count) (s .args .on .limit) (s .args .atoms .now) (s .args .nexts .now) (s .args .on .standing) (s .args .steps) (s .args .on .next) (s .pre .1 .1 .1 .1 .0) (c .before .before .before .before .before .before .before .if1 .taken) (y .result) (y .last .1 .1 .1 .0) (y .last .1 .1 .1 .1 .0) (y .ensures))  -- returns
+    resumes-last Instance w (s .args .facts .now) (s .args .path .now) (s .args .depth) (s .args .done) (s .args .on .count) (s .args .on .limit) (s .args .atoms .now) (s .args .nexts .now) (s .args .on .standing) (s .args .steps) (s .args .on .next) (deepestAt (s .args .path .now)) (s .pre .1 .1 .1 .1 .0) (c .before .before .before .before .before .before .before .if1 .taken) (y .result) (y .last .1 .1 .1 .0) (y .last .1 .1 .1 .1 .0) (y .ensures))  -- returns
     (λ c. search needs)  -- enum-known-found
     (λ c.
     let s = c .before .before .before .before .before .before .before in
     let w = relevancyWalker (s .args .table .now) in
-    leaf-nowhere w (s .args .facts .now) (s .args .path .now) (s .args .depth) (s .args .done) (s .args .found) (s .pre .1 .1 .1 .0) (c .match .keys2) (s .args .atoms .now) (s .args .nexts .now) (s .args .on .standing) (s .args .on .count) (s .args .steps) (s .args .on .next) (s .pre .1 .1 .1 .1 .0) (omega (arith, s .pre .1 .1 .1 .1 .1 .0 .0, c .before .if1 .left)))  -- returns-2
+    leaf-nowhere w (s .args .facts .now) (s .args .path .now) (s .args .depth) (s .args .done) (s .args .found) (s .pre .1 .1 .1 .0) (c .match .keys2) (s .args .atoms .now) (s .args .nexts .now) (s .args .on .standing) (s .args .on .count) (s .args .steps) (s .args .on .next) (deepestAt (s .args .path .now)) (s .pre .1 .1 .1 .1 .0) (omega (arith, s .pre .1 .1 .1 .1 .1 .0 .0, c .before .if1 .left)))  -- returns-2
     (λ c.
     let s = c .before .before .before .before .before .before .before .before .before in
     let w = relevancyWalker (s .args .table .now) in
@@ -122,7 +123,7 @@ pub +resume-spec : {M : Type 1} → statement M
     let g = c .before .before .before .before .before .before .before .found .given in
     let at = reached-as w (s .args .facts .now) (s .args .path .now) (s .args .depth) (s .args .done) (s .args .found) (Split (g .0 .0)) (g .1) (s .pre .1 .1 .1 .0) in
     let b = c .before .is-taken in
-    nowhere-entry (w .find) (s .args .atoms .now) (s .args .nexts .now) (s .args .on .standing) (s .args .on .count) (s .args .steps) (s .args .on .next) (s .args .depth) (pathIn w (s .args .path .now) (s .args .depth)) (s .pre .1 .1 .1 .1 .0) (omega (arith, s .pre .1 .1 .1 .1 .1 .0 .0, c .before .before .before .before .before .before .before .before .before .if1 .left)) (w .instance (siteAt w (s .args .path .now) (s .args .depth))) (altsAt w (s .args .path .now) (s .args .depth)) (split-found w (s .args .facts .now) (s .args .path .now) (s .args .depth) (s .args .done) (g .0 .0) at)
+    nowhere-entry (w .find) (s .args .atoms .now) (s .args .nexts .now) (s .args .on .standing) (s .args .on .count) (s .args .steps) (s .args .on .next) (deepestAt (s .args .path .now)) (s .args .depth) (pathIn w (s .args .path .now) (s .args .depth)) (s .pre .1 .1 .1 .1 .0) (omega (arith, s .pre .1 .1 .1 .1 .1 .0 .0, c .before .before .before .before .before .before .before .before .before .if1 .left)) (w .instance (siteAt w (s .args .path .now) (s .args .depth))) (altsAt w (s .args .path .now) (s .args .depth)) (split-found w (s .args .facts .now) (s .args .path .now) (s .args .depth) (s .args .done) (g .0 .0) at)
     (sym (taken-here bound (c .before)) ∙ not-true (b .result) (c .if2 .taken)))  -- returns-3
     (λ c.
     let s = c .before .before .before .before .before .before .before .before .before .before .before .before .before .before .before .before .before in
@@ -148,7 +149,7 @@ pub +resume-spec : {M : Type 1} → statement M
     let u = c .before .before .before .before .before .rewind in
     let j : ℕ = getD (s .args .nexts .now) (s .args .depth) 0 in
     let t : Turned (s .args .path .now) (s .args .depth) (j - 1) (u .last .1 .0) = subst (Turned (s .args .path .now) (s .args .depth) (j - 1)) (sym (u .ensures .1)) (turned (s .args .path .now) (s .args .depth) (at .room) (j - 1)) in
-    let long : length (u .last .1 .0) ≡ 9225 = u .kept .1 .0 ∙ at .room .size in
+    let long : length (u .last .1 .0) ≡ 9227 = u .kept .1 .0 ∙ at .room .size in
     (again-parted w (s .args .facts .now) (s .args .path .now) (s .args .depth) (s .args .done) (g .0 .0) at (u .last .0) (u .ensures .0) j (u .last .1 .0) t long) .room)  -- mark-requires
     (λ c κs.
     let s = c .before .before .before .before .before .before .before .before .before .before .before .before .before .before .before .before .before .before .before .before .before .before .before .before .before .before in
@@ -160,7 +161,7 @@ pub +resume-spec : {M : Type 1} → statement M
     let u = c .before .before .before .before .before .before .before .before .rewind in
     let j : ℕ = getD (s .args .nexts .now) (s .args .depth) 0 in
     let t : Turned (s .args .path .now) (s .args .depth) (j - 1) (u .last .1 .0) = subst (Turned (s .args .path .now) (s .args .depth) (j - 1)) (sym (u .ensures .1)) (turned (s .args .path .now) (s .args .depth) (at .room) (j - 1)) in
-    let long : length (u .last .1 .0) ≡ 9225 = u .kept .1 .0 ∙ at .room .size in
+    let long : length (u .last .1 .0) ≡ 9227 = u .kept .1 .0 ∙ at .room .size in
     (s .pre .1 .0, (s .pre .1 .1 .0, (again-parted w (s .args .facts .now) (s .args .path .now) (s .args .depth) (s .args .done) (g .0 .0) at (u .last .0) (u .ensures .0) j (u .last .1 .0) t long, again-next w (s .args .facts .now) (s .args .path .now) (s .args .depth) (s .args .done) (g .0 .0) at (u .last .0) (u .ensures .0) j (u .last .1 .0) t long (getD (s .args .atoms .now) (s .args .depth) 0) here))))  -- enter-requires
     (λ c.
     let s = c .before .before .before .before .before .before .before .before .before .before .before .before .before .before .before .before .before .before .before .before .before .before .before .before .before .before .before .before .before .before .before .before .before in
@@ -178,7 +179,7 @@ pub +resume-spec : {M : Type 1} → statement M
     let u = c .before .before .before .before .before .before .before .before .before .before .before .before .before .before .before .rewind in
     let j : ℕ = getD (s .args .nexts .now) (s .args .depth) 0 in
     let t : Turned (s .args .path .now) (s .args .depth) (j - 1) (u .last .1 .0) = subst (Turned (s .args .path .now) (s .args .depth) (j - 1)) (sym (u .ensures .1)) (turned (s .args .path .now) (s .args .depth) (at .room) (j - 1)) in
-    let long : length (u .last .1 .0) ≡ 9225 = u .kept .1 .0 ∙ at .room .size in
+    let long : length (u .last .1 .0) ≡ 9227 = u .kept .1 .0 ∙ at .room .size in
     let m = c .before .before .before .before .before .before .before .before .before .mark in
     let e = c .before .before .before .before .before .before .enter in
     let from : s .args .steps - s .args .depth ≡ bound = s .pre .0 in
@@ -193,7 +194,7 @@ pub +resume-spec : {M : Type 1} → statement M
             subst (λ (i : ℕ). Reached w (e .last .1 .1 .1 .0) (e .last .1 .1 .1 .1 .0) (s .args .depth + 1) i (e .result)) (sym (m .ensures)) (e .ensures 0 .reached),
             (
               again-path w (s .args .facts .now) (s .args .path .now) (s .args .depth) (s .args .done) (g .0 .0) at (u .last .0) (u .ensures .0) j (u .last .1 .0) t long (e .result) (e .last .1 .1 .1 .0) (e .last .1 .1 .1 .1 .0) (e .ensures 0) (s .args .atoms .now) (s .args .nexts .now) refl (s .pre .1 .1 .1 .1 .0) here,
-              ((omega (arith, more), s .pre .1 .1 .1 .1 .1 .0 .1, s .pre .1 .1 .1 .1 .1 .0 .2), s .pre .1 .1 .1 .1 .1 .1),
+              ((omega (arith, more), s .pre .1 .1 .1 .1 .1 .0 .1, s .pre .1 .1 .1 .1 .1 .0 .2), (omega (arith, s .pre .1 .1 .1 .1 .1 .1 .0, again-deepest w (s .args .facts .now) (s .args .path .now) (s .args .depth) (s .args .done) (g .0 .0) at (u .last .0) (u .ensures .0) j (u .last .1 .0) t long (e .result) (e .last .1 .1 .1 .0) (e .last .1 .1 .1 .1 .0) (e .ensures 0) (omega (arith, more, s .pre .1 .1 .1 .1 .1 .1 .0))), s .pre .1 .1 .1 .1 .1 .1 .1)),
             ),
           ),
         ),
@@ -213,11 +214,11 @@ pub +resume-spec : {M : Type 1} → statement M
     let u = c .before .before .before .before .before .before .before .before .before .before .before .before .before .before .before .before .before .before .before .before .before .before .rewind in
     let j : ℕ = getD (s .args .nexts .now) (s .args .depth) 0 in
     let t : Turned (s .args .path .now) (s .args .depth) (j - 1) (u .last .1 .0) = subst (Turned (s .args .path .now) (s .args .depth) (j - 1)) (sym (u .ensures .1)) (turned (s .args .path .now) (s .args .depth) (at .room) (j - 1)) in
-    let long : length (u .last .1 .0) ≡ 9225 = u .kept .1 .0 ∙ at .room .size in
+    let long : length (u .last .1 .0) ≡ 9227 = u .kept .1 .0 ∙ at .room .size in
     let m = c .before .before .before .before .before .before .before .before .before .before .before .before .before .before .before .before .mark in
     let e = c .before .before .before .before .before .before .before .before .before .before .before .before .before .enter in
     let q = c .before .before .before .before .before .before .resume in
-    let place = placeOf (w .find) (sessionOf (s .args .on .standing) (s .args .on .count) (s .args .atoms .now) (s .args .nexts .now) (s .args .steps) (s .args .on .next)) in
+    let place = placeOf (w .find) (sessionOf (s .args .on .standing) (s .args .on .count) (s .args .atoms .now) (s .args .nexts .now) (s .args .steps) (s .args .on .next) (deepestAt (s .args .path .now))) in
     resumes-nowhere w place (e .last .1 .1 .1 .0) (e .last .1 .1 .1 .1 .0) (s .args .depth + 1) (m .result) (s .args .on .count) (s .args .on .limit) (q .last .1 .1 .1 .0) (q .last .1 .1 .1 .1 .0) (q .result) (c .before .match2 .keys2) (q .ensures))  -- returns-4
     (λ c. search needs)  -- enum-known-walked
     (λ c. search needs)  -- same-length-6
@@ -232,14 +233,15 @@ pub +resume-spec : {M : Type 1} → statement M
     let u = c .before .before .before .before .before .before .before .before .before .before .before .before .before .before .before .before .before .before .before .before .before .before .before .before .rewind in
     let j : ℕ = getD (s .args .nexts .now) (s .args .depth) 0 in
     let t : Turned (s .args .path .now) (s .args .depth) (j - 1) (u .last .1 .0) = subst (Turned (s .args .path .now) (s .args .depth) (j - 1)) (sym (u .ensures .1)) (turned (s .args .path .now) (s .args .depth) (at .room) (j - 1)) in
-    let long : length (u .last .1 .0) ≡ 9225 = u .kept .1 .0 ∙ at .room .size in
+    let long : length (u .last .1 .0) ≡ 9227 = u .kept .1 .0 ∙ at .room .size in
     let m = c .before .before .before .before .before .before .before .before .before .before .before .before .before .before .before .before .before .before .mark in
     let e = c .before .before .before .before .before .before .before .before .before .before .before .before .before .before .before .enter in
     let q = c .before .before .before .before .before .before .before .before .resume in
-    let place = placeOf (w .find) (sessionOf (s .args .on .standing) (s .args .on .count) (s .args .atoms .now) (s .args .nexts .now) (s .args .steps) (s .args .on .next)) in
+    let place = placeOf (w .find) (sessionOf (s .args .on .standing) (s .args .on .count) (s .args .atoms .now) (s .args .nexts .now) (s .args .steps) (s .args .on .next) (deepestAt (s .args .path .now))) in
     let h = c .before .before .below .given in
     let below = resumes-on w place (e .last .1 .1 .1 .0) (e .last .1 .1 .1 .1 .0) (s .args .depth + 1) (m .result) (s .args .on .count) (s .args .on .limit) (q .last .1 .1 .1 .0) (q .last .1 .1 .1 .1 .0) (q .result) (h .0 .0) (h .1) (q .ensures) in
-    again-passes w (s .args .facts .now) (s .args .path .now) (s .args .depth) (s .args .done) (g .0 .0) at (u .last .0) (u .ensures .0) j (u .last .1 .0) t long (e .result) (e .last .1 .1 .1 .0) (e .last .1 .1 .1 .1 .0) (e .ensures 0) place (m .result) (s .args .on .count) (s .args .on .limit) (m .ensures) (h .0 .0) (q .last .1 .1 .1 .0) (q .last .1 .1 .1 .1 .0) below (c .match3 .keys2))  -- returns-5
+    let deep : s .args .depth < deepestAt (s .args .path .now) = omega (arith, s .pre .1 .1 .1 .1 .1 .0 .0, s .pre .1 .1 .1 .1 .1 .1 .0, c .before .before .before .before .before .before .before .before .before .before .before .before .before .before .before .before .before .before .before .before .before .before .before .before .before .before .before .before .before .before .before .before .before .before .before .before .if1 .left) in
+    again-passes w (s .args .facts .now) (s .args .path .now) (s .args .depth) (s .args .done) (g .0 .0) at (u .last .0) (u .ensures .0) j (u .last .1 .0) t long (e .result) (e .last .1 .1 .1 .0) (e .last .1 .1 .1 .1 .0) (e .ensures 0) place (m .result) (s .args .on .count) (s .args .on .limit) (m .ensures) (h .0 .0) (q .last .1 .1 .1 .0) (q .last .1 .1 .1 .1 .0) below deep (c .match3 .keys2))  -- returns-5
     (λ c κs.
     let s = c .before .before .before .before .before .before .before .before .before .before .before .before .before .before .before .before .before .before .before .before .before .before .before .before .before .before .before .before .before .before .before .before .before .before .before .before .before .before .before .before .before .before .before .before .before .before in
     let w = relevancyWalker (s .args .table .now) in
@@ -250,11 +252,11 @@ pub +resume-spec : {M : Type 1} → statement M
     let u = c .before .before .before .before .before .before .before .before .before .before .before .before .before .before .before .before .before .before .before .before .before .before .before .before .before .before .before .before .rewind in
     let j : ℕ = getD (s .args .nexts .now) (s .args .depth) 0 in
     let t : Turned (s .args .path .now) (s .args .depth) (j - 1) (u .last .1 .0) = subst (Turned (s .args .path .now) (s .args .depth) (j - 1)) (sym (u .ensures .1)) (turned (s .args .path .now) (s .args .depth) (at .room) (j - 1)) in
-    let long : length (u .last .1 .0) ≡ 9225 = u .kept .1 .0 ∙ at .room .size in
+    let long : length (u .last .1 .0) ≡ 9227 = u .kept .1 .0 ∙ at .room .size in
     let m = c .before .before .before .before .before .before .before .before .before .before .before .before .before .before .before .before .before .before .before .before .before .before .mark in
     let e = c .before .before .before .before .before .before .before .before .before .before .before .before .before .before .before .before .before .before .before .enter in
     let q = c .before .before .before .before .before .before .before .before .before .before .before .before .resume in
-    let place = placeOf (w .find) (sessionOf (s .args .on .standing) (s .args .on .count) (s .args .atoms .now) (s .args .nexts .now) (s .args .steps) (s .args .on .next)) in
+    let place = placeOf (w .find) (sessionOf (s .args .on .standing) (s .args .on .count) (s .args .atoms .now) (s .args .nexts .now) (s .args .steps) (s .args .on .next) (deepestAt (s .args .path .now))) in
     let h = c .before .before .before .before .before .before .below .given in
     let below = resumes-on w place (e .last .1 .1 .1 .0) (e .last .1 .1 .1 .1 .0) (s .args .depth + 1) (m .result) (s .args .on .count) (s .args .on .limit) (q .last .1 .1 .1 .0) (q .last .1 .1 .1 .1 .0) (q .result) (h .0 .0) (h .1) (q .ensures) in
     let k = c .before .before .before .walked .given in
@@ -271,13 +273,14 @@ pub +resume-spec : {M : Type 1} → statement M
     let u = c .before .before .before .before .before .before .before .before .before .before .before .before .before .before .before .before .before .before .before .before .before .before .before .before .before .before .before .before .before .before .before .before .before .rewind in
     let j : ℕ = getD (s .args .nexts .now) (s .args .depth) 0 in
     let t : Turned (s .args .path .now) (s .args .depth) (j - 1) (u .last .1 .0) = subst (Turned (s .args .path .now) (s .args .depth) (j - 1)) (sym (u .ensures .1)) (turned (s .args .path .now) (s .args .depth) (at .room) (j - 1)) in
-    let long : length (u .last .1 .0) ≡ 9225 = u .kept .1 .0 ∙ at .room .size in
+    let long : length (u .last .1 .0) ≡ 9227 = u .kept .1 .0 ∙ at .room .size in
     let m = c .before .before .before .before .before .before .before .before .before .before .before .before .before .before .before .before .before .before .before .before .before .before .before .before .before .before .before .mark in
     let e = c .before .before .before .before .before .before .before .before .before .before .before .before .before .before .before .before .before .before .before .before .before .before .before .before .enter in
     let q = c .before .before .before .before .before .before .before .before .before .before .before .before .before .before .before .before .before .resume in
-    let place = placeOf (w .find) (sessionOf (s .args .on .standing) (s .args .on .count) (s .args .atoms .now) (s .args .nexts .now) (s .args .steps) (s .args .on .next)) in
+    let place = placeOf (w .find) (sessionOf (s .args .on .standing) (s .args .on .count) (s .args .atoms .now) (s .args .nexts .now) (s .args .steps) (s .args .on .next) (deepestAt (s .args .path .now))) in
     let h = c .before .before .before .before .before .before .before .before .before .before .before .below .given in
     let below = resumes-on w place (e .last .1 .1 .1 .0) (e .last .1 .1 .1 .1 .0) (s .args .depth + 1) (m .result) (s .args .on .count) (s .args .on .limit) (q .last .1 .1 .1 .0) (q .last .1 .1 .1 .1 .0) (q .result) (h .0 .0) (h .1) (q .ensures) in
     let k = c .before .before .before .before .before .before .before .before .walked .given in
     let y = c .before .before .before .before .work-off in
-    again-on w (s .args .facts .now) (s .args .path .now) (s .args .depth) (s .args .done) (g .0 .0) at (u .last .0) (u .ensures .0) j (u .last .1 .0) t long (e .result) (e .last .1 .1 .1 .0) (e .last .1 .1 .1 .1 .0) (e .ensures 0) place (m .result) (s .args .on .count) (s .args .on .limit) (m .ensures) (h .0 .0) (q .last .1 .1 .1 .0) (q .last .1 .1 .1 .1 .0) below (k .0 .0) (k .1) (q .kept .1 .1 .1 .1 .0 ∙ e .ensures 0 .reached .room .size) (y .result) (y .last .1 .1 .1 .0) (y .last .1 .1 .1 .1 .0) (y .ensures .0) (y .ensures .1)))  -- returns-6
+    let deep : s .args .depth < deepestAt (s .args .path .now) = omega (arith, s .pre .1 .1 .1 .1 .1 .0 .0, s .pre .1 .1 .1 .1 .1 .1 .0, c .before .before .before .before .before .before .before .before .before .before .before .before .before .before .before .before .before .before .before .before .before .before .before .before .before .before .before .before .before .before .before .before .before .before .before .before .before .before .before .before .before .before .before .before .before .if1 .left) in
+    again-on w (s .args .facts .now) (s .args .path .now) (s .args .depth) (s .args .done) (g .0 .0) at (u .last .0) (u .ensures .0) j (u .last .1 .0) t long (e .result) (e .last .1 .1 .1 .0) (e .last .1 .1 .1 .1 .0) (e .ensures 0) place (m .result) (s .args .on .count) (s .args .on .limit) (m .ensures) (h .0 .0) (q .last .1 .1 .1 .0) (q .last .1 .1 .1 .1 .0) below (k .0 .0) (k .1) (q .kept .1 .1 .1 .1 .0 ∙ e .ensures 0 .reached .room .size) deep (y .result) (y .last .1 .1 .1 .0) (y .last .1 .1 .1 .1 .0) (y .ensures .0) (y .ensures .1)))  -- returns-6

@@ -3,6 +3,7 @@ use native.Mathlib.Omega.{arith}
 use borrow.Author.Needs.{needs}
 use Rattle.search.specs.Session.{placeOf}
 use Rattle.walk.specs.Numbers.{sessionOf}
+use Rattle.walk.specs.contracts.Path.{deepestAt}
 use Rattle.walk.proofs.ResumeLaws.{root-so-far, goes-on}
 use Rattle.relevancy_walk.specs.contracts.Place.{relevancyWalker}
 use Rattle.relevancy_resume.proofs.resume.go_on.Statement.{statement}
@@ -24,5 +25,5 @@ go-on-spec =
     let a = c .before .before .before .before .before .before .before .before .before .before .before .before .args in
     let w = relevancyWalker (a .table .now) in
     let q = c .before .before .before .before .resume in
-    let place = placeOf (w .find) (sessionOf (a .on .standing) (a .on .count) (a .atoms .now) (a .nexts .now) (a .steps) (a .on .next)) in
+    let place = placeOf (w .find) (sessionOf (a .on .standing) (a .on .count) (a .atoms .now) (a .nexts .now) (a .steps) (a .on .next) (deepestAt (a .path .now))) in
     goes-on w place (a .on .count) (a .on .limit) (a .facts .now) (a .path .now) 0 (q .result) (q .last .1 .1 .1 .0) (q .last .1 .1 .1 .1 .0) (q .ensures)))  -- returns

@@ -3,22 +3,17 @@ use Prim.Native.Nat.{ℕ, _+_}
 use mathlib.Core.List.{List}
 use mathlib.Core.Path.{_≡_, sym, subst, _∙_}
 use native.Mathlib.Omega.{arith}
-use lib.ListN.{getD, set}
+use lib.ListN.{getD}
 use borrow.Author.Needs.{needs}
 use Rattle.store.specs.contracts.Store.{Store, Added}
-use Rattle.walk.specs.contracts.Path.{nodeAt, nextAt, markAt, siteAt, altsAt, Passed}
+use Rattle.walk.specs.contracts.Path.{nextAt, markAt, siteAt, altsAt}
 use Rattle.walk.specs.contracts.Place.{Finding}
-use Rattle.walk.proofs.PathLaws.{passed}
 use Rattle.walk.proofs.PlaceLaws.{place-made}
 use Rattle.relevancy_walk.specs.contracts.Place.{relevancyWalker, TrueFresh}
 use Rattle.relevancy_walk.proofs.SoundLaws.{sound}
 use Rattle.relevancy_walk.proofs.FreshLaws.{next-small, entered-fresh}
 use Rattle.relevancy_walk.proofs.place.enter.Statement.{statement}
 use Rattle.relevancy_walk.proofs.place.enter.Tie as tie
-
--- the node has passed on
-went : (s : tie.Start) (left : List ℕ) → left ≡ set (s .args .path .now) (nodeAt (s .args .depth) + 6) (nextAt (s .args .path .now) (s .args .depth) + 1) → Passed (s .args .path .now) (s .args .depth) left
-went s left e = subst (Passed (s .args .path .now) (s .args .depth)) (sym e) (passed (s .args .path .now) (s .args .depth) (s .pre .1 .1 .0 .room))
 
 -- what was added
 put : (s : tie.Start) (own a : ℕ) → own ≡ markAt (s .args .path .now) (s .args .depth)
@@ -56,7 +51,7 @@ enter-spec =
         subst (λ (m : ℕ). TrueFresh (s .args .table .now) (d .last .0) (p .last .0) (s .args .depth + 1) (d .result) m) (sym (o .ensures))
             (entered-fresh (s .args .table .now) (s .pre .0) (s .args .facts .now) (s .args .path .now) (s .args .depth) (s .pre .1 .1 .0) (s .pre .1 .1 .1 .0)
             (d .last .0) (d .result) (put s (o .result) (s .args .a) (o .ensures) (s .pre .1 .1 .1 .1) (d .last .0) (d .result) (d .ensures))
-            (p .last .0) (p .kept .0 ∙ s .pre .1 .1 .0 .room .size) (went s (p .last .0) (p .ensures))),
+            (p .last .0) (p .kept .0 ∙ s .pre .1 .1 .0 .room .size) (p .ensures)),
       ),
     ))  -- find-requires
     (λ c. search needs)  -- same-length
@@ -70,6 +65,6 @@ enter-spec =
     let w = relevancyWalker (s .args .table .now) in
     let added = put s (o .result) (s .args .a) (o .ensures) (s .pre .1 .1 .1 .1) (d .last .0) (d .result) (d .ensures) in
     λ count.
-    place-made w (s .args .facts .now) (s .args .path .now) (s .args .depth) count (s .pre .1 .1 .1 .0) (d .result) (d .last .0) (p .last .0) (went s (p .last .0) (p .ensures))
+    place-made w (s .args .facts .now) (s .args .path .now) (s .args .depth) count (s .pre .1 .1 .1 .0) (d .result) (d .last .0) (p .last .0) (p .ensures)
     (added .grows) (added .kept) (f .result) (f .last .1 .1 .1 .0) (f .last .1 .1 .1 .1 .0)
     (subst (λ (m : ℕ). Finding w (d .last .0) (p .last .0) (s .args .depth + 1) (d .result) m (f .result) (f .last .1 .1 .1 .0) (f .last .1 .1 .1 .1 .0)) (o .ensures) (f .ensures))))  -- returns

@@ -21,4 +21,4 @@ root-spec =
     let s = c .before .before .before .before .before .before .before .before .before .before .before .before .before .before in
     let b = c .before .before .before .before .before .before .before .before .before .start in
     let f = c .before .before .before .before .find in
-    root-made (relevancyWalker (s .args .table .now)) (b .last .1 .0) (s .args .path .now) (b .result) (f .result) (f .last .1 .1 .1 .0) (f .last .1 .1 .1 .1 .0) (f .ensures)))  -- returns
+    (root-made (relevancyWalker (s .args .table .now)) (b .last .1 .0) (s .args .path .now) (b .result) (f .result) (f .last .1 .1 .1 .0) (f .last .1 .1 .1 .1 .0) (f .ensures), f .ensures .deepest-is)))  -- returns

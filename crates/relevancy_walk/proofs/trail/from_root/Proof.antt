@@ -3,6 +3,7 @@ use mathlib.Core.Path.{refl}
 use native.Mathlib.Omega.{arith}
 use borrow.Author.Needs.{needs}
 use Rattle.walk.specs.contracts.Walker.{fromRoot}
+use Rattle.walk.specs.contracts.Path.{deepestAt}
 use Rattle.walk.proofs.WalkLaws.{start-visiting, root-walks}
 use Rattle.relevancy_walk.specs.contracts.Place.{relevancyWalker}
 use Rattle.relevancy_walk.proofs.trail.from_root.Statement.{statement}
@@ -22,6 +23,6 @@ from-root-spec =
     let a = s .args in
     let v = c .before .before .before .before .visit in
     let w = relevancyWalker (a .table .now) in
-    let r = fromRoot w (a .limit) in
+    let r = fromRoot w (deepestAt (a .path .now)) (a .limit) in
     root-walks w r (a .facts .now) (a .path .now) 0 0 (v .result) (v .last .1 .1 .1 .0) (v .last .1 .1 .1 .1 .0) (v .ensures .0)
     (v .ensures .1 r refl (start-visiting w (a .limit) (a .facts .now) (a .path .now) (a .found) (s .pre .1 .1)))))  -- returns

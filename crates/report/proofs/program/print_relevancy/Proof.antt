@@ -51,8 +51,8 @@ print-relevancy-spec =
     let tb : List ℕ = e .before .before .before .read .last .1 .0 in
     put-out
     (c .put-verdict .ensures)
-    (fit-printed (e .before .before .before .before .before .before .args .text .now) tb (taken e) (replicate 1024 0) (replicate 65536 0) (fit .fit .last .1 .0) (fit .fit .result)
+    (fit-printed (e .before .before .before .before .before .before .args .text .now) tb (taken e) (replicate 1024 0) (replicate 65536 0) (fit .fit .last .1 .0) (fit .fit .result .verdict)
     (omega (arith, length-replicate {A = ℕ} 1024 0))
     (omega (arith, length-replicate {A = ℕ} 65536 0))
     (fit .fit .ensures .0)
-    (fit .fit .ensures .1))))  -- returns-2
+    (fit .fit .ensures .2))))  -- returns-2
