@@ -13,7 +13,8 @@ use Rattle.lists.specs.Key.{Key}
 use Rattle.lists.proofs.Test.{T-true, lt-or-le}
 use Rattle.search.specs.Ground.{Ground, Model, Marked, Found, opened}
 use Rattle.search.specs.Relevancy.{findR}
-use Rattle.search.specs.Machine.{Outcome, Satisfied, Exhausted, entries, proceed, outcome}
+use Rattle.search.specs.Deepest.{Exact}
+use Rattle.search.specs.Machine.{Outcome, Satisfied, Exhausted, root, entries, proceed, outcome}
 use Rattle.search.specs.Sound.{SoundFind}
 use Rattle.search.specs.Session.{Session, placeOf, sessionAfter, firstSession, Called, declined, told, called}
 use Rattle.search.specs.SessionRight.{ShortPaths, Right, CallTold}
@@ -270,6 +271,12 @@ module _ (tb : List ℕ) (long : 4096 ≤ length tb) (valid : Valid (take 4096 t
         finished-again = λ over c same o s e. again over c o s e (call-is cs c same);
         shown-is = sym (laid-deepest (sessionBy cs));
         deepest-bounds = w .deepest-bounds false;
+        deepest-exact = w .deepest-exact false;
+        magic-deepest-exact = λ rules.
+            subst
+            (λ (f : List ℕ → Found Instance). Exact 0 (entries f ((keptBy cs) .sum) (root f)) (sessionBy cs .deepest))
+            (sym (rules-find tb valid rules))
+            (w .deepest-exact true);
       }
     where
       not-nowhere : (c : Lent) → goesOn (laid (sessionBy cs)) c ≡ declined 42 → CallIs cs c → ⊥

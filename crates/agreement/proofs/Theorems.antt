@@ -9,8 +9,8 @@ use Rattle.lists.proofs.Member.{all-map}
 use Rattle.search.specs.Ground.{Ground, Proper, Found}
 use Rattle.search.specs.Relevancy.{findR}
 use Rattle.search.specs.Magic.{tru, rel, rewriting, findM}
-use Rattle.search.specs.Deepest.{Bounds}
-use Rattle.search.specs.Machine.{Place, Outcome, entered, trail, outcome}
+use Rattle.search.specs.Deepest.{Exact, Bounds}
+use Rattle.search.specs.Machine.{Place, Outcome, entered, root, entries, trail, outcome}
 use Rattle.search.specs.Session.{Session, firstSession}
 use Rattle.search.specs.SessionClaims.{OneWalkKept}
 use Rattle.search.specs.Trails.{OneTrail, SameFacts as SameAt}
@@ -105,6 +105,7 @@ module _ (tb rules answer work₁ work₂ : List ℕ) (taken : BothTaken tb rule
         verdicts = verdict₂ ∙ ap verdictOf outcomes ∙ sym verdict₁;
         answers = answer₂ ∙ ap (λ (o : Outcome). answerOf o answer) outcomes ∙ sym answer₁;
         deepest-bounds = subst (Bounds (p .atoms) 0 (trail (findR p) (limitLent tb))) (sym figure) (first-run false .deepest-bounds false);
+        deepest-exact = subst (Exact 0 (entries (findR p) (limitLent tb) (root (findR p)))) (sym figure) (first-run false .deepest-exact false);
         deepests = magic-figure ∙ sym figure;
       }
 

@@ -8,8 +8,8 @@ use lib.ListN.{length, take}
 use Rattle.lists.specs.Member.{All}
 use Rattle.search.specs.Relevancy.{isTrue, isRelevant, findR}
 use Rattle.search.specs.Magic.{tru, rel, holds}
-use Rattle.search.specs.Deepest.{Bounds}
-use Rattle.search.specs.Machine.{Place, entered, trail, outcome}
+use Rattle.search.specs.Deepest.{Exact, Bounds}
+use Rattle.search.specs.Machine.{Place, entered, root, entries, trail, outcome}
 use Rattle.problem.specs.Problem.{limitOf}
 use Rattle.problem.specs.Layout.{problemIn}
 use Rattle.problem.specs.Print.{TextOfProblem}
@@ -50,8 +50,9 @@ pub record OneWalk (tb rules answer work₁ work₂ bs : List ℕ) : Type 0 wher
   -- and they are equal
   pub verdicts : magicResult tb rules answer work₂ ≡ fitResult tb answer work₁
   pub answers : magicAnswer tb rules answer work₂ ≡ fitAnswer tb answer work₁
-  -- U2: and so are their deepest figures
+  -- U2 and U10: and so are their deepest figures
   pub deepest-bounds : Bounds ((groundLent tb) .atoms) 0 (trail (findR (groundLent tb)) (limitLent tb)) (fitDeepest tb answer work₁)
+  pub deepest-exact : Exact 0 (entries (findR (groundLent tb)) (limitLent tb) (root (findR (groundLent tb)))) (fitDeepest tb answer work₁)
   pub deepests : magicDeepest tb rules answer work₂ ≡ fitDeepest tb answer work₁
 
 -- the table that a text was read into, fitted by both engines: demands 2 and 3, of the problem that has this text

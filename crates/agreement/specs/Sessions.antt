@@ -9,8 +9,8 @@ use mathlib.Core.Path.{_≡_}
 use lib.ListN.{length, take}
 use Rattle.lists.specs.Member.{All}
 use Rattle.search.specs.Relevancy.{findR}
-use Rattle.search.specs.Deepest.{Bounds}
-use Rattle.search.specs.Machine.{Place, Outcome, Satisfied, Exhausted, entries, trail, outcome, proceed}
+use Rattle.search.specs.Deepest.{Exact, Bounds}
+use Rattle.search.specs.Machine.{Place, Outcome, Satisfied, Exhausted, root, entries, trail, outcome, proceed}
 use Rattle.search.specs.Session.{exhausted, Session, placeOf, firstSession, Called, declined, told}
 use Rattle.search.specs.SessionRight.{Right, RunLeft, StandsThere}
 use Rattle.ground.specs.Instance.{Instance}
@@ -96,9 +96,12 @@ pub record BroughtBack (tb : List ℕ) (k : Carried) : Type 1 where
   -- "A finished session answers again as before."
   pub finished-again : ((n : ℕ) → k .answered ≡ Exhausted n → ⊥) → (c : Lent) → SameProblem tb c → (o : Outcome) (s : Session) → goesOn (k .kept) c ≡ told o s
       → (o ≡ k .answered) × (recordLeft (told o s) (k .kept) ≡ k .kept)
-  -- U2: the deepest figure of that answer is the one in the record, by all entries made, whichever calls made them
+  -- U2 and U10: the deepest figure of that answer is the one in the record, by all entries made, whichever calls made them
   pub shown-is : k .shown ≡ k .kept .deepest
   pub deepest-bounds : Bounds ((groundLent tb) .atoms) 0 (trail (findR (groundLent tb)) (k .sum)) (k .shown)
+  pub deepest-exact : Exact 0 (entries (findR (groundLent tb)) (k .sum) (root (findR (groundLent tb)))) (k .shown)
+  pub magic-deepest-exact : (rules : List ℕ)
+      → Exact 0 (entries (findIn (rulesOver (take 4096 tb) rules)) (k .sum) (root (findIn (rulesOver (take 4096 tb) rules)))) (k .shown)
 
 -- ---- a session of any origin
 

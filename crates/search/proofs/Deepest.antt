@@ -12,18 +12,12 @@ use Rattle.lists.specs.Member.{All, Any}
 use Rattle.lists.proofs.Member.{all-map, any-zip}
 use Rattle.lists.proofs.Test.{lt-or-le}
 use Rattle.search.specs.Ground.{Found, closed, opened, split}
-use Rattle.search.specs.Deepest.{Bounds}
+use Rattle.search.specs.Deepest.{Exact, Bounds}
 use Rattle.search.specs.Machine.{Branch, Place, enter, back, after, nextPath, Outcome, Satisfied, Refuted, Exhausted, last, longest, root, entries, proceed, deepestUnder}
 use Rattle.search.specs.Session.{Session, deepStands, stepsOf, dueAt, leftBy, sessionAfter, firstSession}
 use Rattle.search.specs.SessionRight.{ShortPaths}
 use Rattle.search.proofs.Machine.{last-all}
 use Rattle.search.proofs.Path.{Reached, entries-reached}
-
--- the longest of these, exactly
-pub record Exact {I : Type 0} (d : ℕ) (made : List (Place I)) (e : ℕ) : Type 0 where
-  pub brought : d ≤ e
-  pub no-less : All (λ t. length (t .path) ≤ e) made
-  pub attained : (e ≡ d) ⊎ Any (λ t. length (t .path) ≡ e) made
 
 module _ {I : Type 0} where
   pub longest-append : (d : ℕ) (xs ys : List (Place I)) → longest d (xs ++ ys) ≡ longest (longest d xs) ys
@@ -34,6 +28,7 @@ module _ {I : Type 0} where
   pub longest-next : (d : ℕ) (es : List (Place I)) (t : Place I) → longest d (es ++ (t ∷ [])) ≡ max (longest d es) (length (t .path))
   longest-next d es t = longest-append d es (t ∷ [])
 
+  -- U10
   pub longest-exact : (d : ℕ) (es : List (Place I)) → Exact d es (longest d es)
   longest-exact d [] = record { brought = omega arith; no-less = tt; attained = inl refl }
   longest-exact d (t ∷ ts) =

@@ -12,7 +12,7 @@ use Rattle.lists.proofs.Member.{all-map}
 use Rattle.search.specs.Ground.{Ground, Proper, Model, Marked}
 use Rattle.search.specs.Relevancy.{findR}
 use Rattle.search.specs.Magic.{rewriting, findM}
-use Rattle.search.specs.Deepest.{Bounds}
+use Rattle.search.specs.Deepest.{Exact, Bounds}
 use Rattle.search.specs.Machine.{Place, Outcome, Satisfied, Exhausted, last, root, entries, proceed}
 use Rattle.search.specs.Session.{Session, placeOf, standsIn, sessionAfter, Called, declined, told, called}
 use Rattle.search.specs.SessionRight.{Right, RunLeft}
@@ -59,6 +59,7 @@ module _ {I : Type 0} (k : Key I) (p : Ground I) where
     finished-again : ((n : ℕ) → x .answered ≡ Exhausted n → ⊥) → (by : Bool) (further : ℕ) (o : Outcome) (s : Session)
         → called (findBy k p by) (p .atoms) (x .session) further ≡ told o s → (o ≡ x .answered) × (s ≡ x .session)
     deepest-bounds : (by : Bool) → Bounds (p .atoms) d (t ∷ entries (findBy k p by) (x .sum) t) (x .session .deepest)
+    deepest-exact : (by : Bool) → Exact d (entries (findBy k p by) (x .sum) t) (x .session .deepest)
 
   module _ (proper : Proper p) (t : Place I) (count d : ℕ) (reached : Reached (findR p) t) (enough : length (t .path) ≤ d) (most : d ≤ p .atoms) where
     abbrev run : ℕ → Kept
@@ -94,6 +95,7 @@ module _ {I : Type 0} (k : Key I) (p : Ground I) where
               not-nowhere (ltb 4294967295 ((run n) .session .count + further)) (all .answered) (all .session) (sym (run-on by n further) ∙ e);
           finished-again = again n;
           deepest-bounds = λ by. subst (λ (es : List (Place I)). Bounds (p .atoms) d (t ∷ es) deep) (same by) (run-leaves n .deepest-bounds);
+          deepest-exact = λ by. subst (λ (es : List (Place I)). Exact d es deep) (same by) (run-leaves n .deepest-exact);
         }
 
     call-run : (n : ℕ) (c : Call)
@@ -140,6 +142,7 @@ module _ {I : Type 0} (k : Key I) (p : Ground I) where
             (λ (u : Place I). Bounds (p .atoms) 0 (u ∷ entries (findBy k p by) (x .sum) u) (x .session .deepest))
             (sym (engine-root by))
             (w .deepest-bounds by);
+        deepest-exact = λ by. subst (λ (u : Place I). Exact 0 (entries (findBy k p by) (x .sum) u) (x .session .deepest)) (sym (engine-root by)) (w .deepest-exact by);
       }
 
   -- ---- other origin
@@ -158,6 +161,7 @@ module _ {I : Type 0} (k : Key I) (p : Ground I) where
         session-is = w .session-is;
         always-stands = w .always-stands;
         deepest-bounds = w .deepest-bounds;
+        deepest-exact = w .deepest-exact;
       }
 
   -- ---- any origin

@@ -11,12 +11,13 @@ use lib.Seq.{drop-append-seam}
 use borrow.Author.Tests.{lt-ltb, le-ltb}
 use Rattle.lists.proofs.Bytes.{drop-next}
 use Rattle.search.specs.Ground.{Found, closed, opened, split}
+use Rattle.search.specs.Deepest.{Exact}
 use Rattle.search.specs.Machine.{Branch, Place, entered, after, nextPath, Outcome, Satisfied, Refuted, Exhausted, stopped, answerAt, answer, last, longest, placed, advance, root, entries, proceed, Genuine}
 use Rattle.search.specs.Session.{Step, Standing, refuted, satisfied, exhausted, Session, altsFound, standsAt, placeOf, standsIn, stepsOf, dueAt, leftBy, sessionAfter, declined, told, called}
 use Rattle.search.specs.SessionRight.{atomsOf, standingOf, countOf, altsHere, ShortPaths, Right, RunLeft, CallTold, AnySession}
 use Rattle.search.proofs.Machine.{entries-zero, entries-none, entries-some}
 use Rattle.search.proofs.Path.{withTried, Reached, place-reached, next-genuine, last-reached}
-use Rattle.search.proofs.Deepest.{Exact, exact-bounds, session-exact, session-enough, session-most}
+use Rattle.search.proofs.Deepest.{exact-bounds, session-exact, session-enough, session-most}
 use Rattle.search.proofs.Session.{next-after, Stands, at-stands, in-stands, stands-reached}
 use Rattle.search.proofs.SessionRest.{after-made, rests}
 use Rattle.search.proofs.SessionRight.{path-right, right-in, in-right, stands-right, stands-length, stands-there}
@@ -137,6 +138,7 @@ module _ {I : Type 0} (find : List ℕ → Found I) where
         exhausted-next = λ bs e q. (due-left u n d reached e) .next bs q;
         satisfied-last = left-satisfied (answer u n) d u;
         deepest-bounds = exact-bounds atoms brought t (entries find limit t) ((leftBy find (answer u n) d u) .deepest) h within exact;
+        deepest-exact = exact;
       }
 
   -- ---- a finished session

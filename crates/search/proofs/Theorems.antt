@@ -27,6 +27,7 @@ use Rattle.search.proofs.Relevancy.{asks-by}
 use Rattle.search.proofs.Model.{relevancy-sound}
 use Rattle.search.proofs.OneTrail.{magic-same, same-facts, trail-same, outcome-same}
 use Rattle.search.proofs.MagicPath.{magic-sound}
+use Rattle.search.proofs.Deepest.{exact-bounds}
 use Rattle.search.proofs.SessionLeft.{any-session}
 use Rattle.search.proofs.SessionClaims.{one-walk-kept, origin-kept, any-origin}
 
@@ -86,5 +87,6 @@ theorems =
       one-walk-kept = one-walk-kept;
       origin-kept = origin-kept;
       any-origin = any-origin;
+      exact-bounds = exact-bounds;
       cases-hold = cases-hold;
     }

@@ -1,7 +1,7 @@
 -- What is claimed of the two walks. `proofs/Theorems.antt` proves `Theorems`.
 use Prim.Native.Nat.{ℕ, suc, _+_, _≤_, _<_}
 use mathlib.Core.Bool.{Bool, not, cond, _&&_}
-use mathlib.Core.List.{List, _++_}
+use mathlib.Core.List.{List, _∷_, _++_}
 use mathlib.Core.Option.{some}
 use mathlib.Core.Path.{_≡_}
 use lib.Dec.{eqb, ltb}
@@ -15,6 +15,7 @@ use Rattle.search.specs.Magic.{MagicRule, rewriting, findM}
 use Rattle.search.specs.Trails.{OneTrail}
 use Rattle.search.specs.SessionClaims.{Call, OneWalkKept, OriginKept, AnyOrigin}
 use Rattle.search.specs.Session.{Session, standsIn}
+use Rattle.search.specs.Deepest.{Exact, Bounds}
 use Rattle.search.specs.SessionRight.{ShortPaths, AnySession}
 use Rattle.search.specs.Choice.{RelevancyChoice, MagicChoice}
 use Rattle.search.specs.Sound.{SoundFind}
@@ -99,4 +100,6 @@ pub record Theorems : Type 1 where
   pub origin-kept : {I : Type 0} (k : Key I) (p : Ground I) → Proper p → (s : Session) (t : Place I) (further : ℕ) → standsIn (findR p) (p .atoms) s ≡ some t
       → s .count + further ≤ 4294967295 → (calls : List Call) → OriginKept k p s t further calls
   pub any-origin : {I : Type 0} (k : Key I) (p : Ground I) → Proper p → (s : Session) (further : ℕ) → AnyOrigin k p s further
+  -- U2's bounds follow from U10's figure, where the path that a run begins at is no longer than what was brought, and the figure is at most A
+  pub exact-bounds : {I : Type 0} (atoms d : ℕ) (t : Place I) (es : List (Place I)) (e : ℕ) → length (t .path) ≤ d → e ≤ atoms → Exact d es e → Bounds atoms d (t ∷ es) e
   pub cases-hold : CasesHold

@@ -10,8 +10,8 @@ use Rattle.lists.specs.Member.{All}
 use Rattle.search.specs.Ground.{Ground, Model, Marked, Found}
 use Rattle.search.specs.Relevancy.{findR}
 use Rattle.search.specs.Magic.{rewriting, findM}
-use Rattle.search.specs.Deepest.{Bounds}
-use Rattle.search.specs.Machine.{Place, Outcome, Satisfied, Exhausted, entries, trail, proceed, outcome}
+use Rattle.search.specs.Deepest.{Exact, Bounds}
+use Rattle.search.specs.Machine.{Place, Outcome, Satisfied, Exhausted, root, entries, trail, proceed, outcome}
 use Rattle.search.specs.Session.{Session, placeOf, sessionAfter, firstSession, Called, declined, told, called}
 use Rattle.search.specs.Trails.{SameFacts}
 
@@ -60,8 +60,10 @@ module _ {I : Type 0} (k : Key I) (p : Ground I) where
     pub finished-again : ((n : ℕ) → (afterCalls calls (firstKept magic limit)) .answered ≡ Exhausted n → ⊥) → (by : Bool) (further : ℕ) (o : Outcome) (s : Session)
         → called (findBy k p by) (p .atoms) ((afterCalls calls (firstKept magic limit)) .session) further ≡ told o s
         → (o ≡ (afterCalls calls (firstKept magic limit)) .answered) × (s ≡ (afterCalls calls (firstKept magic limit)) .session)
-    -- U2, over all calls: by the entries that either engine makes under that sum
+    -- U2 and U10, over all calls: by the entries that either engine makes under that sum
     pub deepest-bounds : (by : Bool) → Bounds (p .atoms) 0 (trail (findBy k p by) ((afterCalls calls (firstKept magic limit)) .sum)) ((afterCalls calls (firstKept magic limit)) .session .deepest)
+    pub deepest-exact : (by : Bool)
+        → Exact 0 (entries (findBy k p by) ((afterCalls calls (firstKept magic limit)) .sum) (root (findBy k p by))) ((afterCalls calls (firstKept magic limit)) .session .deepest)
 
   -- a session that stands at t, a first call with a further limit, and then these calls
   abbrev pub originAfter : Session → Place I → ℕ → List Call → Kept
@@ -75,9 +77,11 @@ module _ {I : Type 0} (k : Key I) (p : Ground I) where
     pub answer-is : (originAfter s t further calls) .answered ≡ proceed (findR p) ((originAfter s t further calls) .sum) (s .count) t
     pub session-is : (originAfter s t further calls) .session ≡ sessionAfter (findR p) ((originAfter s t further calls) .sum) (s .count) (s .deepest) t
     pub always-stands : (by : Bool) (more : ℕ) → called (findBy k p by) (p .atoms) ((originAfter s t further calls) .session) more ≡ declined 42 → ⊥
-    -- U2, over all calls, the figure brought counting: by the entries that either engine makes from t on under that sum
+    -- U2 and U10, over all calls, the figure brought counting: by the entries that either engine makes from t on under that sum
     pub deepest-bounds : (by : Bool)
         → Bounds (p .atoms) (s .deepest) (t ∷ entries (findBy k p by) ((originAfter s t further calls) .sum) t) ((originAfter s t further calls) .session .deepest)
+    pub deepest-exact : (by : Bool)
+        → Exact (s .deepest) (entries (findBy k p by) ((originAfter s t further calls) .sum) t) ((originAfter s t further calls) .session .deepest)
 
   -- Whatever a session holds: both engines take it to stand at the same place; from there on their trails are one, at every place of which the facts agree; what they say
   -- and leave is the same; and fits comes with a model

@@ -7,7 +7,7 @@ use mathlib.Core.Option.{some}
 use mathlib.Core.Path.{_≡_}
 use lib.ListN.{length, drop, getD}
 use Rattle.search.specs.Ground.{Found, closed, opened, split}
-use Rattle.search.specs.Deepest.{Bounds}
+use Rattle.search.specs.Deepest.{Exact, Bounds}
 use Rattle.search.specs.Machine.{Branch, Place, entered, nextPath, Outcome, Satisfied, Refuted, Exhausted, last, root, entries, proceed, Genuine}
 use Rattle.search.specs.Session.{Step, Standing, refuted, satisfied, exhausted, Session, altsFound, placeOf, stepsOf, sessionAfter, declined, told, called}
 
@@ -74,6 +74,8 @@ module _ {I : Type 0} (find : List ℕ → Found I) where
     pub satisfied-last : left .standing ≡ satisfied → atomsOf (left .path) ≡ entered ((last t (entries find limit t)) .path)
     -- U2: the place where it begins holds its path too
     pub deepest-bounds : Bounds atoms brought (t ∷ entries find limit t) (left .deepest)
+    -- U10
+    pub deepest-exact : Exact brought (entries find limit t) (left .deepest)
 
   -- the place where a session stands: the entries of its path are the steps', and its node is the one found there, without the alternatives before the next one
   pub record StandsThere (s : Session) (place : Place I) : Type 0 where
