@@ -31,7 +31,7 @@ impl Table {
     }
 }
 
-const ENGINES: [Engine; 3] = [Engine::Relevancy, Engine::Magic, Engine::Optimised];
+const ENGINES: [Engine; 4] = [Engine::Relevancy, Engine::Magic, Engine::Faster, Engine::Optimised];
 
 pub fn tables() -> [Table; 3] {
     let puzzles = puzzles::all().iter().map(|puzzle| puzzle.name.to_string()).collect();

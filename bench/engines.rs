@@ -1,8 +1,9 @@
 //! The engines that are measured, each called in one way: the library's two; the tests' walk, which repeats passes over
-//! all instances at each node; and the one in Rust made for speed. The library's times have checking the table and
+//! all instances at each node; and two in Rust made for speed. The library's times have checking the table and
 //! rewriting in them, the others' have grounding.
 #![allow(dead_code)] // each program uses its own part
 
+use crate::faster;
 use crate::grounded;
 use crate::library;
 use crate::reference::{self, Ticket, ANSWER, RULES, WORK};
@@ -14,15 +15,16 @@ pub enum Engine {
     Relevancy,
     Magic,
     Straightforward,
+    Faster,
     Optimised,
 }
 
 impl Engine {
     pub const LIBRARY: [Engine; 2] = [Engine::Relevancy, Engine::Magic];
-    pub const ALL: [Engine; 4] = [Engine::Relevancy, Engine::Magic, Engine::Straightforward, Engine::Optimised];
+    pub const ALL: [Engine; 5] = [Engine::Relevancy, Engine::Magic, Engine::Straightforward, Engine::Faster, Engine::Optimised];
 
     pub fn name(self) -> &'static str {
-        ["relevancy", "magic", "straightforward", "optimised"][self as usize]
+        ["relevancy", "magic", "straightforward", "faster", "optimised"][self as usize]
     }
 }
 
@@ -48,6 +50,7 @@ impl Lent<'_> {
             Engine::Relevancy => timed(|| library::fit_relevancy(table, answer, work)),
             Engine::Magic => timed(|| library::fit_magic(table, rules, answer, work)),
             Engine::Straightforward => return timed(|| walk(&Relevancy::new(ticket), u32::from_be_bytes(ticket.limit), &mut |_, _| {})),
+            Engine::Faster => return timed(|| faster::fit(ticket)),
             Engine::Optimised => return timed(|| grounded::fit(ticket)),
         };
         (outcome(given, &answer[..ticket.atoms() as usize]), took)

@@ -2,6 +2,7 @@
 //! Usage: fit [--svg FILE].
 mod drawing;
 mod engines;
+mod faster;
 mod grounded;
 #[path = "../tests/library.rs"]
 mod library;

@@ -6,6 +6,7 @@ mod callgrind;
 mod calls;
 mod counts;
 mod engines;
+mod faster;
 mod grounded;
 mod judger;
 #[path = "../tests/library.rs"]

@@ -20,7 +20,7 @@ pub struct Measured {
     pub instances: u64,
     pub outcome: Outcome,
     /// of each engine's quickest call, in the order of `Engine::ALL`
-    nanoseconds: [f64; 4],
+    nanoseconds: [f64; 5],
 }
 
 /// Each round goes through all puzzles, so that a while in which the machine is slow is in a round of few of them.
@@ -42,7 +42,7 @@ impl Measured {
         let Puzzle { family, name, ticket } = puzzle;
         assert!(reference::read(&reference::print(ticket)).is_ok(), "{name} is refused");
         let instances = ticket.clauses.iter().map(|clause| ticket.instances(clause)).sum();
-        Measured { family, name, instances, outcome: grounded::fit(ticket), nanoseconds: [f64::MAX; 4] }
+        Measured { family, name, instances, outcome: grounded::fit(ticket), nanoseconds: [f64::MAX; 5] }
     }
 
     /// Each engine has a turn.
