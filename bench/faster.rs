@@ -3,6 +3,7 @@
 //! second measure.
 
 mod atoms;
+mod bits;
 mod consequences;
 mod facts;
 mod fates;

@@ -1,60 +1,58 @@
 //! What the root decides for good about each fact, so that it is not looked at again below.
 
-use super::facts::{Facts, ROOM};
+use super::bits::Bits;
+use super::facts::Facts;
 use super::pattern::{Kind, Pattern};
 use super::rules::Rules;
 
-#[derive(Clone, Copy, Debug, PartialEq)]
-pub enum Fate {
-    /// true nowhere
-    Never,
-    /// true somewhere below the root, perhaps
-    Open,
-    /// true at the root, and so everywhere
-    Always,
-}
-
 pub struct Fates {
-    of: Box<[Fate; ROOM]>,
-    /// whether it is wanted at the root, or makes no difference to what can be split
-    settled: Box<[bool; ROOM]>,
-    /// the predicates with atoms that are not settled, a bit for each
-    pub unsettled: u64,
+    /// what is true at the root, and so everywhere
+    always: Bits,
+    /// what else may be true below it
+    open: Bits,
+    /// what is not wanted at the root, and makes a difference to what can be split
+    unsettled: Bits,
+    /// the predicates of such atoms, a bit for each
+    pub unsettled_predicates: u64,
 }
 
 impl Fates {
     pub fn of(rules: &Rules, truth: &Facts, wanted: &Facts) -> Fates {
-        let of = vec![Fate::Never; ROOM].try_into().expect("as many");
-        let mut fates = Fates { of, settled: vec![true; ROOM].try_into().expect("as many"), unsettled: 0 };
+        let mut fates = Fates { always: Bits::NONE, open: Bits::NONE, unsettled: Bits::NONE, unsettled_predicates: 0 };
+        truth.each().for_each(|fact| fates.always.put(fact));
         let (open, matters) = (reached(rules, |pattern| pattern.kind == Kind::Gives), reached(rules, |_| true));
-        for (predicate, ends) in rules.atoms.firsts.windows(2).enumerate() {
-            if open >> predicate & 1 == 1 {
-                fates.of[ends[0] as usize..ends[1] as usize].fill(Fate::Open);
-            }
-            if matters >> predicate & 1 == 1 {
-                fates.settle(predicate, ends[0]..ends[1], wanted);
+        for (predicate, ends) in rules.atoms.firsts.windows(2).enumerate().filter(|(predicate, _)| (open | matters) >> predicate & 1 == 1) {
+            for atom in ends[0]..ends[1] {
+                if open >> predicate & 1 == 1 && !truth.holds(atom) {
+                    fates.open.put(atom);
+                }
+                if matters >> predicate & 1 == 1 && !wanted.holds(atom) {
+                    fates.unsettled.put(atom);
+                    fates.unsettled_predicates |= 1 << predicate;
+                }
             }
         }
-        fates.of[rules.atoms.falsity as usize] = Fate::Open;
-        truth.each().for_each(|fact| fates.of[fact as usize] = Fate::Always);
         fates
     }
 
-    fn settle(&mut self, predicate: usize, atoms: std::ops::Range<u16>, wanted: &Facts) {
-        for atom in atoms {
-            self.settled[atom as usize] = wanted.holds(atom);
-            self.unsettled |= (!wanted.holds(atom) as u64) << predicate;
-        }
+    #[inline]
+    pub fn is_always(&self, fact: u16) -> bool {
+        self.always.hold(fact)
     }
 
     #[inline]
-    pub fn fate(&self, fact: u16) -> Fate {
-        self.of[fact as usize % ROOM]
+    pub fn is_open(&self, fact: u16) -> bool {
+        self.open.hold(fact)
     }
 
     #[inline]
-    pub fn is_settled(&self, fact: u16) -> bool {
-        self.settled[fact as usize % ROOM]
+    pub fn is_never(&self, fact: u16) -> bool {
+        !self.is_open(fact) && !self.is_always(fact)
+    }
+
+    #[inline]
+    pub fn is_unsettled(&self, fact: u16) -> bool {
+        self.unsettled.hold(fact)
     }
 }
 

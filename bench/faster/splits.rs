@@ -57,7 +57,7 @@ impl Splits {
                 bits = *self.active.get(word)?;
             }
             let order = (word * 64) as u16 + bits.trailing_zeros() as u16;
-            if !truth.holds_any(self.alternatives(order)) {
+            if !truth.hold_any(self.alternatives(order)) {
                 self.floor = order;
                 return Some(order);
             }
