@@ -7,6 +7,7 @@ use crate::means::Ratios;
 use crate::puzzles::Puzzle;
 use crate::reference::{self, Ticket};
 use crate::summary::Row;
+use crate::timing::checked;
 use crate::walk::Outcome;
 
 /// How often each engine has a turn with a puzzle, and for how many nanoseconds at least. Of all calls the quickest count.
@@ -60,12 +61,8 @@ impl Measured {
                 assert!(found == self.outcome, "{}, {}: {found:?}, expected {:?}", self.name, engine.name(), self.outcome);
                 took
             });
-            if !(quickest.is_finite() && quickest > 0.0) {
-                eprintln!("{}, {}: a call took {quickest} ns by the clock, which can not be: nothing is measured", self.name, engine.name());
-                std::process::exit(1);
-            }
             let best = &mut self.nanoseconds[*engine as usize];
-            *best = best.min(quickest);
+            *best = best.min(checked(quickest, &format!("{}, {}", self.name, engine.name())));
         }
     }
 
