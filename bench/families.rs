@@ -24,9 +24,9 @@ pub const SEED: u64 = 20;
 
 /// The entries of a walk, each with all conditions of all instances, are about as many as this, so that counting its
 /// instructions takes seconds.
-const WORK: u64 = 8_000_000;
-const LEAST_ENTRIES: u64 = 200;
-const MOST_ENTRIES: u64 = 4_000;
+const WORK: u64 = 12_000_000;
+const LEAST_ENTRIES: u64 = 300;
+const MOST_ENTRIES: u64 = 3_000;
 
 struct Family {
     name: &'static str,
