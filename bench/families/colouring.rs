@@ -16,10 +16,9 @@ pub fn draw(random: &mut Random, _: usize) -> Ticket {
     let by_predicates = random.once_in(2);
     let points = random.within(least, if by_predicates { most } else { most.min(17) });
     let many = points * edges * random.within(80, 110) / 10_000;
-    let edges: Vec<Clause> = pairs(random, points as u8, many).into_iter().map(|(x, y)| fact(Atom::new(EDGE, &[x, y]))).collect();
-    let (mut clauses, arities) = if by_predicates { (by_predicates_of(colours), [&[2][..], &vec![1; colours as usize]].concat()) } else { (by_constants(colours), vec![2, 2]) };
-    clauses.extend(edges);
-    Ticket { constants: points as u8, limit: [0; 4], arities, clauses }
+    let edges = pairs(random, points as u8, many).into_iter().map(|(x, y)| fact(Atom::new(EDGE, &[x, y])));
+    let (clauses, arities) = if by_predicates { by_predicates_of(colours) } else { by_constants(colours) };
+    Ticket { constants: points as u8, limit: [0; 4], arities, clauses: clauses.into_iter().chain(edges).collect() }
 }
 
 fn edge() -> Atom {
@@ -32,16 +31,17 @@ fn coloured(colours: u8, colour: impl Fn(u8, u8) -> Atom) -> Vec<Clause> {
     vec![end(X), end(Y)]
 }
 
-fn by_predicates_of(colours: u8) -> Vec<Clause> {
+/// The clauses but for the edges, and the arities.
+fn by_predicates_of(colours: u8) -> (Vec<Clause>, Vec<u8>) {
     let colour = |end: u8, k: u8| Atom::new(COLOUR + k, &[end]);
     let mut clauses = coloured(colours, colour);
     clauses.extend((0..colours).map(|k| denial(&[edge(), colour(X, k), colour(Y, k)])));
-    clauses
+    (clauses, [&[2][..], &vec![1; colours as usize]].concat())
 }
 
-fn by_constants(colours: u8) -> Vec<Clause> {
+fn by_constants(colours: u8) -> (Vec<Clause>, Vec<u8>) {
     let colour = |end: u8, k: u8| Atom::new(COLOUR, &[end, k]);
     let mut clauses = coloured(colours, colour);
     clauses.push(denial(&[edge(), colour(X, Z), colour(Y, Z)]));
-    clauses
+    (clauses, vec![2, 2])
 }
