@@ -1,5 +1,6 @@
-//! The engine made for speed makes the walk of document 01: on random tickets, small and large, and under limits around
-//! the count, its verdict, count, longest path and fitting are those of the tests' independent walk. Usage: agree [NUMBER OF SMALL TICKETS].
+//! The engines made for speed make the walk of document 01: on random tickets, small and large, and under limits around
+//! the count, their verdict, count, longest path and fitting are those of the tests' independent walk. Usage: agree [NUMBER OF SMALL TICKETS].
+mod faster;
 mod grounded;
 #[allow(dead_code)] // the tests use the whole of it
 #[path = "../tests/large.rs"]
@@ -28,7 +29,9 @@ use mix::Mix;
 use reference::Ticket;
 use report::{same, Report};
 use threads::{Run, Tally};
-use walk::{Relevancy, Whole};
+use walk::{Outcome, Relevancy, Whole};
+
+const ENGINES: [(&str, fn(&Ticket) -> Outcome); 2] = [("optimised", grounded::fit), ("faster", faster::fit)];
 
 const TICKETS: u64 = 10_000;
 
@@ -65,9 +68,12 @@ fn agrees(ticket: &Ticket, cut: u32, met: &mut Mix) -> Result<(), Report> {
     let count = whole.outcome.count;
     for limit in [cut, count, count.saturating_sub(1), 0] {
         let ticket = Ticket { limit: limit.to_be_bytes(), ..ticket.clone() };
-        let found = grounded::fit(&ticket);
-        met.limited(found.verdict);
-        same("outcome", whole.under(limit), found).map_err(|report| format!("{report}\n{}", String::from_utf8_lossy(&reference::print(&ticket))))?;
+        let expected = whole.under(limit);
+        met.limited(expected.verdict);
+        for (name, fit) in ENGINES {
+            let found = fit(&ticket);
+            same(name, expected.clone(), found).map_err(|report| format!("{report}\n{}", String::from_utf8_lossy(&reference::print(&ticket))))?;
+        }
     }
     Ok(())
 }

@@ -2,9 +2,22 @@
 
 use std::env::current_exe;
 use std::process::Command;
+use std::sync::atomic::{AtomicUsize, Ordering};
+use std::thread::{available_parallelism, scope};
 
-/// The instructions that this program, run anew with these arguments, executes within `timing::counted`.
-pub fn count(arguments: &[&str]) -> u64 {
+/// The instructions that this program, run anew with each of these lists of arguments, executes within `timing::counted`. As many runs go
+/// on together as the machine has processors: a count does not change by that.
+pub fn count_each(runs: &[Vec<&str>]) -> Vec<u64> {
+    let next = AtomicUsize::new(0);
+    let take = || std::iter::from_fn(|| runs.get(next.fetch_add(1, Ordering::Relaxed)).map(|run| (run, count(run)))).collect::<Vec<_>>();
+    let taken: Vec<(&Vec<&str>, u64)> = scope(|scope| {
+        let threads: Vec<_> = (0..available_parallelism().map_or(1, usize::from)).map(|_| scope.spawn(take)).collect();
+        threads.into_iter().flat_map(|thread| thread.join().expect("a count")).collect()
+    });
+    runs.iter().map(|run| taken.iter().find(|(other, _)| std::ptr::eq(*other, run)).expect("each has its count").1).collect()
+}
+
+fn count(arguments: &[&str]) -> u64 {
     let program = current_exe().expect("this program");
     let ran = Command::new("valgrind")
         .args(["--tool=callgrind", "--toggle-collect=*timing*counted*", "--callgrind-out-file=/dev/null"])

@@ -1,8 +1,8 @@
-//! What was measured, as an SVG drawing: for each puzzle the library's two engines as bars on a log scale, on the left
-//! against the engine made for speed, on the right against the straightforward one.
+//! Ratios as an SVG drawing: for each ticket the library's two engines as bars on a log scale, on the left over the optimised
+//! engine, on the right over the faster one. However large or small a ratio is, the drawing is as wide.
 
 use crate::engines::Engine;
-use crate::measured::{self, Measured, MANY};
+use crate::summary::{column, Row};
 
 const COLOURS: [&str; 2] = ["#4477aa", "#ee7733"];
 
@@ -14,12 +14,9 @@ const TOP: f64 = 92.0;
 const ROW: f64 = 30.0;
 const BAR: f64 = 11.0;
 
-/// A line of the drawing: in each panel a ratio for each of the library's engines.
-struct Row {
-    name: String,
-    is_mean: bool,
-    ratios: [[f64; 2]; 2],
-}
+/// The powers of ten that a panel reaches at the most; a bar beyond them is cut.
+const LOWEST: f64 = -3.0;
+const HIGHEST: f64 = 5.0;
 
 /// A log scale from one power of ten to another, with 1 on it.
 struct Panel {
@@ -29,19 +26,19 @@ struct Panel {
     high: i32,
 }
 
-pub fn of(all: &[Measured]) -> String {
-    let rows = rows(all);
+pub fn of(rows: &[Row]) -> String {
+    let mean = Row { family: "", name: "geometric mean of all".to_string(), ratios: [0, 1, 2, 3].map(|i| column(rows, i).geometric_mean()) };
+    let rows: Vec<&Row> = rows.iter().chain([&mean]).collect();
     let bottom = TOP + ROW * rows.len() as f64;
-    let titles = ["time over the optimised engine's (short is good)", "straightforward engine's time over it (long is good)"];
-    let panels = [0, 1].map(|i| Panel::new(NAMES + i as f64 * (PANEL + GAP), titles[i], rows.iter().flat_map(|row| row.ratios[i])));
+    let titles = ["time over the optimised engine's (short is good)", "time over the faster engine's (short is good)"];
+    let panels = [0, 1].map(|i| Panel::new(NAMES + i as f64 * (PANEL + GAP), titles[i], rows.iter().flat_map(|row| row.ratios[2 * i..][..2].to_vec())));
     let mut svg = opening(bottom + 44.0);
     svg += &legend();
     panels.iter().for_each(|panel| svg += &panel.axis(bottom));
     for (i, row) in rows.iter().enumerate() {
-        svg += &row.drawn(TOP + ROW * i as f64, &panels);
+        svg += &drawn(row, TOP + ROW * i as f64, &panels);
     }
-    let large = format!("large: more than {MANY} instances and more than {MANY} entries");
-    svg + &text(16.0, bottom + 34.0, "start", &large) + "</svg>\n"
+    svg + "</svg>\n"
 }
 
 /// A white sheet of this height.
@@ -65,42 +62,23 @@ fn text(x: f64, y: f64, anchor: &str, words: &str) -> String {
     format!("<text x=\"{x:.1}\" y=\"{y:.1}\" text-anchor=\"{anchor}\">{words}</text>\n")
 }
 
-/// One for each puzzle, then the geometric means: of all, and of the large ones.
-fn rows(all: &[Measured]) -> Vec<Row> {
-    let ratios = |ratio: &dyn Fn(Engine, Engine) -> f64| {
-        [Engine::LIBRARY.map(|engine| ratio(engine, Engine::Optimised)), Engine::LIBRARY.map(|engine| ratio(Engine::Straightforward, engine))]
-    };
-    let mut rows: Vec<Row> = all
-        .iter()
-        .map(|measured| Row { name: measured.name.to_string(), is_mean: false, ratios: ratios(&|one, other| measured.ratio(one, other)) })
-        .collect();
-    let large: Vec<&Measured> = all.iter().filter(|measured| measured.is_large()).collect();
-    for (name, of) in [("geometric mean of all", all.iter().collect()), ("geometric mean of the large ones", large)] {
-        let mean = |one, other| measured::ratios(of.iter().copied(), one, other).geometric_mean();
-        rows.push(Row { name: name.to_string(), is_mean: true, ratios: ratios(&mean) });
-    }
-    rows
-}
-
-impl Row {
-    fn drawn(&self, y: f64, panels: &[Panel; 2]) -> String {
-        let weight = if self.is_mean { "bold" } else { "normal" };
-        let name = text(NAMES - 12.0, y + ROW / 2.0 + 2.0, "end", &self.name);
-        let bar = |panel: usize, i: usize| panels[panel].bar(y + 3.0 + BAR * i as f64, self.ratios[panel][i], COLOURS[i]);
-        format!("<g font-weight=\"{weight}\">\n{name}{}{}{}{}</g>\n", bar(0, 0), bar(0, 1), bar(1, 0), bar(1, 1))
-    }
+fn drawn(row: &Row, y: f64, panels: &[Panel; 2]) -> String {
+    let weight = if row.family.is_empty() { "bold" } else { "normal" };
+    let name = text(NAMES - 12.0, y + ROW / 2.0 + 2.0, "end", &row.name);
+    let bar = |i: usize| panels[i / 2].bar(y + 3.0 + BAR * (i % 2) as f64, row.ratios[i], COLOURS[i % 2]);
+    format!("<g font-weight=\"{weight}\">\n{name}{}</g>\n", [0, 1, 2, 3].map(bar).concat())
 }
 
 impl Panel {
     fn new(left: f64, title: &'static str, ratios: impl Iterator<Item = f64>) -> Panel {
-        let logs: Vec<f64> = ratios.map(f64::log10).collect();
+        let logs: Vec<f64> = ratios.map(|ratio| ratio.log10().clamp(LOWEST, HIGHEST)).collect();
         let low = logs.iter().copied().fold(0.0, f64::min).floor() as i32;
         let high = logs.iter().copied().fold(1.0, f64::max).ceil() as i32;
         Panel { left, title, low, high }
     }
 
     fn x(&self, ratio: f64) -> f64 {
-        self.left + PANEL * (ratio.log10() - self.low as f64) / (self.high - self.low) as f64
+        self.left + PANEL * (ratio.log10().clamp(self.low as f64, self.high as f64) - self.low as f64) / (self.high - self.low) as f64
     }
 
     /// The title, and a line for each power of ten; the one at 1 is darker.

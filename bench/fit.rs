@@ -1,36 +1,27 @@
-//! How long fitting takes: the puzzles by all engines, as tables, and as a drawing where one is asked for.
-//! Usage: fit [--svg FILE].
+//! How long fitting takes: the puzzles by all engines, tickets drawn by seed by all but the slowest, as tables, and as a
+//! drawing where one is asked for. Usage: fit [--svg FILE] [--seed N].
 mod drawing;
-mod engines;
-mod grounded;
-#[path = "../tests/library.rs"]
-mod library;
-#[path = "../tests/logic.rs"]
-mod logic;
-mod means;
 mod measured;
-mod puzzles;
-#[path = "../tests/random.rs"]
-mod random;
-#[path = "../tests/reference.rs"]
-mod reference;
 mod table;
-#[path = "../tests/tickets.rs"]
-mod tickets;
-mod timing;
-#[path = "../tests/walk.rs"]
-mod walk;
+include!("modules.rs");
+
+use engines::Engine;
+use options::Options;
+use summary::Row;
 
 fn main() {
-    let arguments: Vec<String> = std::env::args().skip(1).collect();
-    let file = match arguments.iter().map(String::as_str).collect::<Vec<_>>()[..] {
-        [] => None,
-        ["--svg", file] => Some(file),
-        _ => panic!("usage: fit [--svg FILE]"),
-    };
-    let all = measured::all(&puzzles::all());
-    table::print(&all);
-    if let Some(file) = file {
-        std::fs::write(file, drawing::of(&all)).expect("the drawing's file");
+    let options = Options::read(&["--svg", "--seed"]);
+    let puzzles = measured::all(&puzzles::all(), &Engine::ALL);
+    table::print(&puzzles, &Engine::ALL);
+    table::means(&puzzles);
+    table::growth(&puzzles);
+    println!("drawn by seed {}", options.seed());
+    let drawn = measured::all(&families::drawn(options.seed()), &Engine::QUICK);
+    table::print(&drawn, &Engine::QUICK);
+    let rows: Vec<Row> = puzzles.iter().chain(&drawn).map(|measured| measured.row()).collect();
+    summary::print("times", &rows);
+    asked::print(&rows);
+    if let Some(file) = options.get("--svg") {
+        std::fs::write(file, drawing::of(&rows)).expect("the drawing's file");
     }
 }

@@ -2,23 +2,26 @@
 #![allow(dead_code)] // each program uses its own part
 
 mod chain;
-mod channel;
+pub mod channel;
 mod colouring;
-mod latin;
-mod pigeons;
+pub mod latin;
+pub mod pigeons;
 
-use crate::reference::{Atom, Clause, Ticket};
+use crate::reference::{self, Atom, Clause, Ticket};
 use crate::tickets;
+
+/// The first ticket that document 01 works through.
+pub const K1: &str = "K1";
 
 pub struct Puzzle {
     pub family: &'static str,
-    pub name: &'static str,
+    pub name: String,
     pub ticket: Ticket,
 }
 
 /// The members of a family follow one another.
 pub fn all() -> Vec<Puzzle> {
-    let puzzle = |family, name, ticket| Puzzle { family, name, ticket };
+    let puzzle = |family, name: &str, ticket| Puzzle { family, name: name.to_string(), ticket };
     vec![
         puzzle("pigeons", "6 pigeons in 5 holes", pigeons::ground(6)),
         puzzle("pigeons", "7 pigeons in 6 holes", pigeons::ground(7)),
@@ -30,8 +33,8 @@ pub fn all() -> Vec<Puzzle> {
         puzzle("colouring", "3-colouring on 30 constants", colouring::points(false, u32::MAX)),
         puzzle("colouring", "a graph without a 3-colouring", colouring::points(true, 3000)),
         puzzle("triangles", "two colours and no triangle of one", colouring::no_triangle()),
-        puzzle("Latin squares", "a Latin square of order 5", latin::square(5, u32::MAX)),
-        puzzle("Latin squares", "a Latin square of order 6", latin::square(6, 5000)),
+        puzzle("Latin squares", "a Latin square of order 5", latin::square(5, &[[0, 4, 4]], u32::MAX)),
+        puzzle("Latin squares", "a Latin square of order 6", latin::square(6, &[[0, 5, 5]], 5000)),
         puzzle("Horn chains", "a reversed Horn chain of 256 steps", chain::reversed(16)),
         puzzle("Horn chains", "a reversed Horn chain of 1,024 steps", chain::reversed(32)),
         puzzle("deep paths", "a path of 100 entries", tickets::deep(32, 1, 100)),
@@ -39,31 +42,32 @@ pub fn all() -> Vec<Puzzle> {
         puzzle("channel routing", "a channel of 6 nets", channel::routing(6, 4)),
         puzzle("channel routing", "a channel of 8 nets", channel::routing(8, 4)),
         puzzle("channel routing", "a channel of 10 nets", channel::routing(10, 4)),
+        puzzle("one microsecond", K1, reference::read(include_bytes!("../crates/cases/data/K1.text")).expect("K1 is accepted")),
     ]
 }
 
 /// Walks of some 100,000 entries, whose paths stay below 100: short ones, and such as are nearly that long.
 pub fn in_slices() -> Vec<Puzzle> {
-    let puzzle = |family, name, ticket| Puzzle { family, name, ticket };
+    let puzzle = |family, name: &str, ticket| Puzzle { family, name: name.to_string(), ticket };
     vec![
         puzzle("pigeons", "8 pigeons in 7 holes", pigeons::ground(8)),
         puzzle("pigeons", "6 pigeons below 81 entries", pigeons::below_a_path(6, 9, 100_000)),
     ]
 }
 
-const X: u8 = 0x80;
-const Y: u8 = 0x81;
-const Z: u8 = 0x82;
+pub const X: u8 = 0x80;
+pub const Y: u8 = 0x81;
+pub const Z: u8 = 0x82;
 
-fn fact(atom: Atom) -> Clause {
+pub fn fact(atom: Atom) -> Clause {
     Clause::new(&[], &[atom])
 }
 
-fn denial(conditions: &[Atom]) -> Clause {
+pub fn denial(conditions: &[Atom]) -> Clause {
     Clause::new(conditions, &[])
 }
 
 /// A fact for each pair of constants from `least` on and below `end`, the smaller one first.
-fn pairs(predicate: u8, least: u8, end: u8) -> Vec<Clause> {
+pub fn pairs(predicate: u8, least: u8, end: u8) -> Vec<Clause> {
     (least..end).flat_map(|y| (least..y).map(move |x| fact(Atom::new(predicate, &[x, y])))).collect()
 }

@@ -41,7 +41,7 @@ impl Walk {
     }
 
     fn in_one_go(&self) {
-        let (found, _) = Lent::new(&self.ticket).call(self.engine);
+        let (found, _) = Lent::new(&self.ticket).call(self.engine, 1);
         assert!(found == grounded::fit(&self.ticket), "{}: another end", self.name);
     }
 

@@ -45,13 +45,22 @@ pub fn time(calls: u32, answer: u64, mut call: impl FnMut() -> u64) -> f64 {
     took / calls as f64
 }
 
+/// A time that can be; the run ends with a message where the clock has shown none, or nothing was timed.
+pub fn checked(nanoseconds: f64, of: &str) -> f64 {
+    if !(nanoseconds.is_finite() && nanoseconds > 0.0) {
+        eprintln!("{of} took {nanoseconds} ns by the clock, which can not be: nothing is measured");
+        std::process::exit(1);
+    }
+    nanoseconds
+}
+
 /// The least that each gave in its turns. They take turns, so that each meets the same conditions.
 pub fn best<const N: usize>(mut turns: [&mut dyn FnMut() -> f64; N]) -> [f64; N] {
-    let mut best = [f64::MAX; N];
+    let mut best = [f64::INFINITY; N];
     for _ in 0..ROUNDS {
         for (best, turn) in best.iter_mut().zip(&mut turns) {
             *best = best.min(turn());
         }
     }
-    best
+    best.map(|best| checked(best, "a call"))
 }

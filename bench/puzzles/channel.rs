@@ -14,17 +14,25 @@ const ABOVE: u8 = 5;
 
 const TRACKS: u8 = 3;
 
+/// Two nets, the first one first.
+pub type Pair = (u8, u8);
+
 /// Each net meets the `reach` nets after it, and is above the last of them.
 pub fn routing(nets: u8, reach: u8) -> Ticket {
+    let meeting: Vec<Pair> = (0..nets).flat_map(|net| (net + 1..nets.min(net + 1 + reach)).map(move |other| (net, other))).collect();
+    let ordered: Vec<Pair> = (reach..nets).map(|net| (net - reach, net)).collect();
+    with(nets, &meeting, &ordered)
+}
+
+/// With these pairs meeting, and of these the first above the second.
+pub fn with(nets: u8, meeting: &[Pair], ordered: &[Pair]) -> Ticket {
     let mut clauses = vec![Clause::new(&[Atom::new(NET, &[X])], &LAYERS.map(|layer| Atom::new(layer, &[X])))];
     clauses.extend([0, 1].map(in_layer));
     clauses.push(denial(&[on(X, Y), on(Z, Y), Atom::new(MEET, &[X, Z])]));
     clauses.extend([0, 1].into_iter().flat_map(out_of_order));
     clauses.extend((0..nets).map(|net| fact(Atom::new(NET, &[net]))));
-    for net in 0..nets {
-        clauses.extend((net + 1..nets.min(net + 1 + reach)).map(|other| fact(Atom::new(MEET, &[net, other]))));
-    }
-    clauses.extend((reach..nets).map(|net| fact(Atom::new(ABOVE, &[net - reach, net]))));
+    clauses.extend(meeting.iter().map(|(net, other)| fact(Atom::new(MEET, &[*net, *other]))));
+    clauses.extend(ordered.iter().map(|(net, other)| fact(Atom::new(ABOVE, &[*net, *other]))));
     Ticket { constants: nets.max(2 * TRACKS), limit: [0xFF; 4], arities: vec![1, 1, 1, 2, 2, 2], clauses }
 }
 

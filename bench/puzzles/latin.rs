@@ -3,9 +3,12 @@
 use super::{denial, fact, pairs, X, Y, Z};
 use crate::reference::{Atom, Clause, Ticket};
 
-/// Of an order from 5 to 7, with the last cell given. A cell has one of the values 0 to 2 or a further one, which is one
+/// A value, its row and its column.
+pub type Hint = [u8; 3];
+
+/// Of an order from 5 to 7, with some cells given. A cell has one of the values 0 to 2 or a further one, which is one
 /// of the rest; no value comes twice in a row or in a column. The first predicates are the values, by row and column.
-pub fn square(order: u8, limit: u32) -> Ticket {
+pub fn square(order: u8, hints: &[Hint], limit: u32) -> Ticket {
     let (further, less, line) = (order, order + 1, order + 2);
     let value = |value: u8, row: u8, column: u8| Atom::new(value, &[row, column]);
     let mut clauses = pairs(less, 0, order);
@@ -18,7 +21,7 @@ pub fn square(order: u8, limit: u32) -> Ticket {
         clauses.push(denial(&[value(k, X, Y), value(k, X, Z), Atom::new(less, &[Y, Z])]));
         clauses.push(denial(&[value(k, X, Y), value(k, Z, Y), Atom::new(less, &[X, Z])]));
     }
-    clauses.push(fact(value(0, order - 1, order - 1)));
+    clauses.extend(hints.iter().map(|[given, row, column]| fact(value(*given, *row, *column))));
     let mut arities = vec![2; order as usize + 2];
     arities.push(1);
     Ticket { constants: order, limit: limit.to_be_bytes(), arities, clauses }
