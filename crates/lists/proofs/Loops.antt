@@ -1,6 +1,6 @@
 -- The steps of the byte loops, over lists.
 use Prim.Native.Nat.{ℕ, suc, _+_, _≤_, _<_}
-use mathlib.Core.Bool.{Bool, true, false, _&&_}
+use mathlib.Core.Bool.{Bool, false, _&&_, and-true, and-false}
 use mathlib.Core.List.{List, [], _∷_, _++_, append-assoc}
 use mathlib.Core.Path.{_≡_, refl, sym, ap, _∙_}
 use native.Mathlib.Numerals.{add-one}
@@ -25,18 +25,15 @@ pub same-apart : (a b : List ℕ) → (length a ≡ length b → ⊥) → sameLi
 same-apart [] [] h = absurd (h refl)
 same-apart [] (y ∷ b) h = refl
 same-apart (x ∷ a) [] h = refl
-same-apart (x ∷ a) (y ∷ b) h = rw (same-apart a b (λ e. h (ap suc e))) (go (eqb x y))
-  where
-    go : (t : Bool) → (t && false) ≡ false
-    go true = refl
-    go false = refl
+same-apart (x ∷ a) (y ∷ b) h = rw (same-apart a b (λ e. h (ap suc e))) (and-false (eqb x y))
 
-module _ (a b : List ℕ) (i : ℕ) (ha : i < length a) (hb : i < length b) where
-  pub same-more : getD a i 0 ≡ getD b i 0 → sameList (drop i a) (drop i b) ≡ sameList (drop (i + 1) a) (drop (i + 1) b)
-  same-more e = rw (drop-cons a i 0, drop-cons b i 0, eq-eqb (getD a i 0) (getD b i 0) e, add-one)
+-- a turn keeps what the bytes passed and the rest decide together
+module _ (a b : List ℕ) (i : ℕ) (ha : i < length a) (hb : i < length b) (all now : Bool) where
+  pub same-more : getD a i 0 ≡ getD b i 0 → now ≡ all → (all && sameList (drop i a) (drop i b)) ≡ (now && sameList (drop (i + 1) a) (drop (i + 1) b))
+  same-more e s = rw (s, drop-cons a i 0, drop-cons b i 0, eq-eqb (getD a i 0) (getD b i 0) e, add-one)
 
-  pub same-differs : (getD a i 0 ≡ getD b i 0 → ⊥) → sameList (drop i a) (drop i b) ≡ false
-  same-differs n = rw (drop-cons a i 0, drop-cons b i 0, ne-eqb (getD a i 0) (getD b i 0) n)
+  pub same-differs : (getD a i 0 ≡ getD b i 0 → ⊥) → now ≡ false → (all && sameList (drop i a) (drop i b)) ≡ (now && sameList (drop (i + 1) a) (drop (i + 1) b))
+  same-differs n s = rw (s, drop-cons a i 0, drop-cons b i 0, ne-eqb (getD a i 0) (getD b i 0) n) (and-false all)
 
-pub same-done : (a b : List ℕ) (i : ℕ) → i ≡ length a → length a ≡ length b → sameList (drop i a) (drop i b) ≡ true
-same-done a b i e l = rw (e, drop-length a, l, drop-length b)
+pub same-done : (a b : List ℕ) (i : ℕ) (all : Bool) → i ≡ length a → length a ≡ length b → (all && sameList (drop i a) (drop i b)) ≡ all
+same-done a b i all e l = rw (e, drop-length a, l, drop-length b) (and-true all)

@@ -17,21 +17,22 @@ pub fn copy(dst: &mut [u8], src: &[u8])
     }
 }
 
-// Whether two slices hold the same bytes.
+// Whether two slices hold the same bytes. No byte ends the loop, so that many are compared at a time.
 pub fn same(a: &[u8], b: &[u8]) -> bool
     ensures { λ r. ⌜ r ≡ sameList (now (a .entry)) (now (b .entry)) ⌝ }
 {
     if a.len() != b.len() {
         return false;
     }
+    let mut all = true;
     let mut i: usize = 0;
     while i < a.len() {
         if a[i] != b[i] {
-            return false;
+            all = false;
         }
         i += 1;
     }
-    true
+    all
 }
 
 // Makes every byte 0.
