@@ -29,14 +29,14 @@ ghost use Rattle.session.specs.Calls.{verdictTold, recordLeft, answerLeft, work
 ghost use Rattle.magic.specs.Engine.{rulesOutcome, magicOutcome, magicResult, magicDeepest, magicRules, magicAnswer, magicWork};
 ghost use Rattle.magic.specs.Sessions.{magicBegun, magicResumed, rulesLeft};
 
-// The magic walk by the rules of a buffer from the root on, under a limit, in a buffer for its facts.
+// The magic walk by the rules of a buffer from the root on, under a limit, in a buffer for its facts: an empty set has its flags zero, the log may hold anything.
 fn decide(rules: &[u8], limit: u32, answer: &mut [u8], facts: &mut [u8]) -> Moved
     requires { ⌜ Ruled (now rules) ⌝ }
     requires { ⌜ (1024 ≤ length (now answer)) × (length (now facts) ≡ 55302) ⌝ }
     ensures { λ r. ⌜ (r .verdict ≡ verdictOf (rulesOutcome (now (rules .entry)) limit)) × (r .session ≡ laid (firstSession (findIn (now (rules .entry))) limit)) × (now (answer .exit) ≡ answerOf (rulesOutcome (now (rules .entry)) limit) (now (answer .entry))) ⌝ }
 {
     let index = build(rules);
-    lists::zero(facts);
+    lists::zero(&mut facts[..18434]);
     let mut path = [0u8; 9227];
     let found = root(rules, &index, facts, &mut path);
     let used = root_alternatives(rules, &path, found);

@@ -27,7 +27,7 @@ ghost use Rattle.session.specs.Calls.{verdictTold, recordLeft, answerLeft, work
 ghost use Rattle.relevancy.specs.Engine.{outcomeIn, fitResult, fitDeepest, fitAnswer, fitWork};
 ghost use Rattle.relevancy.specs.Sessions.{begun, resumed};
 
-// The walk of a valid table from the root on, under its own limit, in a buffer for its facts.
+// The walk of a valid table from the root on, under its own limit, in a buffer for its facts: an empty set has its flags zero, the log may hold anything.
 fn decide(table: &[u8], answer: &mut [u8], facts: &mut [u8]) -> Moved
     requires { ⌜ Lawful (now table) ⌝ }
     requires { ⌜ (1024 ≤ length (now answer)) × (length (now facts) ≡ 6150) ⌝ }
@@ -35,7 +35,7 @@ fn decide(table: &[u8], answer: &mut [u8], facts: &mut [u8]) -> Moved
 {
     let conds = build(table, false);
     let alts = build(table, true);
-    lists::zero(facts);
+    lists::zero(&mut facts[..2050]);
     let mut path = [0u8; 9227];
     let limit = limit_in(table);
     let found = root(table, &conds, &alts, facts, &mut path);

@@ -1,7 +1,7 @@
 -- The walk's steps: what visiting and trying say of the entries made, and what falls.
 use Prim.Native.Nat.{ℕ, zero, suc, _+_, _*_, _≤_, _<_}
 use mathlib.Core.Bool.{Bool, true, false, cond}
-use mathlib.Core.List.{List, [], _∷_}
+use mathlib.Core.List.{List, [], _∷_, _++_}
 use mathlib.Core.Logic.{inl, inr}
 use mathlib.Core.Option.{some}
 use mathlib.Core.Path.{_≡_, refl, sym, ap, subst, _∙_}
@@ -9,14 +9,17 @@ use native.Mathlib.Omega.{arith}
 use denote.Enum.Declared.{tagOf}
 use lib.Dec.{T, ltb}
 use borrow.Author.Tests.{ltb-true, ltb-false}
-use lib.ListN.{length, drop, getD, replicate, drop-of-length-le, length-replicate, getD-replicate}
+use lib.ListN.{length, take, drop, getD, replicate, drop-of-length-le, length-replicate, List·getD-append}
+use lib.Seq.{length-take-le}
 use Rattle.lists.specs.Key.{natKey}
 use Rattle.lists.specs.Member.{All, has, In}
+use Rattle.lists.proofs.Bytes.{zeros-at}
 use Rattle.search.specs.Ground.{Found, closed, opened, split}
 use Rattle.search.specs.Machine.{Branch, Place, entered, enter, back, placed, root}
 use types.Run.{OneOf}
 use Rattle.store.specs.contracts.Store.{Store, Undone, logged}
 use Rattle.store.proofs.Laws.{logged-grows}
+use Rattle.store.proofs.Lent.{put-size}
 use Rattle.walk.specs.contracts.Trail.{AtEntry}
 use Rattle.walk.specs.contracts.Walker.{Site, Walker, Run, fromRoot, Sound}
 use Rattle.walk.specs.contracts.Path.{nodeAt, nextAt, markAt, deepestAt, PathKept, siteAt, altsAt, entryAt, pathIn, nextIn}
@@ -268,16 +271,18 @@ left-as w facts path depth x y e = ap (visitsLeft w facts path depth) (sym e)
 
 -- ---- the whole walk
 
--- zeros are an empty set
-pub blank-store : (size : ℕ) (r : List ℕ) (n : ℕ) → n ≡ 3 * size → r ≡ replicate n 0 → Store size r 0
+-- a set is empty where no flag is up, whatever stands in the log's room
+pub blank-store : (size : ℕ) (r : List ℕ) → length r ≡ 3 * size → ((a : ℕ) → a < size → getD r a 0 ≡ 0) → Store size r 0
 unfolding logged
-blank-store size r n e z =
-    record {
-      room = ap length z ∙ length-replicate n 0 ∙ e;
-      small = tt;
-      distinct = tt;
-      flags = λ a l. ap (λ (x : List ℕ). getD x a 0) z ∙ getD-replicate n a 0 0 (omega arith);
-    }
+blank-store size r room zeros = record { room = room; small = tt; distinct = tt; flags = zeros }
+
+-- so it is where the flags alone, which come first, have been made zero
+pub cleared-store : (size : ℕ) (r flags : List ℕ) → length r ≡ 3 * size → flags ≡ replicate (length (take size r)) 0 → Store size (flags ++ drop size r) 0
+cleared-store size r flags room z =
+    let many : length (take size r) ≡ size = length-take-le size r (omega arith) in
+    let long : length flags ≡ size = ap length z ∙ length-replicate (length (take size r)) 0 ∙ many in
+    blank-store size (flags ++ drop size r) (put-size size (3 * size) (omega arith) r room flags long)
+    (λ a l. List·getD-append flags (drop size r) 0 a (omega arith) ∙ ap (λ (x : List ℕ). getD x a 0) z ∙ zeros-at (length (take size r)) a)
 
 -- the root that has just been made is where a run from it begins, which brings the figure that stands behind the path
 pub start-visiting : {I : Type 0} (w : Walker I) (limit : ℕ) (facts path : List ℕ) (x : Told) → Beginning w x facts path → Visiting w (fromRoot w (deepestAt path) limit) facts path 0 x 0

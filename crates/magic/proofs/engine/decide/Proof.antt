@@ -1,13 +1,16 @@
 -- `magic::engine::decide` meets its contract.
 use Prim.Native.Nat.{ℕ}
-use mathlib.Core.Path.{_≡_, refl, _∙_}
+use mathlib.Core.List.{_++_}
+use mathlib.Core.Path.{_≡_, refl, sym, _∙_}
 use native.Mathlib.Omega.{arith}
 use borrow.Author.Needs.{needs}
-use lib.ListN.{length, replicate, length-replicate}
+use lib.ListN.{length, take, drop, replicate, length-replicate}
+use lib.Seq.{length-take-le}
 use Rattle.lists.proofs.Bytes.{zeros-at}
+use Rattle.store.proofs.Lent.{put-size}
 use Rattle.walk.specs.contracts.Walker.{fromRoot}
 use Rattle.walk.specs.contracts.Path.{deepestAt}
-use Rattle.walk.proofs.WalkLaws.{blank-store}
+use Rattle.walk.proofs.WalkLaws.{cleared-store}
 use Rattle.magic_walk.specs.contracts.Place.{magicWalker}
 use Rattle.magic.proofs.EngineLaws.{first-run}
 use Rattle.magic.proofs.engine.decide.Statement.{statement}
@@ -17,17 +20,28 @@ use Rattle.magic.proofs.engine.decide.Tie as tie
 none-entered : deepestAt (replicate 9227 0) ≡ 0
 none-entered = omega (arith, zeros-at 9227 9225, zeros-at 9227 9226)
 
+-- the flags come first, and they alone are lent to be made zero
+flags : (s : tie.Start) → length (take 18434 (s .args .facts .now)) ≡ 18434
+flags s = length-take-le 18434 (s .args .facts .now) (omega (arith, s .pre .1 .1))
+
+room : (z : tie.After-zero) → length (z .zero .last .0 ++ drop 18434 (z .before .before .before .before .before .before .args .facts .now)) ≡ length (z .before .before .before .before .before .before .args .facts .now)
+room z =
+    let s = z .before .before .before .before .before .before in
+    put-size 18434 (length (s .args .facts .now)) (omega (arith, s .pre .1 .1)) (s .args .facts .now) refl (z .zero .last .0) (z .zero .kept .0 ∙ flags s)
+
 pub decide-spec : {M : Type 1} → statement M
 decide-spec =
     tie.close
     (tie.spec
     (λ c κs. search needs)  -- build-requires
+    (λ c. let s = c .before .before .before .before in omega (arith, s .pre .1 .1))  -- slice-relend-prefix-zero
+    (λ c. sym (flags (c .before .before .before .before .before)))  -- slice-aggregate-zero
     (λ c κs. search needs)  -- zero-requires
     (λ c. search needs)  -- slice-aggregate-root
     (λ c κs.
     let s = c .before .before .before .before .before .before .before .before .before .before .before in
     let z = c .before .before .before .before .before .zero in
-    (s .pre .0, ((c .before .before .before .before .before .before .before) .build .ensures, (blank-store 18434 (z .last .0) (length (s .args .facts .now)) (s .pre .1 .1) (z .ensures), record { size = length-replicate {A = ℕ} 9227 0; deep = omega arith }))))  -- root-requires
+    (s .pre .0, ((c .before .before .before .before .before .before .before) .build .ensures, (cleared-store 18434 (s .args .facts .now) (z .last .0) (s .pre .1 .1) (z .ensures), record { size = length-replicate {A = ℕ} 9227 0; deep = omega arith }))))  -- root-requires
     (λ c. search needs)  -- slice-aggregate-root-alternatives
     (λ c κs.
     let s = c .before .before .before .before .before .before .before .before .before .before .before .before .before .before .before .before in
@@ -44,18 +58,18 @@ decide-spec =
     let f = c .before .before .before .before .before .before .from-root in
     let u = c .before .before .before .before .before .before .before .before .before .before .root-alternatives in
     let b = c .before .before .before .before .before .before .before .before .before .before .before .before .before .before .before .root in
-    let z = c .before .before .before .before .before .before .before .before .before .before .before .before .before .before .before .before .before .before .before .before .before .zero in (
+    let z = c .before .before .before .before .before .before .before .before .before .before .before .before .before .before .before .before .before .before .before .before .before in (
       s .pre .0,
       (
         f .kept .1 .1 .1 .0 ∙ b .kept .1 .1 .1 .0 ∙ length-replicate {A = ℕ} 9227 0,
         (
-          (s .pre .1 .0, f .kept .1 .1 .0 ∙ b .kept .1 .1 .0 ∙ z .kept .0 ∙ s .pre .1 .1),
+          (s .pre .1 .0, f .kept .1 .1 .0 ∙ b .kept .1 .1 .0 ∙ room z ∙ s .pre .1 .1),
           ((fromRoot (magicWalker (s .args .rules .now)) (deepestAt (b .last .1 .1 .1 .0)) (s .args .limit), (refl, f .ensures)), u .ensures),
         ),
       ),
     ))  -- conclude-requires
     (λ c. search needs)  -- same-length
-    (λ c. (c .before .before .before .before .before .before .before .before .before) .from-root .kept .1 .1 .0 ∙ (c .before .before .before .before .before .before .before .before .before .before .before .before .before .before .before .before .before .before) .root .kept .1 .1 .0 ∙ (c .before .before .before .before .before .before .before .before .before .before .before .before .before .before .before .before .before .before .before .before .before .before .before .before) .zero .kept .0)  -- same-length-2
+    (λ c. (c .before .before .before .before .before .before .before .before .before) .from-root .kept .1 .1 .0 ∙ (c .before .before .before .before .before .before .before .before .before .before .before .before .before .before .before .before .before .before) .root .kept .1 .1 .0 ∙ room (c .before .before .before .before .before .before .before .before .before .before .before .before .before .before .before .before .before .before .before .before .before .before .before .before))  -- same-length-2
     (λ c.
     let s = c .before .before .before .before .before .before .before .before .before .before .before .before .before .before .before .before .before .before .before .before .before .before .before .before .before .before .before .before .before .before in
     let a = s .args in

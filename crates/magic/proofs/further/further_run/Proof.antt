@@ -6,6 +6,7 @@ use mathlib.Core.Path.{_≡_, refl, sym, ap, _∙_}
 use native.Mathlib.Omega.{arith}
 use borrow.Author.Needs.{needs}
 use lib.ListN.{length, replicate, length-replicate}
+use Rattle.lists.proofs.Bytes.{zeros-at}
 use Rattle.rewriting.specs.Facts.{findIn}
 use Rattle.walk.specs.contracts.Path.{deepestAt}
 use Rattle.walk.proofs.WalkLaws.{blank-store}
@@ -53,7 +54,7 @@ further-run-spec =
     (λ c κs.
     let s = c .before .before .before .before .before .before .before .before .before .before .before .before .before .before in
     let size : length ((c .before .before .before .before) .bring .last .0) ≡ 9227 = c .before .before .before .before .bring .kept .0 ∙ length-replicate {A = ℕ} 9227 0 in
-    (s .pre .0, ((c .before .before .before .before .before .before .before .before .before .before .before) .build .ensures, (blank-store 18434 (replicate 55302 0) 55302 (omega arith) refl, record { size = size; deep = omega arith }))))  -- root-requires
+    (s .pre .0, ((c .before .before .before .before .before .before .before .before .before .before .before) .build .ensures, (blank-store 18434 (replicate 55302 0) (length-replicate {A = ℕ} 55302 0) (λ a l. zeros-at 55302 a), record { size = size; deep = omega arith }))))  -- root-requires
     (λ c. search needs)  -- slice-aggregate-root-alternatives
     (λ c κs.
     let s = c .before .before .before .before .before .before .before .before .before .before .before .before .before .before .before .before .before .before in

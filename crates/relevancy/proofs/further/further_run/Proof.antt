@@ -6,6 +6,7 @@ use mathlib.Core.Path.{_≡_, refl, sym, _∙_}
 use native.Mathlib.Omega.{arith}
 use borrow.Author.Needs.{needs}
 use lib.ListN.{length, replicate, length-replicate}
+use Rattle.lists.proofs.Bytes.{zeros-at}
 use Rattle.search.specs.Relevancy.{findR}
 use Rattle.search.specs.Session.{Called}
 use Rattle.problem.specs.Layout.{problemIn}
@@ -61,7 +62,7 @@ further-run-spec =
       s .pre .0,
       (
         ((c .before .before .before .before .before .before .before .before .before .before .before .before .before) .build .ensures, (c .before .before .before .before .before .before .before .before .before .before .before .before) .build2 .ensures),
-        (blank-store 2050 (replicate 6150 0) 6150 (omega arith) refl, record { size = c .before .before .before .before .before .bring .kept .0 ∙ length-replicate {A = ℕ} 9227 0; deep = omega arith }),
+        (blank-store 2050 (replicate 6150 0) (length-replicate {A = ℕ} 6150 0) (λ a l. zeros-at 6150 a), record { size = c .before .before .before .before .before .bring .kept .0 ∙ length-replicate {A = ℕ} 9227 0; deep = omega arith }),
       ),
     ))  -- root-requires
     (λ c. search needs)  -- slice-aggregate-root-alternatives
