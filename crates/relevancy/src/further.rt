@@ -36,6 +36,7 @@ fn further_run(
 {
     let conds = build(table, false);
     let alts = build(table, true);
+    let new = relevancy_node::sweep::build(table);
     let mut facts = [0u8; 6150];
     let mut path = [0u8; 9227];
     let atoms = session.atoms;
@@ -55,6 +56,7 @@ fn further_run(
         table,
         &conds,
         &alts,
+        &new,
         &mut facts,
         &mut path,
         &atoms,

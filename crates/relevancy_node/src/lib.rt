@@ -4,5 +4,6 @@ pub mod close;
 pub mod index;
 pub mod mark;
 pub mod node;
+pub mod sweep;
 pub mod visit;
 pub mod work;

@@ -20,6 +20,7 @@ ghost use Prim.Native.Nat.{_≤_};
 ghost use lib.ListN.{length};
 ghost use Rattle.problem.specs.Table.{Lawful};
 ghost use Rattle.relevancy_node.specs.contracts.Index.{ClausesIndexed};
+ghost use Rattle.relevancy_node.specs.contracts.Sweep.{SweepIndexed};
 ghost use Rattle.ground.specs.Instance.{Instance};
 ghost use Rattle.search.specs.Session.{pathOf, placeOf};
 ghost use Rattle.walk.specs.contracts.Walker.{Run};
@@ -35,21 +36,22 @@ fn work_off(
     table: &[u8],
     conds: &[u16; 384],
     alts: &[u16; 384],
+    new: &[u16; 384],
     facts: &mut [u8],
     path: &mut [u8],
     depth: usize,
     done: usize,
     count: u32,
-    limit: u32,
+    on: Onward,
 ) -> Walked
     requires { ⌜ Lawful (now table) ⌝ }
-    requires { ⌜ ClausesIndexed (now table) false (now conds) × ClausesIndexed (now table) true (now alts) ⌝ }
+    requires { ⌜ ClausesIndexed (now table) false (now conds) × ClausesIndexed (now table) true (now alts) × SweepIndexed (now table) (now new) ⌝ }
     requires { ⌜ Parted (relevancyWalker (now table)) (now facts) (now path) depth ⌝ }
-    requires { ⌜ (done ≤ markAt (now path) depth) × (count ≤ limit) ⌝ }
-    ensures { λ x. ⌜ Leaves (relevancyWalker (now (table .entry))) (now (facts .entry)) (now (path .entry)) depth done count limit x (now (facts .exit)) (now (path .exit)) × ((r : Run Instance) → r .limit ≡ limit → Trying (relevancyWalker (now (table .entry))) r (now (path .entry)) depth count → Ended (relevancyWalker (now (table .entry))) r (now (path .entry)) depth x (now (facts .exit)) (now (path .exit))) ⌝ }
+    requires { ⌜ (done ≤ markAt (now path) depth) × (count ≤ on .limit) ⌝ }
+    ensures { λ x. ⌜ Leaves (relevancyWalker (now (table .entry))) (now (facts .entry)) (now (path .entry)) depth done count (on .limit) x (now (facts .exit)) (now (path .exit)) × ((r : Run Instance) → r .limit ≡ on .limit → Trying (relevancyWalker (now (table .entry))) r (now (path .entry)) depth count → Ended (relevancyWalker (now (table .entry))) r (now (path .entry)) depth x (now (facts .exit)) (now (path .exit))) ⌝ }
 {
     let own = mark(path, depth);
-    let walked = try_next(table, conds, alts, facts, path, depth, count, limit);
+    let walked = try_next(table, conds, alts, new, facts, path, depth, count, on.limit);
     match walked {
         Walked::Shut(shut) => {
             undo(facts, 2050, own, done);
@@ -65,6 +67,7 @@ fn stand(
     table: &[u8],
     conds: &[u16; 384],
     alts: &[u16; 384],
+    new: &[u16; 384],
     facts: &mut [u8],
     path: &mut [u8],
     depth: usize,
@@ -73,7 +76,7 @@ fn stand(
     on: Onward,
 ) -> Resumed
     requires { ⌜ Lawful (now table) ⌝ }
-    requires { ⌜ ClausesIndexed (now table) false (now conds) × ClausesIndexed (now table) true (now alts) ⌝ }
+    requires { ⌜ ClausesIndexed (now table) false (now conds) × ClausesIndexed (now table) true (now alts) × SweepIndexed (now table) (now new) ⌝ }
     requires { ⌜ Reached (relevancyWalker (now table)) (now facts) (now path) depth done found ⌝ }
     requires { ⌜ on .count ≤ on .limit ⌝ }
     ensures { λ x. ⌜ Resumes (relevancyWalker (now (table .entry))) (lastIn (relevancyWalker (now (table .entry))) (now (path .entry)) depth (on .standing) (on .next)) (now (facts .entry)) (now (path .entry)) depth done (on .count) (on .limit) x (now (facts .exit)) (now (path .exit)) ⌝ }
@@ -89,12 +92,13 @@ fn stand(
                 table,
                 conds,
                 alts,
+                new,
                 facts,
                 path,
                 depth,
                 done,
                 on.count,
-                on.limit,
+                on,
             );
             return Resumed::On(walked);
         }
@@ -118,6 +122,7 @@ fn resume(
     table: &[u8],
     conds: &[u16; 384],
     alts: &[u16; 384],
+    new: &[u16; 384],
     facts: &mut [u8],
     path: &mut [u8],
     atoms: &[u16],
@@ -129,7 +134,7 @@ fn resume(
     on: Onward,
 ) -> Resumed
     requires { ⌜ Lawful (now table) ⌝ }
-    requires { ⌜ ClausesIndexed (now table) false (now conds) × ClausesIndexed (now table) true (now alts) ⌝ }
+    requires { ⌜ ClausesIndexed (now table) false (now conds) × ClausesIndexed (now table) true (now alts) × SweepIndexed (now table) (now new) ⌝ }
     requires { ⌜ Reached (relevancyWalker (now table)) (now facts) (now path) depth done found ⌝ }
     requires { ⌜ pathOf ((relevancyWalker (now table)) .find) (stepsIn (now atoms) (now nexts) depth) ≡ some (pathIn (relevancyWalker (now table)) (now path) depth) ⌝ }
     requires { ⌜ (depth ≤ steps) × (steps ≤ length (now atoms)) × (steps ≤ length (now nexts)) ⌝ }
@@ -138,7 +143,7 @@ fn resume(
     ensures { λ x. ⌜ Resumes (relevancyWalker (now (table .entry))) (placeOf ((relevancyWalker (now (table .entry))) .find) (sessionOf (on .standing) (on .count) (now (atoms .entry)) (now (nexts .entry)) steps (on .next) (deepestAt (now (path .entry))))) (now (facts .entry)) (now (path .entry)) depth done (on .count) (on .limit) x (now (facts .exit)) (now (path .exit)) ⌝ }
 {
     if depth == steps {
-        return stand(table, conds, alts, facts, path, depth, done, found, on);
+        return stand(table, conds, alts, new, facts, path, depth, done, found, on);
     }
     let Found::Split(n) = found else {
         return Resumed::Nowhere;
@@ -151,11 +156,12 @@ fn resume(
     }
     rewind(facts, path, 2050, depth, n, j - 1);
     let own = mark(path, depth);
-    let made = enter(table, conds, alts, facts, path, depth, a);
+    let made = enter(table, conds, alts, new, facts, path, depth, a);
     let below = resume(
         table,
         conds,
         alts,
+        new,
         facts,
         path,
         atoms,
@@ -172,7 +178,7 @@ fn resume(
     let Walked::Shut(shut) = walked else {
         return Resumed::On(walked);
     };
-    let rest = work_off(table, conds, alts, facts, path, depth, done, shut, on.limit);
+    let rest = work_off(table, conds, alts, new, facts, path, depth, done, shut, on);
     Resumed::On(rest)
 }
 
@@ -181,6 +187,7 @@ pub fn go_on(
     table: &[u8],
     conds: &[u16; 384],
     alts: &[u16; 384],
+    new: &[u16; 384],
     facts: &mut [u8],
     path: &mut [u8],
     atoms: &[u16],
@@ -190,7 +197,7 @@ pub fn go_on(
     on: Onward,
 ) -> Resumed
     requires { ⌜ Lawful (now table) ⌝ }
-    requires { ⌜ ClausesIndexed (now table) false (now conds) × ClausesIndexed (now table) true (now alts) ⌝ }
+    requires { ⌜ ClausesIndexed (now table) false (now conds) × ClausesIndexed (now table) true (now alts) × SweepIndexed (now table) (now new) ⌝ }
     requires { ⌜ Beginning (relevancyWalker (now table)) found (now facts) (now path) ⌝ }
     requires { ⌜ (steps ≤ length (now atoms)) × (steps ≤ length (now nexts)) ⌝ }
     requires { ⌜ steps ≤ deepestAt (now path) ⌝ }
@@ -201,6 +208,7 @@ pub fn go_on(
         table,
         conds,
         alts,
+        new,
         facts,
         path,
         atoms,

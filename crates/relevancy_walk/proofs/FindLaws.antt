@@ -13,36 +13,40 @@ use Rattle.ground.specs.Instance.{clauseOf}
 use Rattle.ground.proofs.AtomLaws.{clause-fits}
 use Rattle.relevancy_node.specs.contracts.Node.{ClosedByClauses, OpenByClauses, SplitByClauses, TrueSettled}
 use Rattle.relevancy_node.specs.declared.node.Node.{Node}
+use Rattle.relevancy_node.specs.declared.node.Node.the-variants.{Closed, Open, Split}
 use Rattle.walk.specs.contracts.Walker.{Site}
 use Rattle.walk.specs.contracts.Path.{markAt, pathIn, siteAt, Noted}
 use Rattle.walk.specs.contracts.Place.{Finding}
+use Rattle.walk.specs.declared.answer.Found.{Found as Told}
 use Rattle.walk.specs.declared.answer.Found.the-variants.{Closed as ToldClosed, Open as ToldOpen, Split as ToldSplit}
 use Rattle.walk.proofs.PathLaws.{site-back}
 use Rattle.walk.proofs.PlaceLaws.{found-here, found-split}
-use Rattle.relevancy_walk.specs.contracts.Place.{TrueAtSplit, relevancyWalker, TrueFresh}
+use Rattle.relevancy_walk.specs.contracts.Place.{TrueAtSplit, relevancyWalker, TrueFresh, NodeTold, OwnFew}
 use Rattle.relevancy_walk.proofs.SoundLaws.{sound}
-
--- the settled node, by another name of the answer
-pub settled-as : (tb r : List ℕ) (n : ℕ) (x y : Node) (left : List ℕ) → x ≡ y → TrueSettled tb r n x left → TrueSettled tb r n y left
-settled-as tb r n x y left e h = subst (λ (z : Node). TrueSettled tb r n z left) e h
 
 module _ (tb : List ℕ) (h : Lawful tb) (facts path : List ℕ) (depth n done : ℕ) (fresh : TrueFresh tb facts path depth n done) (left-facts : List ℕ) where
   abbrev l : List ℕ
   l = entered (pathIn (relevancyWalker tb) path depth)
 
-  pub node-closed : (m : ℕ) → ClosedByClauses tb facts n m left-facts → Finding (relevancyWalker tb) facts path depth n done (ToldClosed m) left-facts path
+  node-closed : (m : ℕ) → ClosedByClauses tb facts n m left-facts → Finding (relevancyWalker tb) facts path depth n done (ToldClosed m) left-facts path
   node-closed m node =
       found-here (relevancyWalker tb) facts path depth n done (ToldClosed m) left-facts (fresh .room) (fresh .kept) (fresh .named) (node .found l (fresh .seeded)) (node .leaves .store)
       (node .held l (fresh .seeded)) (omega (arith, node .leaves .grows, fresh .opening .part)) (node .leaves .kept)
 
-  pub node-open : (m : ℕ) → OpenByClauses tb facts n m left-facts → Finding (relevancyWalker tb) facts path depth n done (ToldOpen m) left-facts path
+  node-open : (m : ℕ) → OpenByClauses tb facts n m left-facts → Finding (relevancyWalker tb) facts path depth n done (ToldOpen m) left-facts path
   node-open m node =
       found-here (relevancyWalker tb) facts path depth n done (ToldOpen m) left-facts (fresh .room) (fresh .kept) (fresh .named) (node .found l (fresh .seeded)) (node .leaves .store)
       (node .held l (fresh .seeded)) (omega (arith, node .leaves .grows, fresh .opening .part)) (node .leaves .kept)
 
+  told-here : (y x : Told) (left : List ℕ) → Finding (relevancyWalker tb) facts path depth n done y left-facts path → x ≡ y → left ≡ path
+      → Finding (relevancyWalker tb) facts path depth n done x left-facts left
+  told-here y x left f e same =
+      subst (λ (z : Told). Finding (relevancyWalker tb) facts path depth n done z left-facts left) (sym e)
+      (subst (λ (p : List ℕ). Finding (relevancyWalker tb) facts path depth n done y left-facts p) (sym same) f)
+
   -- the node is split, and written down
   module _ (m t k a b c d : ℕ) (node : SplitByClauses tb facts n m t k a b c d left-facts) where
-    pub few-facts : t < 65536
+    few-facts : t < 65536
     few-facts = omega (arith, node .part, store-few (node .leaves .store))
 
     abbrev site : Site
@@ -64,10 +68,31 @@ module _ (tb : List ℕ) (h : Lawful tb) (facts path : List ℕ) (depth n done :
       rests : TrueAtSplit tb site l (logged left-facts 2050 (markAt left depth))
       rests =
           subst (λ (j : ℕ). TrueAtSplit tb site l (logged left-facts 2050 j)) (sym (wrote .mark-is))
-          (record { truths = node .rests .truths; worked = node .rests .worked; stands = node .stands l (fresh .seeded); untrue = node .untrue })
+          (record {
+            kind = node .rests .facts;
+            worked = node .rests .worked;
+            holds = node .entered l (fresh .seeded);
+            stands = node .stands l (fresh .seeded);
+            untrue = node .untrue;
+            marked = node .rests .marked;
+          })
 
-      pub node-split : Finding (relevancyWalker tb) facts path depth n done (ToldSplit m) left-facts left
+      node-split : Finding (relevancyWalker tb) facts path depth n done (ToldSplit m) left-facts left
       node-split =
           found-split (relevancyWalker tb) (sound tb h) facts path depth n done (fresh .room) (fresh .kept) (fresh .named) site (node .listed) (node .found l (fresh .seeded))
           left-facts left size (wrote .before) (wrote .deepest-is) site-is (wrote .next) m (node .leaves .store)
           (omega (arith, wrote .mark-is, node .part)) (omega (arith, wrote .mark-is, node .more, fresh .opening .part)) rests (node .held l (fresh .seeded)) (node .leaves .kept)
+
+  -- there is room for the number of its own facts
+  pub own-few : (node : Node) → TrueSettled tb facts n node left-facts → OwnFew node
+  own-few (Closed m) x = tt
+  own-few (Open m) x = tt
+  own-few (Split m t k a b c d) x = few-facts m t k a b c d x
+
+  -- the node is told as it was settled
+  pub node-told : (node : Node) → TrueSettled tb facts n node left-facts → (x : Told) (left : List ℕ) → length left ≡ 9227 → NodeTold node path depth x left
+      → Finding (relevancyWalker tb) facts path depth n done x left-facts left
+  node-told (Closed m) node x left size told = told-here (ToldClosed m) x left (node-closed m node) (told .0) (told .1)
+  node-told (Open m) node x left size told = told-here (ToldOpen m) x left (node-open m node) (told .0) (told .1)
+  node-told (Split m t k a b c d) node x left size told =
+      subst (λ (y : Told). Finding (relevancyWalker tb) facts path depth n done y left-facts left) (sym (told .0)) (node-split m t k a b c d node left size (told .1))

@@ -1,12 +1,13 @@
 -- A node just entered: what follows from the path's atoms, once an atom is put into the facts of a split node, and at the root.
 use Prim.Native.Nat.{ℕ, _+_, _≤_, _<_}
+use mathlib.Core.Bool.{Bool, true, false, cond}
 use mathlib.Core.List.{List, _∷_}
 use mathlib.Core.Path.{_≡_, sym, subst}
 use native.Mathlib.Omega.{arith}
 use lib.Dec.{T}
 use lib.ListN.{length, getD}
 use Rattle.lists.specs.Key.{natKey}
-use Rattle.lists.specs.Member.{All, In}
+use Rattle.lists.specs.Member.{All, has, In}
 use Rattle.lists.proofs.Member.{all-map, all-has}
 use Rattle.search.specs.Closure.{Closed}
 use Rattle.search.specs.Relevancy.{hornRules, trueSet}
@@ -17,7 +18,8 @@ use Rattle.store.proofs.Laws.{added-in}
 use Rattle.store.proofs.Lent.{added-carries, added-each, added-worked}
 use Rattle.problem.specs.Table.{Lawful}
 use Rattle.ground.specs.Instance.{Instance, groundIn}
-use Rattle.relevancy_node.specs.contracts.Node.{TrueOpening, TrueStarted, TrueSeeded}
+use Rattle.relevancy_node.specs.contracts.Node.{RootMarked, TrueOpening, RootOpening, TrueStarted, TrueSeeded}
+use Rattle.relevancy_node.proofs.HornLaws.{root-adds}
 use Rattle.walk.specs.contracts.Path.{Room, nextAt, markAt, Passed, siteAt, altsAt, entryAt, pathIn}
 use Rattle.walk.specs.contracts.Place.{Parted}
 use Rattle.walk.proofs.PathLaws.{path-deep, path-entered}
@@ -42,10 +44,11 @@ module _ (tb : List ℕ) (h : Lawful tb) (facts path : List ℕ) (depth : ℕ) (
   pub next-small : getD (altsAt (relevancyWalker tb) path depth) (nextAt path depth) 0 < (groundIn tb) .atoms
   next-small = (sound tb h) .small (entryAt (relevancyWalker tb) path depth) (pathIn (relevancyWalker tb) path depth) (node .at-split .enters (nextAt path depth) some-left)
 
-  inside : (c : List ℕ) → Closed (hornRules (groundIn tb)) (In natKey c) → All (In natKey c) l → All (In natKey c) (logged facts 2050 mark)
+  inside : (c : List ℕ) → Closed (hornRules (groundIn tb)) (In natKey c) → All (In natKey c) l → All (λ f. f < 1025 → In natKey c f) (logged facts 2050 mark)
   unfolding trueSet
   inside c closed held =
-      all-has natKey (In natKey c) (logged facts 2050 mark) (λ x t. least-ind natKey (hornRules (groundIn tb)) l (In natKey c) closed held x (subst T (rests .stands x) t))
+      all-has natKey (λ f. f < 1025 → In natKey c f) (logged facts 2050 mark)
+      (λ x t low. least-ind natKey (hornRules (groundIn tb)) l (In natKey c) closed held x (subst T (rests .stands x low) t))
 
   -- the next alternative is put into the set
   module _ (left : List ℕ) (n : ℕ) (put : Added 2050 facts (markAt path depth) (getD (altsAt (relevancyWalker tb) path depth) (nextAt path depth) 0) left n) where
@@ -54,20 +57,27 @@ module _ (tb : List ℕ) (h : Lawful tb) (facts path : List ℕ) (depth : ℕ) (
         record {
           seeds = (
             added-in put,
-            all-map (In natKey (logged facts 2050 mark)) (In natKey (logged left 2050 n)) (added-carries 2050 facts mark atom left n put) l
-                ((sound tb h) .has-entered (siteAt (relevancyWalker tb) path depth) l (logged facts 2050 mark) rests),
+            all-map (In natKey (logged facts 2050 mark)) (In natKey (logged left 2050 n)) (added-carries 2050 facts mark atom left n put) l (rests .holds),
           );
-          inside = λ c closed held. added-each 2050 facts mark atom left n put (In natKey c) (held .0) (inside c closed (held .1));
+          inside = λ c closed held. added-each 2050 facts mark atom left n put (λ f. f < 1025 → In natKey c f) (λ low. held .0) (inside c closed (held .1));
         }
 
     added-opening : TrueOpening tb left n mark
     added-opening =
         record {
           store = put .store;
-          truths = added-each 2050 facts mark atom left n put (λ x. x ≤ (groundIn tb) .atoms) (omega (arith, next-small)) (rests .truths);
+          facts = added-each 2050 facts mark atom left n put (λ x. x ≤ 1025 + (groundIn tb) .atoms) (omega (arith, next-small)) (rests .kind);
           part = put .grows;
           worked = added-worked 2050 facts mark atom left n put (hornRules (groundIn tb)) (rests .worked);
         }
+
+    -- the marks are those of the root
+    pub entered-marked : RootMarked tb (logged left 2050 n)
+    entered-marked = subst (RootMarked tb) (sym (put .list)) (go (has natKey (logged facts 2050 mark) atom))
+      where
+        go : (b : Bool) → RootMarked tb (cond b (logged facts 2050 mark) (atom ∷ logged facts 2050 mark))
+        go true = rests .marked
+        go false = root-adds tb (logged facts 2050 mark) atom (omega (arith, next-small, (sound tb h) .few)) (rests .marked)
 
     pub entered-fresh : (went : List ℕ) → length went ≡ 9227 → Passed path depth went → TrueFresh tb left went (depth + 1) n (markAt path depth)
     entered-fresh went size p =
@@ -81,13 +91,19 @@ module _ (tb : List ℕ) (h : Lawful tb) (facts path : List ℕ) (depth : ℕ) (
         }
 
 -- the root, once the goals of the instances without conditions are in
-pub root-fresh : (tb facts path : List ℕ) (left : List ℕ) (n : ℕ) → Room path 0 → TrueStarted tb facts left n → TrueFresh tb left path 0 n 0
-unfolding logged pathIn
-root-fresh tb facts path left n room started =
-    record {
-      room = room;
-      kept = tt;
-      named = λ i l. absurd (omega arith);
-      opening = record { store = started .grew .store; truths = started .truths; part = omega arith; worked = started .worked };
-      seeded = record { seeds = tt; inside = λ c closed held. started .grew .just c closed tt };
-    }
+module _ (tb facts left : List ℕ) (n : ℕ) (started : TrueStarted tb facts left n) where
+  pub root-opening : RootOpening tb left n
+  unfolding logged
+  root-opening =
+      record {
+        opening = record { store = started .grew .store; facts = started .facts; part = omega arith; worked = started .worked };
+        unmarked = started .unmarked;
+        seeded = record {
+          seeds = tt;
+          inside = λ c closed held. all-map (In natKey c) (λ f. f < 1025 → In natKey c f) (λ f i low. i) (logged left 2050 n) (started .grew .just c closed tt);
+        };
+      }
+
+  pub root-fresh : (path : List ℕ) → Room path 0 → TrueFresh tb left path 0 n 0
+  unfolding pathIn
+  root-fresh path room = record { room = room; kept = tt; named = λ i l. absurd (omega arith); opening = root-opening .opening; seeded = root-opening .seeded }

@@ -1,17 +1,12 @@
 -- What the relevancy engine shows of its walker.
 use Prim.Native.Nat.{ℕ, _≤_, _<_}
 use mathlib.Core.List.{List, _∷_}
-use mathlib.Core.Path.{sym, subst}
 use native.Mathlib.Omega.{arith}
-use lib.Dec.{T}
 use lib.ListN.{length, getD, length-map}
 use Rattle.lists.specs.Key.{natKey}
-use Rattle.lists.specs.Member.{In}
 use Rattle.lists.proofs.Bytes.{all-at}
 use Rattle.lists.proofs.Firsts.{firsts-all, firsts-length}
-use Rattle.lists.proofs.Member.{all-map}
-use Rattle.search.specs.Relevancy.{trueSet, findR}
-use Rattle.search.proofs.Relevancy.{true-entered}
+use Rattle.search.specs.Relevancy.{findR}
 use Rattle.search.proofs.Sound.{path-small, path-short}
 use Rattle.search.proofs.Model.{relevancy-sound}
 use Rattle.problem.specs.Problem.{atomCount}
@@ -60,7 +55,6 @@ sound tb h =
       small = λ b bs g. (path-small p (findR p) fresh (b ∷ bs) g) .1 .0;
       four = λ s listed. site-four tb h s listed;
       enters = λ bs s g e. genuine-enters (relevancyWalker tb .find) bs (instanceOf s) (instanceAlts tb s) g e;
-      has-entered = λ s l facts r.
-          all-map (In natKey (trueSet p l)) (In natKey facts) (λ x t. subst T (sym (r .stands x)) t) l (true-entered p l);
+      has-entered = λ s l facts r. r .holds;
       untrue = λ s l facts r. r .untrue;
     }

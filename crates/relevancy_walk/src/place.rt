@@ -4,6 +4,7 @@ use ground::branch::branch_after;
 use relevancy_node::close::start;
 use relevancy_node::node::Node;
 use relevancy_node::node::settle;
+use relevancy_node::node::settle_root;
 use store::add;
 use walk::alternatives::Alternatives;
 use walk::answer::Found;
@@ -19,12 +20,13 @@ ghost use Prim.Native.Nat.{ℕ, _<_};
 ghost use Rattle.store.specs.contracts.Store.{Store};
 ghost use Rattle.problem.specs.Table.{Lawful};
 ghost use Rattle.relevancy_node.specs.contracts.Index.{ClausesIndexed};
+ghost use Rattle.relevancy_node.specs.contracts.Sweep.{SweepIndexed};
 ghost use Rattle.ground.specs.contracts.Branching.{NextOf};
 ghost use Rattle.ground.specs.declared.branch.NextBranch.the-variants.{Atom};
 ghost use Rattle.walk.specs.contracts.Alternatives.{listed, Listing};
 ghost use Rattle.walk.specs.contracts.Path.{Room, nextAt, deepestAt, siteAt, altsAt};
-ghost use Rattle.walk.specs.contracts.Place.{Parted, Finding, Making, Beginning};
-ghost use Rattle.relevancy_walk.specs.contracts.Place.{relevancyWalker, TrueFresh};
+ghost use Rattle.walk.specs.contracts.Place.{Parted, Making, Beginning};
+ghost use Rattle.relevancy_walk.specs.contracts.Place.{relevancyWalker, OwnFew, NodeTold};
 
 // Alternative j of the split node at `depth`.
 pub fn alternative_at(table: &[u8], path: &[u8], depth: usize, j: u8) -> NextBranch
@@ -67,23 +69,11 @@ pub fn alternative(table: &[u8], path: &[u8], depth: usize) -> NextBranch
     alternative_at(table, path, depth, j)
 }
 
-// Finds the place at `depth`, whose truths begin with n facts, of which `done` are worked off.
-fn find(
-    table: &[u8],
-    conds: &[u16; 384],
-    alts: &[u16; 384],
-    facts: &mut [u8],
-    path: &mut [u8],
-    depth: usize,
-    n: usize,
-    done: usize,
-) -> Found
-    requires { ⌜ Lawful (now table) ⌝ }
-    requires { ⌜ ClausesIndexed (now table) false (now conds) × ClausesIndexed (now table) true (now alts) ⌝ }
-    requires { ⌜ TrueFresh (now table) (now facts) (now path) depth n done ⌝ }
-    ensures { λ x. ⌜ Finding (relevancyWalker (now (table .entry))) (now (facts .entry)) (now (path .entry)) depth n done x (now (facts .exit)) (now (path .exit)) ⌝ }
+// Tells how the node at `depth` is settled, and writes a split down.
+fn tell(path: &mut [u8], depth: usize, node: Node) -> Found
+    requires { ⌜ Room (now path) depth × OwnFew node ⌝ }
+    ensures { λ x. ⌜ NodeTold node (now (path .entry)) depth x (now (path .exit)) ⌝ }
 {
-    let node = settle(table, conds, alts, facts, n, done);
     match node {
         Node::Split(m, own, k, a, b, c, d) => {
             note(path, depth, k as usize, a, b, c, d, own);
@@ -103,13 +93,14 @@ pub fn enter(
     table: &[u8],
     conds: &[u16; 384],
     alts: &[u16; 384],
+    new: &[u16; 384],
     facts: &mut [u8],
     path: &mut [u8],
     depth: usize,
     a: usize,
 ) -> Found
     requires { ⌜ Lawful (now table) ⌝ }
-    requires { ⌜ ClausesIndexed (now table) false (now conds) × ClausesIndexed (now table) true (now alts) ⌝ }
+    requires { ⌜ ClausesIndexed (now table) false (now conds) × ClausesIndexed (now table) true (now alts) × SweepIndexed (now table) (now new) ⌝ }
     requires { ⌜ Parted (relevancyWalker (now table)) (now facts) (now path) depth ⌝ }
     requires { ⌜ NextOf (altsAt (relevancyWalker (now table)) (now path) depth) (nextAt (now path) depth) (Atom a) ⌝ }
     ensures { λ x. ⌜ ((count : ℕ) → Making (relevancyWalker (now (table .entry))) (now (facts .entry)) (now (path .entry)) depth count x (now (facts .exit)) (now (path .exit))) ⌝ }
@@ -117,7 +108,8 @@ pub fn enter(
     let own = mark(path, depth);
     pass(path, depth);
     let n = add(facts, 2050, own, a);
-    find(table, conds, alts, facts, path, depth + 1, n, own)
+    let node = settle(table, conds, alts, new, facts, n, own);
+    tell(path, depth + 1, node)
 }
 
 // Makes the next place as entry `count` + 1 of a run, where the limit allows one.
@@ -125,6 +117,7 @@ pub fn place(
     table: &[u8],
     conds: &[u16; 384],
     alts: &[u16; 384],
+    new: &[u16; 384],
     facts: &mut [u8],
     path: &mut [u8],
     depth: usize,
@@ -133,13 +126,13 @@ pub fn place(
     limit: u32,
 ) -> Found
     requires { ⌜ Lawful (now table) ⌝ }
-    requires { ⌜ ClausesIndexed (now table) false (now conds) × ClausesIndexed (now table) true (now alts) ⌝ }
+    requires { ⌜ ClausesIndexed (now table) false (now conds) × ClausesIndexed (now table) true (now alts) × SweepIndexed (now table) (now new) ⌝ }
     requires { ⌜ Parted (relevancyWalker (now table)) (now facts) (now path) depth ⌝ }
     requires { ⌜ NextOf (altsAt (relevancyWalker (now table)) (now path) depth) (nextAt (now path) depth) (Atom a) ⌝ }
     requires { ⌜ count < limit ⌝ }
     ensures { λ x. ⌜ Making (relevancyWalker (now (table .entry))) (now (facts .entry)) (now (path .entry)) depth count x (now (facts .exit)) (now (path .exit)) ⌝ }
 {
-    enter(table, conds, alts, facts, path, depth, a)
+    enter(table, conds, alts, new, facts, path, depth, a)
 }
 
 // Makes the root, in a set without facts.
@@ -156,5 +149,6 @@ pub fn root(
     ensures { λ x. ⌜ Beginning (relevancyWalker (now (table .entry))) x (now (facts .exit)) (now (path .exit)) × (deepestAt (now (path .exit)) ≡ deepestAt (now (path .entry))) ⌝ }
 {
     let n = start(table, facts);
-    find(table, conds, alts, facts, path, 0, n, 0)
+    let node = settle_root(table, conds, alts, facts, n);
+    tell(path, 0, node)
 }

@@ -11,6 +11,7 @@ ghost use mathlib.Core.Path.{_≡_};
 ghost use Prim.Native.Nat.{_≤_};
 ghost use Rattle.problem.specs.Table.{Lawful};
 ghost use Rattle.relevancy_node.specs.contracts.Index.{ClausesIndexed};
+ghost use Rattle.relevancy_node.specs.contracts.Sweep.{SweepIndexed};
 ghost use Rattle.ground.specs.Instance.{Instance};
 ghost use Rattle.walk.specs.contracts.Walker.{Run, fromRoot};
 ghost use Rattle.walk.specs.contracts.Path.{markAt, deepestAt};
@@ -23,6 +24,7 @@ pub fn visit(
     table: &[u8],
     conds: &[u16; 384],
     alts: &[u16; 384],
+    new: &[u16; 384],
     facts: &mut [u8],
     path: &mut [u8],
     depth: usize,
@@ -32,7 +34,7 @@ pub fn visit(
     limit: u32,
 ) -> Walked
     requires { ⌜ Lawful (now table) ⌝ }
-    requires { ⌜ ClausesIndexed (now table) false (now conds) × ClausesIndexed (now table) true (now alts) ⌝ }
+    requires { ⌜ ClausesIndexed (now table) false (now conds) × ClausesIndexed (now table) true (now alts) × SweepIndexed (now table) (now new) ⌝ }
     requires { ⌜ Reached (relevancyWalker (now table)) (now facts) (now path) depth done found ⌝ }
     requires { ⌜ count ≤ limit ⌝ }
     ensures { λ x. ⌜ Leaves (relevancyWalker (now (table .entry))) (now (facts .entry)) (now (path .entry)) depth done count limit x (now (facts .exit)) (now (path .exit)) × ((r : Run Instance) → r .limit ≡ limit → Visiting (relevancyWalker (now (table .entry))) r (now (facts .entry)) (now (path .entry)) depth found count → Ended (relevancyWalker (now (table .entry))) r (now (path .entry)) depth x (now (facts .exit)) (now (path .exit))) ⌝ }
@@ -41,7 +43,7 @@ pub fn visit(
         Found::Split(n) => {
             let own = mark(path, depth);
             undo(facts, 2050, n, own);
-            let walked = try_next(table, conds, alts, facts, path, depth, count, limit);
+            let walked = try_next(table, conds, alts, new, facts, path, depth, count, limit);
             match walked {
                 Walked::Shut(shut) => {
                     undo(facts, 2050, own, done);
@@ -65,6 +67,7 @@ pub fn try_next(
     table: &[u8],
     conds: &[u16; 384],
     alts: &[u16; 384],
+    new: &[u16; 384],
     facts: &mut [u8],
     path: &mut [u8],
     depth: usize,
@@ -72,7 +75,7 @@ pub fn try_next(
     limit: u32,
 ) -> Walked
     requires { ⌜ Lawful (now table) ⌝ }
-    requires { ⌜ ClausesIndexed (now table) false (now conds) × ClausesIndexed (now table) true (now alts) ⌝ }
+    requires { ⌜ ClausesIndexed (now table) false (now conds) × ClausesIndexed (now table) true (now alts) × SweepIndexed (now table) (now new) ⌝ }
     requires { ⌜ Parted (relevancyWalker (now table)) (now facts) (now path) depth ⌝ }
     requires { ⌜ count ≤ limit ⌝ }
     ensures { λ x. ⌜ Leaves (relevancyWalker (now (table .entry))) (now (facts .entry)) (now (path .entry)) depth (markAt (now (path .entry)) depth) count limit x (now (facts .exit)) (now (path .exit)) × ((r : Run Instance) → r .limit ≡ limit → Trying (relevancyWalker (now (table .entry))) r (now (path .entry)) depth count → Ended (relevancyWalker (now (table .entry))) r (now (path .entry)) depth x (now (facts .exit)) (now (path .exit))) ⌝ }
@@ -87,11 +90,12 @@ pub fn try_next(
         if made == limit {
             return Walked::Exhausted(depth);
         }
-        let found = place(table, conds, alts, facts, path, depth, a, made, limit);
+        let found = place(table, conds, alts, new, facts, path, depth, a, made, limit);
         let walked = visit(
             table,
             conds,
             alts,
+            new,
             facts,
             path,
             depth + 1,
@@ -112,15 +116,16 @@ pub fn from_root(
     table: &[u8],
     conds: &[u16; 384],
     alts: &[u16; 384],
+    new: &[u16; 384],
     facts: &mut [u8],
     path: &mut [u8],
     found: Found,
     limit: u32,
 ) -> Walked
     requires { ⌜ Lawful (now table) ⌝ }
-    requires { ⌜ ClausesIndexed (now table) false (now conds) × ClausesIndexed (now table) true (now alts) ⌝ }
+    requires { ⌜ ClausesIndexed (now table) false (now conds) × ClausesIndexed (now table) true (now alts) × SweepIndexed (now table) (now new) ⌝ }
     requires { ⌜ Beginning (relevancyWalker (now table)) found (now facts) (now path) ⌝ }
     ensures { λ x. ⌜ Walks (relevancyWalker (now (table .entry))) (fromRoot (relevancyWalker (now (table .entry))) (deepestAt (now (path .entry))) limit) x (now (facts .exit)) (now (path .exit)) ⌝ }
 {
-    visit(table, conds, alts, facts, path, 0, 0, found, 0, limit)
+    visit(table, conds, alts, new, facts, path, 0, 0, found, 0, limit)
 }

@@ -32,15 +32,15 @@ use Rattle.walk.proofs.standing.rewind.Reads as rewind-reads
 use Rattle.relevancy_resume.proofs.resume.+resume.{statement}
 use Rattle.relevancy_resume.proofs.resume.+resume.Tie.{close}
 
-abbrev μ-resume : Measures 7 resume-kinds.ps ℕ
-μ-resume κs a = a .1 .1 .1 .1 .1 .1 .1 .0 - a .1 .1 .1 .1 .1 .1 .1 .1 .0
+abbrev μ-resume : Measures 8 resume-kinds.ps ℕ
+μ-resume κs a = a .1 .1 .1 .1 .1 .1 .1 .1 .0 - a .1 .1 .1 .1 .1 .1 .1 .1 .1 .0
 
 -- what it is given at the measure t, and what a call of it asks below t
-abbrev resume-at : ℕ → In 7 resume-kinds.ps
-resume-at t = and 7 resume-kinds.ps (is 7 resume-kinds.ps μ-resume t) resume.Pre
+abbrev resume-at : ℕ → In 8 resume-kinds.ps
+resume-at t = and 8 resume-kinds.ps (is 8 resume-kinds.ps μ-resume t) resume.Pre
 
-abbrev resume-below : ℕ → In 7 resume-kinds.ps
-resume-below t = and 7 resume-kinds.ps (falls 7 resume-kinds.ps _<_ μ-resume t) resume.Pre
+abbrev resume-below : ℕ → In 8 resume-kinds.ps
+resume-below t = and 8 resume-kinds.ps (falls 8 resume-kinds.ps _<_ μ-resume t) resume.Pre
 
 -- what the functions that it calls ask and say
 abbrev claims : ℕ → resume-lts.Claims
@@ -87,7 +87,7 @@ unfolding placeOf
     let s = c .before .before .before .before .before .before .before .before .before .before .before .before .before in
     let w = relevancyWalker (s .args .table .now) in
     let y = c .before .before .before .before .stand in
-    resumes-last Instance w (s .args .facts .now) (s .args .path .now) (s .args .depth) (s .args .done) (s .args .on .count) (s .args .on .limit) (s .args .atoms .now) (s .args .nexts .now) (s .args .on .standing) (s .args .steps) (s .args .on .next) (deepestAt (s .args .path .now)) (s .pre .1 .1 .1 .1 .0) (c .before .before .before .before .before .before .before .if1 .taken) (y .result) (y .last .1 .1 .1 .0) (y .last .1 .1 .1 .1 .0) (y .ensures))  -- returns
+    resumes-last Instance w (s .args .facts .now) (s .args .path .now) (s .args .depth) (s .args .done) (s .args .on .count) (s .args .on .limit) (s .args .atoms .now) (s .args .nexts .now) (s .args .on .standing) (s .args .steps) (s .args .on .next) (deepestAt (s .args .path .now)) (s .pre .1 .1 .1 .1 .0) (c .before .before .before .before .before .before .before .if1 .taken) (y .result) (y .last .1 .1 .1 .1 .0) (y .last .1 .1 .1 .1 .1 .0) (y .ensures))  -- returns
     (λ c. search needs)  -- enum-known-found
     (λ c.
     let s = c .before .before .before .before .before .before .before in
@@ -191,10 +191,10 @@ unfolding placeOf
         (
           s .pre .1 .1 .0,
           (
-            subst (λ (i : ℕ). Reached w (e .last .1 .1 .1 .0) (e .last .1 .1 .1 .1 .0) (s .args .depth + 1) i (e .result)) (sym (m .ensures)) (e .ensures 0 .reached),
+            subst (λ (i : ℕ). Reached w (e .last .1 .1 .1 .1 .0) (e .last .1 .1 .1 .1 .1 .0) (s .args .depth + 1) i (e .result)) (sym (m .ensures)) (e .ensures 0 .reached),
             (
-              again-path w (s .args .facts .now) (s .args .path .now) (s .args .depth) (s .args .done) (g .0 .0) at (u .last .0) (u .ensures .0) j (u .last .1 .0) t long (e .result) (e .last .1 .1 .1 .0) (e .last .1 .1 .1 .1 .0) (e .ensures 0) (s .args .atoms .now) (s .args .nexts .now) refl (s .pre .1 .1 .1 .1 .0) here,
-              ((omega (arith, more), s .pre .1 .1 .1 .1 .1 .0 .1, s .pre .1 .1 .1 .1 .1 .0 .2), (omega (arith, s .pre .1 .1 .1 .1 .1 .1 .0, again-deepest w (s .args .facts .now) (s .args .path .now) (s .args .depth) (s .args .done) (g .0 .0) at (u .last .0) (u .ensures .0) j (u .last .1 .0) t long (e .result) (e .last .1 .1 .1 .0) (e .last .1 .1 .1 .1 .0) (e .ensures 0) (omega (arith, more, s .pre .1 .1 .1 .1 .1 .1 .0))), s .pre .1 .1 .1 .1 .1 .1 .1)),
+              again-path w (s .args .facts .now) (s .args .path .now) (s .args .depth) (s .args .done) (g .0 .0) at (u .last .0) (u .ensures .0) j (u .last .1 .0) t long (e .result) (e .last .1 .1 .1 .1 .0) (e .last .1 .1 .1 .1 .1 .0) (e .ensures 0) (s .args .atoms .now) (s .args .nexts .now) refl (s .pre .1 .1 .1 .1 .0) here,
+              ((omega (arith, more), s .pre .1 .1 .1 .1 .1 .0 .1, s .pre .1 .1 .1 .1 .1 .0 .2), (omega (arith, s .pre .1 .1 .1 .1 .1 .1 .0, again-deepest w (s .args .facts .now) (s .args .path .now) (s .args .depth) (s .args .done) (g .0 .0) at (u .last .0) (u .ensures .0) j (u .last .1 .0) t long (e .result) (e .last .1 .1 .1 .1 .0) (e .last .1 .1 .1 .1 .1 .0) (e .ensures 0) (omega (arith, more, s .pre .1 .1 .1 .1 .1 .1 .0))), s .pre .1 .1 .1 .1 .1 .1 .1)),
             ),
           ),
         ),
@@ -219,7 +219,7 @@ unfolding placeOf
     let e = c .before .before .before .before .before .before .before .before .before .before .before .before .before .enter in
     let q = c .before .before .before .before .before .before .resume in
     let place = placeOf (w .find) (sessionOf (s .args .on .standing) (s .args .on .count) (s .args .atoms .now) (s .args .nexts .now) (s .args .steps) (s .args .on .next) (deepestAt (s .args .path .now))) in
-    resumes-nowhere w place (e .last .1 .1 .1 .0) (e .last .1 .1 .1 .1 .0) (s .args .depth + 1) (m .result) (s .args .on .count) (s .args .on .limit) (q .last .1 .1 .1 .0) (q .last .1 .1 .1 .1 .0) (q .result) (c .before .match2 .keys2) (q .ensures))  -- returns-4
+    resumes-nowhere w place (e .last .1 .1 .1 .1 .0) (e .last .1 .1 .1 .1 .1 .0) (s .args .depth + 1) (m .result) (s .args .on .count) (s .args .on .limit) (q .last .1 .1 .1 .1 .0) (q .last .1 .1 .1 .1 .1 .0) (q .result) (c .before .match2 .keys2) (q .ensures))  -- returns-4
     (λ c. search needs)  -- enum-known-walked
     (λ c. search needs)  -- same-length-6
     (λ c. search needs)  -- same-length-7
@@ -239,9 +239,9 @@ unfolding placeOf
     let q = c .before .before .before .before .before .before .before .before .resume in
     let place = placeOf (w .find) (sessionOf (s .args .on .standing) (s .args .on .count) (s .args .atoms .now) (s .args .nexts .now) (s .args .steps) (s .args .on .next) (deepestAt (s .args .path .now))) in
     let h = c .before .before .below .given in
-    let below = resumes-on w place (e .last .1 .1 .1 .0) (e .last .1 .1 .1 .1 .0) (s .args .depth + 1) (m .result) (s .args .on .count) (s .args .on .limit) (q .last .1 .1 .1 .0) (q .last .1 .1 .1 .1 .0) (q .result) (h .0 .0) (h .1) (q .ensures) in
+    let below = resumes-on w place (e .last .1 .1 .1 .1 .0) (e .last .1 .1 .1 .1 .1 .0) (s .args .depth + 1) (m .result) (s .args .on .count) (s .args .on .limit) (q .last .1 .1 .1 .1 .0) (q .last .1 .1 .1 .1 .1 .0) (q .result) (h .0 .0) (h .1) (q .ensures) in
     let deep : s .args .depth < deepestAt (s .args .path .now) = omega (arith, s .pre .1 .1 .1 .1 .1 .0 .0, s .pre .1 .1 .1 .1 .1 .1 .0, c .before .before .before .before .before .before .before .before .before .before .before .before .before .before .before .before .before .before .before .before .before .before .before .before .before .before .before .before .before .before .before .before .before .before .before .before .if1 .left) in
-    again-passes w (s .args .facts .now) (s .args .path .now) (s .args .depth) (s .args .done) (g .0 .0) at (u .last .0) (u .ensures .0) j (u .last .1 .0) t long (e .result) (e .last .1 .1 .1 .0) (e .last .1 .1 .1 .1 .0) (e .ensures 0) place (m .result) (s .args .on .count) (s .args .on .limit) (m .ensures) (h .0 .0) (q .last .1 .1 .1 .0) (q .last .1 .1 .1 .1 .0) below deep (c .match3 .keys2))  -- returns-5
+    again-passes w (s .args .facts .now) (s .args .path .now) (s .args .depth) (s .args .done) (g .0 .0) at (u .last .0) (u .ensures .0) j (u .last .1 .0) t long (e .result) (e .last .1 .1 .1 .1 .0) (e .last .1 .1 .1 .1 .1 .0) (e .ensures 0) place (m .result) (s .args .on .count) (s .args .on .limit) (m .ensures) (h .0 .0) (q .last .1 .1 .1 .1 .0) (q .last .1 .1 .1 .1 .1 .0) below deep (c .match3 .keys2))  -- returns-5
     (λ c κs.
     let s = c .before .before .before .before .before .before .before .before .before .before .before .before .before .before .before .before .before .before .before .before .before .before .before .before .before .before .before .before .before .before .before .before .before .before .before .before .before .before .before .before .before .before .before .before .before .before in
     let w = relevancyWalker (s .args .table .now) in
@@ -258,11 +258,11 @@ unfolding placeOf
     let q = c .before .before .before .before .before .before .before .before .before .before .before .before .resume in
     let place = placeOf (w .find) (sessionOf (s .args .on .standing) (s .args .on .count) (s .args .atoms .now) (s .args .nexts .now) (s .args .steps) (s .args .on .next) (deepestAt (s .args .path .now))) in
     let h = c .before .before .before .before .before .before .below .given in
-    let below = resumes-on w place (e .last .1 .1 .1 .0) (e .last .1 .1 .1 .1 .0) (s .args .depth + 1) (m .result) (s .args .on .count) (s .args .on .limit) (q .last .1 .1 .1 .0) (q .last .1 .1 .1 .1 .0) (q .result) (h .0 .0) (h .1) (q .ensures) in
+    let below = resumes-on w place (e .last .1 .1 .1 .1 .0) (e .last .1 .1 .1 .1 .1 .0) (s .args .depth + 1) (m .result) (s .args .on .count) (s .args .on .limit) (q .last .1 .1 .1 .1 .0) (q .last .1 .1 .1 .1 .1 .0) (q .result) (h .0 .0) (h .1) (q .ensures) in
     let k = c .before .before .before .walked .given in
-    (s .pre .1 .0, (s .pre .1 .1 .0, (again-node w (s .args .facts .now) (s .args .path .now) (s .args .depth) (s .args .done) (g .0 .0) at (u .last .0) (u .ensures .0) j (u .last .1 .0) t long (e .result) (e .last .1 .1 .1 .0) (e .last .1 .1 .1 .1 .0) (e .ensures 0) place (m .result) (s .args .on .count) (s .args .on .limit) (m .ensures) (h .0 .0) (q .last .1 .1 .1 .0) (q .last .1 .1 .1 .1 .0) below (k .0 .0) (k .1) (q .kept .1 .1 .1 .1 .0 ∙ e .ensures 0 .reached .room .size), (again-part w (s .args .facts .now) (s .args .path .now) (s .args .depth) (s .args .done) (g .0 .0) at (u .last .0) (u .ensures .0) j (u .last .1 .0) t long (e .result) (e .last .1 .1 .1 .0) (e .last .1 .1 .1 .1 .0) (e .ensures 0) place (m .result) (s .args .on .count) (s .args .on .limit) (m .ensures) (h .0 .0) (q .last .1 .1 .1 .0) (q .last .1 .1 .1 .1 .0) below (k .0 .0) (k .1) (q .kept .1 .1 .1 .1 .0 ∙ e .ensures 0 .reached .room .size), again-within w (s .args .facts .now) (s .args .path .now) (s .args .depth) (s .args .done) (g .0 .0) at (u .last .0) (u .ensures .0) j (u .last .1 .0) t long (e .result) (e .last .1 .1 .1 .0) (e .last .1 .1 .1 .1 .0) (e .ensures 0) place (m .result) (s .args .on .count) (s .args .on .limit) (m .ensures) (h .0 .0) (q .last .1 .1 .1 .0) (q .last .1 .1 .1 .1 .0) below (k .0 .0) (k .1) (q .kept .1 .1 .1 .1 .0 ∙ e .ensures 0 .reached .room .size))))))  -- work-off-requires
-    (λ c. c .before .before .before .before .work-off .kept .1 .1 .1 .0 ∙ c .before .before .before .before .before .before .before .before .before .before .before .before .before .before .before .before .before .resume .kept .1 .1 .1 .0 ∙ c .before .before .before .before .before .before .before .before .before .before .before .before .before .before .before .before .before .before .before .before .before .before .before .before .enter .kept .1 .1 .1 .0 ∙ c .before .before .before .before .before .before .before .before .before .before .before .before .before .before .before .before .before .before .before .before .before .before .before .before .before .before .before .before .before .before .before .before .before .rewind .kept .0)  -- same-length-8
-    (λ c. c .before .before .before .before .work-off .kept .1 .1 .1 .1 .0 ∙ c .before .before .before .before .before .before .before .before .before .before .before .before .before .before .before .before .before .resume .kept .1 .1 .1 .1 .0 ∙ c .before .before .before .before .before .before .before .before .before .before .before .before .before .before .before .before .before .before .before .before .before .before .before .before .enter .kept .1 .1 .1 .1 .0 ∙ c .before .before .before .before .before .before .before .before .before .before .before .before .before .before .before .before .before .before .before .before .before .before .before .before .before .before .before .before .before .before .before .before .before .rewind .kept .1 .0)  -- same-length-9
+    (s .pre .1 .0, (s .pre .1 .1 .0, (again-node w (s .args .facts .now) (s .args .path .now) (s .args .depth) (s .args .done) (g .0 .0) at (u .last .0) (u .ensures .0) j (u .last .1 .0) t long (e .result) (e .last .1 .1 .1 .1 .0) (e .last .1 .1 .1 .1 .1 .0) (e .ensures 0) place (m .result) (s .args .on .count) (s .args .on .limit) (m .ensures) (h .0 .0) (q .last .1 .1 .1 .1 .0) (q .last .1 .1 .1 .1 .1 .0) below (k .0 .0) (k .1) (q .kept .1 .1 .1 .1 .1 .0 ∙ e .ensures 0 .reached .room .size), (again-part w (s .args .facts .now) (s .args .path .now) (s .args .depth) (s .args .done) (g .0 .0) at (u .last .0) (u .ensures .0) j (u .last .1 .0) t long (e .result) (e .last .1 .1 .1 .1 .0) (e .last .1 .1 .1 .1 .1 .0) (e .ensures 0) place (m .result) (s .args .on .count) (s .args .on .limit) (m .ensures) (h .0 .0) (q .last .1 .1 .1 .1 .0) (q .last .1 .1 .1 .1 .1 .0) below (k .0 .0) (k .1) (q .kept .1 .1 .1 .1 .1 .0 ∙ e .ensures 0 .reached .room .size), again-within w (s .args .facts .now) (s .args .path .now) (s .args .depth) (s .args .done) (g .0 .0) at (u .last .0) (u .ensures .0) j (u .last .1 .0) t long (e .result) (e .last .1 .1 .1 .1 .0) (e .last .1 .1 .1 .1 .1 .0) (e .ensures 0) place (m .result) (s .args .on .count) (s .args .on .limit) (m .ensures) (h .0 .0) (q .last .1 .1 .1 .1 .0) (q .last .1 .1 .1 .1 .1 .0) below (k .0 .0) (k .1) (q .kept .1 .1 .1 .1 .1 .0 ∙ e .ensures 0 .reached .room .size))))))  -- work-off-requires
+    (λ c. c .before .before .before .before .work-off .kept .1 .1 .1 .1 .0 ∙ c .before .before .before .before .before .before .before .before .before .before .before .before .before .before .before .before .before .resume .kept .1 .1 .1 .1 .0 ∙ c .before .before .before .before .before .before .before .before .before .before .before .before .before .before .before .before .before .before .before .before .before .before .before .before .enter .kept .1 .1 .1 .1 .0 ∙ c .before .before .before .before .before .before .before .before .before .before .before .before .before .before .before .before .before .before .before .before .before .before .before .before .before .before .before .before .before .before .before .before .before .rewind .kept .0)  -- same-length-8
+    (λ c. c .before .before .before .before .work-off .kept .1 .1 .1 .1 .1 .0 ∙ c .before .before .before .before .before .before .before .before .before .before .before .before .before .before .before .before .before .resume .kept .1 .1 .1 .1 .1 .0 ∙ c .before .before .before .before .before .before .before .before .before .before .before .before .before .before .before .before .before .before .before .before .before .before .before .before .enter .kept .1 .1 .1 .1 .1 .0 ∙ c .before .before .before .before .before .before .before .before .before .before .before .before .before .before .before .before .before .before .before .before .before .before .before .before .before .before .before .before .before .before .before .before .before .rewind .kept .1 .0)  -- same-length-9
     (λ c.
     let s = c .before .before .before .before .before .before .before .before .before .before .before .before .before .before .before .before .before .before .before .before .before .before .before .before .before .before .before .before .before .before .before .before .before .before .before .before .before .before .before .before .before .before .before .before .before .before .before .before .before .before .before in
     let w = relevancyWalker (s .args .table .now) in
@@ -279,8 +279,8 @@ unfolding placeOf
     let q = c .before .before .before .before .before .before .before .before .before .before .before .before .before .before .before .before .before .resume in
     let place = placeOf (w .find) (sessionOf (s .args .on .standing) (s .args .on .count) (s .args .atoms .now) (s .args .nexts .now) (s .args .steps) (s .args .on .next) (deepestAt (s .args .path .now))) in
     let h = c .before .before .before .before .before .before .before .before .before .before .before .below .given in
-    let below = resumes-on w place (e .last .1 .1 .1 .0) (e .last .1 .1 .1 .1 .0) (s .args .depth + 1) (m .result) (s .args .on .count) (s .args .on .limit) (q .last .1 .1 .1 .0) (q .last .1 .1 .1 .1 .0) (q .result) (h .0 .0) (h .1) (q .ensures) in
+    let below = resumes-on w place (e .last .1 .1 .1 .1 .0) (e .last .1 .1 .1 .1 .1 .0) (s .args .depth + 1) (m .result) (s .args .on .count) (s .args .on .limit) (q .last .1 .1 .1 .1 .0) (q .last .1 .1 .1 .1 .1 .0) (q .result) (h .0 .0) (h .1) (q .ensures) in
     let k = c .before .before .before .before .before .before .before .before .walked .given in
     let y = c .before .before .before .before .work-off in
     let deep : s .args .depth < deepestAt (s .args .path .now) = omega (arith, s .pre .1 .1 .1 .1 .1 .0 .0, s .pre .1 .1 .1 .1 .1 .1 .0, c .before .before .before .before .before .before .before .before .before .before .before .before .before .before .before .before .before .before .before .before .before .before .before .before .before .before .before .before .before .before .before .before .before .before .before .before .before .before .before .before .before .before .before .before .before .if1 .left) in
-    again-on w (s .args .facts .now) (s .args .path .now) (s .args .depth) (s .args .done) (g .0 .0) at (u .last .0) (u .ensures .0) j (u .last .1 .0) t long (e .result) (e .last .1 .1 .1 .0) (e .last .1 .1 .1 .1 .0) (e .ensures 0) place (m .result) (s .args .on .count) (s .args .on .limit) (m .ensures) (h .0 .0) (q .last .1 .1 .1 .0) (q .last .1 .1 .1 .1 .0) below (k .0 .0) (k .1) (q .kept .1 .1 .1 .1 .0 ∙ e .ensures 0 .reached .room .size) deep (y .result) (y .last .1 .1 .1 .0) (y .last .1 .1 .1 .1 .0) (y .ensures .0) (y .ensures .1)))  -- returns-6
+    again-on w (s .args .facts .now) (s .args .path .now) (s .args .depth) (s .args .done) (g .0 .0) at (u .last .0) (u .ensures .0) j (u .last .1 .0) t long (e .result) (e .last .1 .1 .1 .1 .0) (e .last .1 .1 .1 .1 .1 .0) (e .ensures 0) place (m .result) (s .args .on .count) (s .args .on .limit) (m .ensures) (h .0 .0) (q .last .1 .1 .1 .1 .0) (q .last .1 .1 .1 .1 .1 .0) below (k .0 .0) (k .1) (q .kept .1 .1 .1 .1 .1 .0 ∙ e .ensures 0 .reached .room .size) deep (y .result) (y .last .1 .1 .1 .1 .0) (y .last .1 .1 .1 .1 .1 .0) (y .ensures .0) (y .ensures .1)))  -- returns-6

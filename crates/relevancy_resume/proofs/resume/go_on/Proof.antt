@@ -26,4 +26,4 @@ go-on-spec =
     let w = relevancyWalker (a .table .now) in
     let q = c .before .before .before .before .resume in
     let place = placeOf (w .find) (sessionOf (a .on .standing) (a .on .count) (a .atoms .now) (a .nexts .now) (a .steps) (a .on .next) (deepestAt (a .path .now))) in
-    goes-on w place (a .on .count) (a .on .limit) (a .facts .now) (a .path .now) 0 (q .result) (q .last .1 .1 .1 .0) (q .last .1 .1 .1 .1 .0) (q .ensures)))  -- returns
+    goes-on w place (a .on .count) (a .on .limit) (a .facts .now) (a .path .now) 0 (q .result) (q .last .1 .1 .1 .1 .0) (q .last .1 .1 .1 .1 .1 .0) (q .ensures)))  -- returns

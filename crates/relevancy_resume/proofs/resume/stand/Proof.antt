@@ -68,7 +68,7 @@ stand-spec =
     let y = c .before .before .before .before .work-off in
     split-goes w (s .args .facts .now) (s .args .path .now) (s .args .depth) (s .args .done) (s .args .on .count) (s .args .on .limit) (s .args .on .standing) (s .args .on .next) (g .0 .0) at
     (sym (not-false (b .result) (c .before .before .before .before .before .before .before .before .before .before .before .before .before .before .if1 .left)) ∙ b .ensures
-    ∙ ap (λ (ds : List ℕ). splitStands (standingBy (s .args .on .standing)) (s .args .depth) ds (s .args .on .next)) (c .before .before .before .before .before .before .before .before .before .before .before .before .before .before .before .before .alternatives-at .ensures .1)) (u .last .0) (u .ensures .0) (u .last .1 .0) t (y .result) (y .last .1 .1 .1 .0) (y .last .1 .1 .1 .1 .0) (y .ensures .0) (y .ensures .1))  -- returns-2
+    ∙ ap (λ (ds : List ℕ). splitStands (standingBy (s .args .on .standing)) (s .args .depth) ds (s .args .on .next)) (c .before .before .before .before .before .before .before .before .before .before .before .before .before .before .before .before .alternatives-at .ensures .1)) (u .last .0) (u .ensures .0) (u .last .1 .0) t (y .result) (y .last .1 .1 .1 .1 .0) (y .last .1 .1 .1 .1 .1 .0) (y .ensures .0) (y .ensures .1))  -- returns-2
     (λ c. search needs)  -- enum-known-found-2
     (λ c κs. search needs)  -- closed-stands-requires
     (λ c.

@@ -27,9 +27,9 @@ work-off-spec =
     let k = c .before .before .walked .given in
     let m = c .before .before .before .before .before .before .before .before .before .before .before .mark in
     let own = markAt (s .args .path .now) (s .args .depth) in
-    let shut : AllShut w (s .args .facts .now) (s .args .path .now) (s .args .depth) own (s .args .count) (s .args .limit) (k .0 .0) (y .last .1 .1 .1 .0) (y .last .1 .1 .1 .1 .0) =
-    leaves-as w (s .args .facts .now) (s .args .path .now) (s .args .depth) own own (s .args .count) (s .args .limit) (y .result) (Shut (k .0 .0)) (y .last .1 .1 .1 .0) (y .last .1 .1 .1 .1 .0) refl (k .1) (y .ensures .0) in
-    (subst (λ (j : ℕ). Store 2050 (y .last .1 .1 .1 .0) j) (sym (m .ensures)) (shut .undone .store), (omega (arith, s .pre .1 .1 .1 .0, m .ensures), omega arith)))  -- undo-requires
+    let shut : AllShut w (s .args .facts .now) (s .args .path .now) (s .args .depth) own (s .args .count) (s .args .on .limit) (k .0 .0) (y .last .1 .1 .1 .1 .0) (y .last .1 .1 .1 .1 .1 .0) =
+    leaves-as w (s .args .facts .now) (s .args .path .now) (s .args .depth) own own (s .args .count) (s .args .on .limit) (y .result) (Shut (k .0 .0)) (y .last .1 .1 .1 .1 .0) (y .last .1 .1 .1 .1 .1 .0) refl (k .1) (y .ensures .0) in
+    (subst (λ (j : ℕ). Store 2050 (y .last .1 .1 .1 .1 .0) j) (sym (m .ensures)) (shut .undone .store), (omega (arith, s .pre .1 .1 .1 .0, m .ensures), omega arith)))  -- undo-requires
     (λ c. search needs)  -- same-length
     (λ c. search needs)  -- same-length-2
     (λ c.
@@ -39,11 +39,11 @@ work-off-spec =
     let k = c .before .before .before .before .before .walked .given in
     let u = c .before .before .undo in
     let own = markAt (s .args .path .now) (s .args .depth) in
-    let shut : AllShut w (s .args .facts .now) (s .args .path .now) (s .args .depth) own (s .args .count) (s .args .limit) (k .0 .0) (y .last .1 .1 .1 .0) (y .last .1 .1 .1 .1 .0) =
-    leaves-as w (s .args .facts .now) (s .args .path .now) (s .args .depth) own own (s .args .count) (s .args .limit) (y .result) (Shut (k .0 .0)) (y .last .1 .1 .1 .0) (y .last .1 .1 .1 .1 .0) refl (k .1) (y .ensures .0) in (
-      off-shut w (s .args .facts .now) (s .args .path .now) (s .args .depth) (s .args .done) (s .args .count) (s .args .limit) (k .0 .0) (y .last .1 .1 .1 .0) (y .last .1 .1 .1 .1 .0) (s .pre .1 .1 .1 .0) shut (u .last .0) (u .ensures),
+    let shut : AllShut w (s .args .facts .now) (s .args .path .now) (s .args .depth) own (s .args .count) (s .args .on .limit) (k .0 .0) (y .last .1 .1 .1 .1 .0) (y .last .1 .1 .1 .1 .1 .0) =
+    leaves-as w (s .args .facts .now) (s .args .path .now) (s .args .depth) own own (s .args .count) (s .args .on .limit) (y .result) (Shut (k .0 .0)) (y .last .1 .1 .1 .1 .0) (y .last .1 .1 .1 .1 .1 .0) refl (k .1) (y .ensures .0) in (
+      off-shut w (s .args .facts .now) (s .args .path .now) (s .args .depth) (s .args .done) (s .args .count) (s .args .on .limit) (k .0 .0) (y .last .1 .1 .1 .1 .0) (y .last .1 .1 .1 .1 .1 .0) (s .pre .1 .1 .1 .0) shut (u .last .0) (u .ensures),
       λ r met due.
-          ended-as w r (s .args .path .now) (s .args .depth) (y .result) (Shut (k .0 .0)) (y .last .1 .1 .1 .0) (y .last .1 .1 .1 .1 .0) (k .1) (y .ensures .1 r met due),
+          ended-as w r (s .args .path .now) (s .args .depth) (y .result) (Shut (k .0 .0)) (y .last .1 .1 .1 .1 .0) (y .last .1 .1 .1 .1 .1 .0) (k .1) (y .ensures .1 r met due),
     ))  -- returns
     (λ c. search needs)  -- same-length-3
     (λ c. search needs)  -- same-length-4
@@ -51,7 +51,7 @@ work-off-spec =
     let s = c .before .before .before .before .before .before .before .before .before .before .before .before .before in
     let w = relevancyWalker (s .args .table .now) in
     let y = c .before .before .before .before .before .try-next in (
-      passes w (y .last .1 .1 .1 .0) (y .last .1 .1 .1 .1 .0) (s .args .limit) (s .args .facts .now) (s .args .path .now) (s .args .depth) (markAt (s .args .path .now) (s .args .depth)) (s .args .count)
+      passes w (y .last .1 .1 .1 .1 .0) (y .last .1 .1 .1 .1 .1 .0) (s .args .on .limit) (s .args .facts .now) (s .args .path .now) (s .args .depth) (markAt (s .args .path .now) (s .args .depth)) (s .args .count)
           (s .args .facts .now) (s .args .path .now) (s .args .depth) (s .args .done) (s .args .count) (y .result) (c .match .keys2) (y .ensures .0),
       y .ensures .1,
     )))  -- returns-2

@@ -31,31 +31,31 @@ use Rattle.store.proofs.undo.Reads as undo-reads
 use Rattle.relevancy_walk.proofs.trail.+try_next+visit.{statement}
 use Rattle.relevancy_walk.proofs.trail.+try_next+visit.Tie.{close}
 
-abbrev μ-try-next : Measures 5 try-next-kinds.ps ℕ
-μ-try-next κs a = triesLeft (relevancyWalker (a .0 .now)) (a .1 .1 .1 .0 .now) (a .1 .1 .1 .1 .0 .now) (a .1 .1 .1 .1 .1 .0)
+abbrev μ-try-next : Measures 6 try-next-kinds.ps ℕ
+μ-try-next κs a = triesLeft (relevancyWalker (a .0 .now)) (a .1 .1 .1 .1 .0 .now) (a .1 .1 .1 .1 .1 .0 .now) (a .1 .1 .1 .1 .1 .1 .0)
 
-abbrev μ-visit : Measures 5 visit-kinds.ps ℕ
-μ-visit κs a = visitsLeft (relevancyWalker (a .0 .now)) (a .1 .1 .1 .0 .now) (a .1 .1 .1 .1 .0 .now) (a .1 .1 .1 .1 .1 .0) (a .1 .1 .1 .1 .1 .1 .1 .0)
+abbrev μ-visit : Measures 6 visit-kinds.ps ℕ
+μ-visit κs a = visitsLeft (relevancyWalker (a .0 .now)) (a .1 .1 .1 .1 .0 .now) (a .1 .1 .1 .1 .1 .0 .now) (a .1 .1 .1 .1 .1 .1 .0) (a .1 .1 .1 .1 .1 .1 .1 .1 .0)
 
 -- what each is given at the measure t, and what a call of it asks below t
-abbrev try-next-at : ℕ → In 5 try-next-kinds.ps
-try-next-at t = and 5 try-next-kinds.ps (is 5 try-next-kinds.ps μ-try-next t) try-next.Pre
+abbrev try-next-at : ℕ → In 6 try-next-kinds.ps
+try-next-at t = and 6 try-next-kinds.ps (is 6 try-next-kinds.ps μ-try-next t) try-next.Pre
 
-abbrev try-next-below : ℕ → In 5 try-next-kinds.ps
-try-next-below t = and 5 try-next-kinds.ps (falls 5 try-next-kinds.ps _<_ μ-try-next t) try-next.Pre
+abbrev try-next-below : ℕ → In 6 try-next-kinds.ps
+try-next-below t = and 6 try-next-kinds.ps (falls 6 try-next-kinds.ps _<_ μ-try-next t) try-next.Pre
 
-abbrev visit-at : ℕ → In 5 visit-kinds.ps
-visit-at t = and 5 visit-kinds.ps (is 5 visit-kinds.ps μ-visit t) visit.Pre
+abbrev visit-at : ℕ → In 6 visit-kinds.ps
+visit-at t = and 6 visit-kinds.ps (is 6 visit-kinds.ps μ-visit t) visit.Pre
 
-abbrev visit-below : ℕ → In 5 visit-kinds.ps
-visit-below t = and 5 visit-kinds.ps (falls 5 visit-kinds.ps _<_ μ-visit t) visit.Pre
+abbrev visit-below : ℕ → In 6 visit-kinds.ps
+visit-below t = and 6 visit-kinds.ps (falls 6 visit-kinds.ps _<_ μ-visit t) visit.Pre
 
 -- after `made` entries some alternatives are shut, and fewer are left
 abbrev Inv-loop : try-next-lts.InvT-loop
-Inv-loop table conds alts facts₀ path₀ depth count limit own made₀ facts path made = Tried (relevancyWalker table) facts₀ path₀ depth count limit facts path made
+Inv-loop table conds alts new facts₀ path₀ depth count limit own made₀ facts path made = Tried (relevancyWalker table) facts₀ path₀ depth count limit facts path made
 
 abbrev μ-loop : try-next-lts.MeasureT-loop
-μ-loop table conds alts facts₀ path₀ depth count limit own made₀ facts path made = triesLeft (relevancyWalker table) facts path depth
+μ-loop table conds alts new facts₀ path₀ depth count limit own made₀ facts path made = triesLeft (relevancyWalker table) facts path depth
 
 pub +try-next+visit-spec : {M : Type 1} → statement M
 +try-next+visit-spec =
@@ -112,26 +112,26 @@ pub +try-next+visit-spec : {M : Type 1} → statement M
     let some-left = next-atom (altsAt w (l .path) (s .args .depth)) (nextAt (l .path) (s .args .depth)) (b .result) (d .given .0 .0) (d .given .1) (b .ensures) .0 in
     let own-is = c .before .before .before .before .before .before .before .before .before .before .before .before .before .before .before .before .mark .ensures ∙ sym (l .inv .mark-is) in
     let from : triesLeft w (s .args .facts .now) (s .args .path .now) (s .args .depth) ≡ t = s .pre .0 in (
-      subst (λ (m : ℕ). visitsLeft w (p .last .1 .1 .1 .0) (p .last .1 .1 .1 .1 .0) (s .args .depth + 1) (p .result) < m) from
-          (lt-of-lt-of-le (visit-falls w (sound (s .args .table .now) (s .pre .1 .0)) (l .facts) (l .path) (s .args .depth) (l .made) (l .inv .parted) some-left (p .result) (p .last .1 .1 .1 .0) (p .last .1 .1 .1 .1 .0) (p .ensures)) (l .inv .falls)),
+      subst (λ (m : ℕ). visitsLeft w (p .last .1 .1 .1 .1 .0) (p .last .1 .1 .1 .1 .1 .0) (s .args .depth + 1) (p .result) < m) from
+          (lt-of-lt-of-le (visit-falls w (sound (s .args .table .now) (s .pre .1 .0)) (l .facts) (l .path) (s .args .depth) (l .made) (l .inv .parted) some-left (p .result) (p .last .1 .1 .1 .1 .0) (p .last .1 .1 .1 .1 .1 .0) (p .ensures)) (l .inv .falls)),
       (
         s .pre .1 .0,
-        (s .pre .1 .1 .0, (subst (λ (m : ℕ). Reached w (p .last .1 .1 .1 .0) (p .last .1 .1 .1 .1 .0) (s .args .depth + 1) m (p .result)) (sym own-is) (p .ensures .reached), omega (arith, l .inv .within, (c .before .before .before .before .before .before .before .before .before) .if1 .left))),
+        (s .pre .1 .1 .0, (subst (λ (m : ℕ). Reached w (p .last .1 .1 .1 .1 .0) (p .last .1 .1 .1 .1 .1 .0) (s .args .depth + 1) m (p .result)) (sym own-is) (p .ensures .reached), omega (arith, l .inv .within, (c .before .before .before .before .before .before .before .before .before) .if1 .left))),
       ),
     ))  -- visit-requires
     (λ c. search needs)  -- enum-known-walked
-    (λ c. let p = c .before .before .before .before .before .before .before .before .before .before .before .before .place in let v = c .before .before .before .before .before .visit in v .kept .1 .1 .1 .0 ∙ p .kept .1 .1 .1 .0 ∙ ((c .before .before .before .before .before .before .before .before .before .before .before .before .before .before .before .before .before .before .before .before .before)) .loop .inv .parted .store .room ∙ sym (((c .before .before .before .before .before .before .before .before .before .before .before .before .before .before .before .before .before .before .before .before .before .before .before .before .before .before .before)) .pre .1 .1 .1 .0 .store .room))  -- same-length-5
-    (λ c. let p = c .before .before .before .before .before .before .before .before .before .before .before .before .place in let v = c .before .before .before .before .before .visit in v .kept .1 .1 .1 .1 .0 ∙ p .kept .1 .1 .1 .1 .0 ∙ ((c .before .before .before .before .before .before .before .before .before .before .before .before .before .before .before .before .before .before .before .before .before)) .loop .inv .parted .room .size ∙ sym (((c .before .before .before .before .before .before .before .before .before .before .before .before .before .before .before .before .before .before .before .before .before .before .before .before .before .before .before)) .pre .1 .1 .1 .0 .room .size))  -- same-length-6
+    (λ c. let p = c .before .before .before .before .before .before .before .before .before .before .before .before .place in let v = c .before .before .before .before .before .visit in v .kept .1 .1 .1 .1 .0 ∙ p .kept .1 .1 .1 .1 .0 ∙ ((c .before .before .before .before .before .before .before .before .before .before .before .before .before .before .before .before .before .before .before .before .before)) .loop .inv .parted .store .room ∙ sym (((c .before .before .before .before .before .before .before .before .before .before .before .before .before .before .before .before .before .before .before .before .before .before .before .before .before .before .before)) .pre .1 .1 .1 .0 .store .room))  -- same-length-5
+    (λ c. let p = c .before .before .before .before .before .before .before .before .before .before .before .before .place in let v = c .before .before .before .before .before .visit in v .kept .1 .1 .1 .1 .1 .0 ∙ p .kept .1 .1 .1 .1 .1 .0 ∙ ((c .before .before .before .before .before .before .before .before .before .before .before .before .before .before .before .before .before .before .before .before .before)) .loop .inv .parted .room .size ∙ sym (((c .before .before .before .before .before .before .before .before .before .before .before .before .before .before .before .before .before .before .before .before .before .before .before .before .before .before .before)) .pre .1 .1 .1 .0 .room .size))  -- same-length-6
     (λ c.
     let s = c .before .before .before .before .before .before .before .before .before .before .before .before .before .before .before .before .before .before .before .before .before .before .before .before .before .before .before in
     let l = c .before .before .before .before .before .before .before .before .before .before .before .before .before .before .before .before .before .before .before .before .before .loop in
     let p = c .before .before .before .before .before .before .before .before .before .before .before .before .place in
     let v = c .before .before .before .before .before .visit in
     let w = relevancyWalker (s .args .table .now) in (
-      passes w (v .last .1 .1 .1 .0) (v .last .1 .1 .1 .1 .0) (s .args .limit) (p .last .1 .1 .1 .0) (p .last .1 .1 .1 .1 .0) (s .args .depth + 1) ((c .before .before .before .before .before .before .before .before .before .before .before .before .before .before .before .before .before .before .before .before .before .before) .mark .result) (l .made + 1)
+      passes w (v .last .1 .1 .1 .1 .0) (v .last .1 .1 .1 .1 .1 .0) (s .args .limit) (p .last .1 .1 .1 .1 .0) (p .last .1 .1 .1 .1 .1 .0) (s .args .depth + 1) ((c .before .before .before .before .before .before .before .before .before .before .before .before .before .before .before .before .before .before .before .before .before .before) .mark .result) (l .made + 1)
           (s .args .facts .now) (s .args .path .now) (s .args .depth) (markAt (s .args .path .now) (s .args .depth)) (s .args .count) (v .result) (c .match2 .keys2) (v .ensures .0),
       λ r e due.
-          passes-ended w (v .last .1 .1 .1 .0) (v .last .1 .1 .1 .1 .0) r (p .last .1 .1 .1 .1 .0) (s .args .depth + 1) (s .args .path .now) (s .args .depth) (v .result) (c .match2 .keys2)
+          passes-ended w (v .last .1 .1 .1 .1 .0) (v .last .1 .1 .1 .1 .1 .0) r (p .last .1 .1 .1 .1 .1 .0) (s .args .depth + 1) (s .args .path .now) (s .args .depth) (v .result) (c .match2 .keys2)
           (v .ensures .1 r e (p .ensures .trail r (omega (arith, l .inv .within, (c .before .before .before .before .before .before .before .before .before .before .before .before .before .before .before) .if1 .left)) (l .inv .tries r e due))),
     ))  -- returns-3
     (λ c.
@@ -147,8 +147,8 @@ pub +try-next+visit-spec : {M : Type 1} → statement M
     let some-left = next-atom (altsAt w (l .path) (s .args .depth)) (nextAt (l .path) (s .args .depth)) (b .result) (d .given .0 .0) (d .given .1) (b .ensures) .0 in
     let below : l .made < s .args .limit = omega (arith, l .inv .within, (c .before .before .before .before .before .before .before .before .before .before .before .before .before .before .before .before .before) .if1 .left) in
     tried-falls w (s .args .facts .now) (s .args .path .now) (s .args .depth) (s .args .count) (s .args .limit) (l .facts) (l .path) (l .made) (l .inv) some-left below
-    (p .result) (p .last .1 .1 .1 .0) (p .last .1 .1 .1 .1 .0) (p .ensures) (m .result) (m .ensures ∙ sym (l .inv .mark-is))
-    (v .result) (g .0 .0) (g .1) (v .last .1 .1 .1 .0) (v .last .1 .1 .1 .1 .0) (v .kept .1 .1 .1 .1 .0) (v .ensures .0) (v .ensures .1))  -- loop-less
+    (p .result) (p .last .1 .1 .1 .1 .0) (p .last .1 .1 .1 .1 .1 .0) (p .ensures) (m .result) (m .ensures ∙ sym (l .inv .mark-is))
+    (v .result) (g .0 .0) (g .1) (v .last .1 .1 .1 .1 .0) (v .last .1 .1 .1 .1 .1 .0) (v .kept .1 .1 .1 .1 .1 .0) (v .ensures .0) (v .ensures .1))  -- loop-less
     (λ c.
     let s = c .before .before .before .before .before .before .before .before .before .before .before .before .before .before .before .before .before .before .before .before .before .before .before .before .before .before .before .before .before in
     let m = c .before .before .before .before .before .before .before .before .before .before .before .before .before .before .before .before .before .before .before .before .before .before .before .before .mark in
@@ -162,8 +162,8 @@ pub +try-next+visit-spec : {M : Type 1} → statement M
     let some-left = next-atom (altsAt w (l .path) (s .args .depth)) (nextAt (l .path) (s .args .depth)) (b .result) (d .given .0 .0) (d .given .1) (b .ensures) .0 in
     let below : l .made < s .args .limit = omega (arith, l .inv .within, (c .before .before .before .before .before .before .before .before .before .before .before .before .before .before .before .before .before) .if1 .left) in
     tried-on w (s .args .facts .now) (s .args .path .now) (s .args .depth) (s .args .count) (s .args .limit) (l .facts) (l .path) (l .made) (l .inv) some-left below
-    (p .result) (p .last .1 .1 .1 .0) (p .last .1 .1 .1 .1 .0) (p .ensures) (m .result) (m .ensures ∙ sym (l .inv .mark-is))
-    (v .result) (g .0 .0) (g .1) (v .last .1 .1 .1 .0) (v .last .1 .1 .1 .1 .0) (v .kept .1 .1 .1 .1 .0) (v .ensures .0) (v .ensures .1)))  -- loop-again
+    (p .result) (p .last .1 .1 .1 .1 .0) (p .last .1 .1 .1 .1 .1 .0) (p .ensures) (m .result) (m .ensures ∙ sym (l .inv .mark-is))
+    (v .result) (g .0 .0) (g .1) (v .last .1 .1 .1 .1 .0) (v .last .1 .1 .1 .1 .1 .0) (v .kept .1 .1 .1 .1 .1 .0) (v .ensures .0) (v .ensures .1)))  -- loop-again
     (λ t.
     visit-lts.spec (mark-reads.Asked, mark-reads.Learnt, undo-reads.Asked, undo-reads.Learnt, try-next-below t, try-next.Post) (visit-at t) visit.Post
     (λ c. search needs)  -- enum-known-found
@@ -199,9 +199,9 @@ pub +try-next+visit-spec : {M : Type 1} → statement M
     let at = reached-as w (s .args .facts .now) (s .args .path .now) (s .args .depth) (s .args .done) (s .args .found) (Split (g .0 .0)) (g .1) (s .pre .1 .1 .1 .0) in
     let y = c .before .before .before .before .before .before .before .before .try-next in
     let k = c .before .before .walked .given in
-    let shut : AllShut w ((c .before .before .before .before .before .before .before .before .before .before .before .before .before) .undo .last .0) (s .args .path .now) (s .args .depth) (markAt (s .args .path .now) (s .args .depth)) (s .args .count) (s .args .limit) (k .0 .0) (y .last .1 .1 .1 .0) (y .last .1 .1 .1 .1 .0) =
-    leaves-as w ((c .before .before .before .before .before .before .before .before .before .before .before .before .before) .undo .last .0) (s .args .path .now) (s .args .depth) (markAt (s .args .path .now) (s .args .depth)) (markAt (s .args .path .now) (s .args .depth)) (s .args .count) (s .args .limit) (y .result) (Shut (k .0 .0)) (y .last .1 .1 .1 .0) (y .last .1 .1 .1 .1 .0) refl (k .1) (y .ensures .0) in
-    (subst (λ (m : ℕ). Store 2050 (y .last .1 .1 .1 .0) m) (sym ((c .before .before .before .before .before .before .before .before .before .before .before .before .before .before .before) .mark .ensures)) (shut .undone .store), (omega (arith, at .ready .0, (c .before .before .before .before .before .before .before .before .before .before .before .before .before .before .before) .mark .ensures), omega arith)))  -- undo-requires-2
+    let shut : AllShut w ((c .before .before .before .before .before .before .before .before .before .before .before .before .before) .undo .last .0) (s .args .path .now) (s .args .depth) (markAt (s .args .path .now) (s .args .depth)) (s .args .count) (s .args .limit) (k .0 .0) (y .last .1 .1 .1 .1 .0) (y .last .1 .1 .1 .1 .1 .0) =
+    leaves-as w ((c .before .before .before .before .before .before .before .before .before .before .before .before .before) .undo .last .0) (s .args .path .now) (s .args .depth) (markAt (s .args .path .now) (s .args .depth)) (markAt (s .args .path .now) (s .args .depth)) (s .args .count) (s .args .limit) (y .result) (Shut (k .0 .0)) (y .last .1 .1 .1 .1 .0) (y .last .1 .1 .1 .1 .1 .0) refl (k .1) (y .ensures .0) in
+    (subst (λ (m : ℕ). Store 2050 (y .last .1 .1 .1 .1 .0) m) (sym ((c .before .before .before .before .before .before .before .before .before .before .before .before .before .before .before) .mark .ensures)) (shut .undone .store), (omega (arith, at .ready .0, (c .before .before .before .before .before .before .before .before .before .before .before .before .before .before .before) .mark .ensures), omega arith)))  -- undo-requires-2
     (λ c. search needs)  -- same-length
     (λ c. search needs)  -- same-length-2
     (λ c.
@@ -214,12 +214,12 @@ pub +try-next+visit-spec : {M : Type 1} → statement M
     let own : Undone 2050 (s .args .facts .now) (markAt (s .args .path .now) (s .args .depth)) (u .last .0) = subst (λ (m : ℕ). Undone 2050 (s .args .facts .now) m (u .last .0)) ((c .before .before .before .before .before .before .before .before .before .before .before .before .before .before .before .before .before .before) .mark .ensures) (u .ensures) in
     let y = c .before .before .before .before .before .before .before .before .before .before .before .try-next in
     let k = c .before .before .before .before .before .walked .given in
-    let shut : AllShut w (u .last .0) (s .args .path .now) (s .args .depth) (markAt (s .args .path .now) (s .args .depth)) (s .args .count) (s .args .limit) (k .0 .0) (y .last .1 .1 .1 .0) (y .last .1 .1 .1 .1 .0) =
-    leaves-as w (u .last .0) (s .args .path .now) (s .args .depth) (markAt (s .args .path .now) (s .args .depth)) (markAt (s .args .path .now) (s .args .depth)) (s .args .count) (s .args .limit) (y .result) (Shut (k .0 .0)) (y .last .1 .1 .1 .0) (y .last .1 .1 .1 .1 .0) refl (k .1) (y .ensures .0) in
+    let shut : AllShut w (u .last .0) (s .args .path .now) (s .args .depth) (markAt (s .args .path .now) (s .args .depth)) (s .args .count) (s .args .limit) (k .0 .0) (y .last .1 .1 .1 .1 .0) (y .last .1 .1 .1 .1 .1 .0) =
+    leaves-as w (u .last .0) (s .args .path .now) (s .args .depth) (markAt (s .args .path .now) (s .args .depth)) (markAt (s .args .path .now) (s .args .depth)) (s .args .count) (s .args .limit) (y .result) (Shut (k .0 .0)) (y .last .1 .1 .1 .1 .0) (y .last .1 .1 .1 .1 .1 .0) refl (k .1) (y .ensures .0) in
     let e = c .before .before .undo2 in (
-      split-shut w (s .args .facts .now) (s .args .path .now) (s .args .depth) (s .args .done) (s .args .count) (s .args .limit) (x .1) (g .0 .0) at (u .last .0) own (k .0 .0) (y .last .1 .1 .1 .0) (y .last .1 .1 .1 .1 .0) shut (e .last .0) (e .ensures),
+      split-shut w (s .args .facts .now) (s .args .path .now) (s .args .depth) (s .args .done) (s .args .count) (s .args .limit) (x .1) (g .0 .0) at (u .last .0) own (k .0 .0) (y .last .1 .1 .1 .1 .0) (y .last .1 .1 .1 .1 .1 .0) shut (e .last .0) (e .ensures),
       λ r met here.
-          ended-as w r (s .args .path .now) (s .args .depth) (y .result) (Shut (k .0 .0)) (y .last .1 .1 .1 .0) (y .last .1 .1 .1 .1 .0) (k .1)
+          ended-as w r (s .args .path .now) (s .args .depth) (y .result) (Shut (k .0 .0)) (y .last .1 .1 .1 .1 .0) (y .last .1 .1 .1 .1 .1 .0) (k .1)
           (y .ensures .1 r met (split-tries w r (s .args .facts .now) (s .args .path .now) (s .args .depth) (s .args .count) (g .0 .0) (visiting-as w r (s .args .facts .now) (s .args .path .now) (s .args .depth) (s .args .count) (s .args .found) (Split (g .0 .0)) (g .1) here))),
     ))  -- returns
     (λ c. search needs)  -- same-length-3
@@ -229,7 +229,7 @@ pub +try-next+visit-spec : {M : Type 1} → statement M
     let w = relevancyWalker (s .args .table .now) in
     let g = c .before .before .before .before .before .before .before .before .before .before .before .before .before .before .before .found .given in
     let y = c .before .before .before .before .before .try-next in (
-      passes w (y .last .1 .1 .1 .0) (y .last .1 .1 .1 .1 .0) (s .args .limit) (c .before .before .before .before .before .before .before .before .before .before .undo .last .0) (s .args .path .now) (s .args .depth) (markAt (s .args .path .now) (s .args .depth)) (s .args .count)
+      passes w (y .last .1 .1 .1 .1 .0) (y .last .1 .1 .1 .1 .1 .0) (s .args .limit) (c .before .before .before .before .before .before .before .before .before .before .undo .last .0) (s .args .path .now) (s .args .depth) (markAt (s .args .path .now) (s .args .depth)) (s .args .count)
           (s .args .facts .now) (s .args .path .now) (s .args .depth) (s .args .done) (s .args .count) (y .result) (c .match2 .keys2) (y .ensures .0),
       λ r met here.
           y .ensures .1 r met (split-tries w r (s .args .facts .now) (s .args .path .now) (s .args .depth) (s .args .count) (g .0 .0) (visiting-as w r (s .args .facts .now) (s .args .path .now) (s .args .depth) (s .args .count) (s .args .found) (Split (g .0 .0)) (g .1) here)),

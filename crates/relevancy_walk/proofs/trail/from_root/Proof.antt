@@ -24,5 +24,5 @@ from-root-spec =
     let v = c .before .before .before .before .visit in
     let w = relevancyWalker (a .table .now) in
     let r = fromRoot w (deepestAt (a .path .now)) (a .limit) in
-    root-walks w r (a .facts .now) (a .path .now) 0 0 (v .result) (v .last .1 .1 .1 .0) (v .last .1 .1 .1 .1 .0) (v .ensures .0)
+    root-walks w r (a .facts .now) (a .path .now) 0 0 (v .result) (v .last .1 .1 .1 .1 .0) (v .last .1 .1 .1 .1 .1 .0) (v .ensures .0)
     (v .ensures .1 r refl (start-visiting w (a .limit) (a .facts .now) (a .path .now) (a .found) (s .pre .1 .1)))))  -- returns
