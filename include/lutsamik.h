@@ -53,10 +53,10 @@
  * of stack were measured:
  *
  *   entries on the path             0       64      256    1,024
- *   a first run by relevancy   36,000   59,000  151,000  520,000
- *   a first run by magic       38,000   61,000  153,000  522,000
- *   going on by relevancy      39,000   62,000  154,000  522,000
- *   going on by magic         106,000  129,000  221,000  590,000
+ *   a first run by relevancy   37,000   62,000  160,000  553,000
+ *   a first run by magic       38,000   60,000  149,000  505,000
+ *   going on by relevancy      39,000   64,000  163,000  556,000
+ *   going on by magic         106,000  128,000  217,000  573,000
  */
 #ifndef LUTSAMIK_H
 #define LUTSAMIK_H

@@ -25,7 +25,7 @@ const STACK: usize = 1 << 20;
 
 /// The most that an engine may use, on a path of first alternatives or of fourth ones; the most where it goes on with a session; and the most for
 /// an operation that walks no path.
-const MOST_TO_WALK: usize = 1 << 19;
+const MOST_TO_WALK: usize = 9 << 16;
 const MOST_TO_GO_ON: usize = 5 << 17;
 const MOST: usize = 1 << 14;
 
