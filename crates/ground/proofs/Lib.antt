@@ -13,5 +13,6 @@ pub mod Cases
 pub mod Theorems
 pub mod Visits
 pub mod Rows
+pub mod RowLaws
 pub mod VerdictLaws
 pub mod AnswerLaws

@@ -2,6 +2,7 @@
 pub mod Placed
 pub mod Heading
 pub mod Matching
+pub mod Row
 pub mod Index
 pub mod Visit
 pub mod Sides
