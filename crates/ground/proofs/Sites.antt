@@ -52,7 +52,7 @@ module _ {S : Type 0} (c v : ℕ) (site : List ℕ → S) (test : S → Bool) wh
   abbrev at : ℕ → S
   at i = site (digitsOf c v i)
 
-  sites-listed : sites ≡ tabulate at (c ^ v)
+  pub sites-listed : sites ≡ tabulate at (c ^ v)
   sites-listed = ap (map site) (tuples-at c v) ∙ tabulate-map site (digitsOf c v) (c ^ v)
 
   sites-count : length sites ≡ c ^ v

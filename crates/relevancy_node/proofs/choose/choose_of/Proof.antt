@@ -1,23 +1,29 @@
--- `relevancy_node::choose::choose_of` meets its contract. The invariant: the instances passed cannot be split, so those from i on decide.
-use Prim.Native.Nat.{ℕ, _-_, _≤_, _<_, _^_}
-use mathlib.Core.Path.{_≡_, sym, _∙_, subst}
+-- `relevancy_node::choose::choose_of` meets its contract. The invariant: the rows before the one in reach have no instance that can be split.
+use Prim.Native.Nat.{ℕ, _-_, _<_, _^_}
+use mathlib.Core.List.{List}
+use mathlib.Core.Path.{_≡_, refl, sym, ap, subst, _∙_}
 use native.Mathlib.Omega.{arith}
 use borrow.Author.Needs.{needs}
-use lib.ListN.{length}
+use borrow.Author.Tests.{not-true, not-false}
+use lib.ListN.{length, getD}
 use Rattle.problem.specs.Layout.{problemIn}
 use Rattle.ground.specs.Instance.{clauseOf}
+use Rattle.ground.specs.contracts.Matching.{fullBox, rank, volume}
+use Rattle.ground.specs.contracts.Row.{Boxed, RowFirst, RowNext}
 use Rattle.ground.proofs.AtomLaws.{alts-count}
-use Rattle.ground.proofs.Turns.{Turn, ClauseKnown, clause-known, clause-listed, turn-starts, turn-placed, turn-asks, turn-next}
-use Rattle.relevancy_node.specs.contracts.Node.{splittableIn}
-use Rattle.relevancy_node.proofs.ChooseLaws.{choose-horn, splits-same, choose-here, choose-none}
+use Rattle.ground.proofs.Turns.{ClauseKnown, clause-known, clause-listed}
+use Rattle.relevancy_node.specs.contracts.Instances.{clauseBox}
+use Rattle.relevancy_node.specs.contracts.Choose.{Splitting}
+use Rattle.relevancy_node.proofs.ChooseLaws.{choose-horn}
+use Rattle.relevancy_node.proofs.RowLaws.{RowsTried, choose-nowhere, clause-boxed, rows-start, rows-here, rows-on, rows-end, rows-fall}
 use Rattle.relevancy_node.proofs.choose.choose_of.Statement.{statement}
 use Rattle.relevancy_node.proofs.choose.choose_of.Tie as tie
 
 abbrev Inv-loop : tie.InvT-loop
-Inv-loop table k r at c v count values₀ i₀ values i = Turn (problemIn table) (splittableIn table r) k values i
+Inv-loop table k r at bounds z steps values₀ values = RowsTried table r k bounds z values
 
 abbrev μ-loop : tie.MeasureT-loop
-μ-loop table k r at c v count values₀ i₀ values i = count - i
+μ-loop table k r at bounds z steps values₀ values = volume bounds - rank bounds values
 
 -- clause k is one of the table's
 listed : (s : tie.Start Inv-loop μ-loop) → s .args .k < length ((problemIn (s .args .table .now)) .clauses)
@@ -26,23 +32,38 @@ listed s = clause-listed (s .args .table .now) (s .pre .0) (s .args .k) (s .pre 
 known : (s : tie.Start Inv-loop μ-loop) → ClauseKnown (s .args .table .now) (s .args .k)
 known s = clause-known (s .args .table .now) (s .pre .0) (s .args .k) (listed s)
 
--- the function's entry, and the test of its alternatives
-abbrev begun : tie.After-pair Inv-loop μ-loop → tie.Start Inv-loop μ-loop
-begun p = p .before .before .before .before .before .before .before .before .before
+-- it has two alternatives or more
+several : (e : tie.Else1 Inv-loop μ-loop) → (let s = e .before .before .before .before in Splitting (s .args .table .now) (s .args .k))
+several e =
+    let s = e .before .before .before .before in
+    record { known = listed s; several = omega (arith, alts-count (s .args .table .now) (s .pre .0) (s .args .k) (listed s), e .if1 .left) }
 
-abbrev several : tie.After-pair Inv-loop μ-loop → tie.Else1 Inv-loop μ-loop
-several p = p .before .before .before .before .before
+-- how many instances it has
+counted : (p : tie.After-pair Inv-loop μ-loop) → (
+    let s = p .before .before .before .before .before .before .before in
+    p .pair .result ≡ (problemIn (s .args .table .now)) .constants ^ (clauseOf (problemIn (s .args .table .now)) (s .args .k)) .vars)
+counted p = let s = p .before .before .before .before .before .before .before in p .pair .ensures ∙ known s .instances
 
--- the loop counts up to its number of instances
-counted : (p : tie.After-pair Inv-loop μ-loop) →
-    let a = (begun p) .args in
-    p .pair .result ≡ (problemIn (a .table .now)) .constants ^ (clauseOf (problemIn (a .table .now)) (a .k)) .vars
-counted p = p .pair .ensures ∙ known (begun p) .instances
+-- there is one
+boxed : (e : tie.Else2 Inv-loop μ-loop) → (let s = e .before .before .before .before .before .before .before .before in Boxed (clauseBox (s .args .table .now) (s .args .k)))
+boxed e =
+    let s = e .before .before .before .before .before .before .before .before in
+    clause-boxed (s .args .table .now) (s .pre .0) (s .args .r .now) (s .args .k) (several (e .before .before .before .before)) (λ none. e .if2 .left (counted (e .before) ∙ none))
 
-below : (l : tie.In-loop Inv-loop μ-loop) →
-    let a = (begun (l .before .before)) .args in
-    l .before .loop .i < (problemIn (a .table .now)) .constants ^ (clauseOf (problemIn (a .table .now)) (a .k)) .vars
-below l = subst (λ (n : ℕ). l .before .loop .i < n) (counted (l .before .before)) (l .loop-test .taken)
+-- the box of all its values
+made : (f : tie.After-full-box Inv-loop μ-loop) → (let s = f .before .before .before .before .before .before .before .before .before .before .before .before in f .full-box .last .1 .1 .0 ≡ clauseBox (s .args .table .now) (s .args .k))
+made f = let s = f .before .before .before .before .before .before .before .before .before .before .before .before in f .full-box .ensures ∙ ap (fullBox (getD (s .args .table .now) 0 0)) (known s .variables)
+
+-- none of the row can be split: the values are as they were
+kept : (e : tie.Else3 Inv-loop μ-loop) → e .before .before .choose-row .last .1 .1 .1 .1 .1 .0 ≡ e .before .before .before .before .before .loop .values
+kept e = e .before .before .choose-row .ensures .kept (e .if3 .left)
+
+-- the row after it
+next : (c : tie.After-next-row Inv-loop μ-loop) →
+    RowNext (c .before .before .before .before .before .before .before .before .before .before .before .before .full-box .last .1 .1 .0) (c .before .before .before .before .before .before .before .before .before .before .last-free .result) (c .before .before .before .before .before .before .before .before .loop .values) (c .next-row .result) (c .next-row .last .1 .1 .0)
+next c =
+    subst (λ (v : List ℕ). RowNext (c .before .before .before .before .before .before .before .before .before .before .before .before .full-box .last .1 .1 .0) (c .before .before .before .before .before .before .before .before .before .before .last-free .result) v (c .next-row .result) (c .next-row .last .1 .1 .0))
+    (kept (c .before .before .before)) (c .next-row .ensures)
 
 pub choose-of-spec : {M : Type 1} → statement M
 choose-of-spec =
@@ -53,70 +74,57 @@ choose-of-spec =
     (λ c. omega arith)  -- mul-at
     (λ c. omega arith)  -- add-at
     (λ c. omega arith)  -- add-if1
-    (λ c.
-    let k = known (c .before .before .before) in
-    omega (arith, k .size, k .few))  -- shared-slice-read-if1
+    (λ c. let k = known (c .before .before .before) in omega (arith, k .size, k .few))  -- shared-slice-read-if1
     (λ c.
     let s = c .before .before .before .before in
     sym (choose-horn (s .args .table .now) (s .args .r .now) (s .args .k) (omega (arith, alts-count (s .args .table .now) (s .pre .0) (s .args .k) (listed s), c .if1 .taken))))  -- returns
-    (λ c. omega (arith, known (c .before .before .before .before .before) .size))  -- shared-slice-read-c
-    (λ c. omega arith)  -- add-v
-    (λ c.
-    let k = known (c .before .before .before .before .before .before) in
-    omega (arith, k .size, k .few))  -- shared-slice-read-v
     (λ c. omega arith)  -- add-pair
-    (λ c.
-    let k = known (c .before .before .before .before .before .before .before) in
-    omega (arith, k .size, k .few))  -- shared-slice-read-pair
+    (λ c. let k = known (c .before .before .before .before .before) in omega (arith, k .size, k .few))  -- shared-slice-read-pair
     (λ c. omega arith)  -- add-pair-2
-    (λ c.
-    let k = known (c .before .before .before .before .before .before .before .before) in
-    omega (arith, k .size, k .few))  -- shared-slice-read-pair-2
+    (λ c. let k = known (c .before .before .before .before .before .before) in omega (arith, k .size, k .few))  -- shared-slice-read-pair-2
     (λ c κs. tt)  -- pair-requires
     (λ c.
-    let s = begun c in
-    turn-starts (problemIn (s .args .table .now)) (splittableIn (s .args .table .now) (s .args .r .now)) (s .args .k) (known s .fits))  -- loop-holds
-    (λ c. sym (c .before .before .loop .inv .four))  -- slice-aggregate-can-split
+    let s = c .before .before .before .before .before .before .before .before in
+    sym (choose-nowhere (s .args .table .now) (s .pre .0) (s .args .r .now) (s .args .k) (several (c .before .before .before .before)) (sym (counted (c .before)) ∙ c .if2 .taken)))  -- returns-2
+    (λ c. let k = known (c .before .before .before .before .before .before .before .before .before) in omega (arith, k .size))  -- shared-slice-read-full-box
+    (λ c. omega arith)  -- add-full-box
+    (λ c. let k = known (c .before .before .before .before .before .before .before .before .before .before) in omega (arith, k .size, k .few))  -- shared-slice-read-full-box-2
+    (λ c κs. refl)  -- full-box-requires
+    (λ c. sym (ap length (made (c .before))))  -- slice-aggregate-last-free
+    (λ c κs. subst Boxed (sym (made (c .before))) (boxed (c .before .before .before .before .before)))  -- last-free-requires
+    (λ c κs. let s = c .before .before .before .before .before .before .before .before .before .before .before .before .before .before in (s .pre .0, (several (c .before .before .before .before .before .before .before .before .before .before), boxed (c .before .before .before .before .before .before), c .last-free .ensures .known)))  -- steps-of-requires
+    (λ c.
+    let s = c .before .before .before .before .before .before .before .before .before .before .before .before .before .before .before in
+    rows-start (s .args .table .now) (s .pre .0) (s .args .r .now) (s .args .k) (several (c .before .before .before .before .before .before .before .before .before .before .before)) (made (c .before .before .before)) (boxed (c .before .before .before .before .before .before .before)) ((c .before) .last-free .ensures))  -- loop-holds
+    (λ c. sym (ap length (made (c .before .before .before .before .before))))  -- slice-aggregate-choose-row
+    (λ c. sym ((c .before .before) .loop .inv .row .begins .inside .four))  -- slice-aggregate-choose-row-2
     (λ c κs.
-    let l = c .before .before .loop in
-    let p = c .before .before .before in
-    let s = begun p in
-    let test = splittableIn (s .args .table .now) (s .args .r .now) in
-    let room : 1024 ≤ length (s .args .r .now) = omega (arith, s .pre .1 .1) in (
-      s .pre .0,
-      (
-        turn-placed (s .args .table .now) (s .pre .0) (s .args .k) (listed s) test (l .values) (l .i) (below (c .before)) (l .inv) (s .args .r .now) room,
-        (s .pre .1 .1, several p .if1 .left),
-      ),
-    ))  -- can-split-requires
-    (λ c. search needs)  -- array-read-t26
-    (λ c. search needs)  -- array-read-t29
-    (λ c. search needs)  -- array-read-t32
-    (λ c. search needs)  -- array-read-t35
+    let s = c .before .before .before .before .before .before .before .before .before .before .before .before .before .before .before .before .before .before in
+    (s .pre .0, ((several (c .before .before .before .before .before .before .before .before .before .before .before .before .before .before), (c .before .before) .loop .inv .row), ((c .before .before .before) .steps-of .ensures, s .pre .1 .1))))  -- choose-row-requires
+    (λ c. search needs)  -- array-read-t31
+    (λ c. search needs)  -- array-read-t34
+    (λ c. search needs)  -- array-read-t37
+    (λ c. search needs)  -- array-read-t40
     (λ c.
-    let r = c .before in
-    let l = r .before .before .before .loop in
-    let s = begun (r .before .before .before .before) in
-    sym (choose-here (s .args .table .now) (s .args .r .now) (s .args .k) (known s .fits) (l .values) (l .i) (l .inv) (below (r .before .before)) _ (r .can-split .ensures) (c .if2 .taken)))  -- returns-2
-    (λ c. sym (c .before .before .before .before .before .loop .inv .four))  -- slice-aggregate-step
+    let s = c .before .before .before .before .before .before .before .before .before .before .before .before .before .before .before .before .before .before .before .before .before in
+    sym (rows-here (s .args .table .now) (s .pre .0) (s .args .r .now) (s .args .k) (several (c .before .before .before .before .before .before .before .before .before .before .before .before .before .before .before .before .before)) ((c .before .before .before .before .before) .loop .inv) ((c .before .before) .choose-row .ensures .here (c .if3 .taken))))  -- returns-3
+    (λ c. sym (ap length (made (c .before .before .before .before .before .before .before .before .before .before))))  -- slice-aggregate-next-row
+    (λ c. sym (ap length (kept (c .before .before)) ∙ (c .before .before .before .before .before .before .before) .loop .inv .row .begins .inside .four))  -- slice-aggregate-next-row-2
     (λ c κs.
-    let r = c .before .before in
-    let l = r .before .before .before .loop in
-    let s = begun (r .before .before .before .before) in
-    let test = splittableIn (s .args .table .now) (s .args .r .now) in
-    turn-asks (s .args .table .now) (s .pre .0) (s .args .k) (listed s) test (l .values) (l .i) (below (r .before .before)) (l .inv))  -- step-requires
-    (λ c. omega (arith, c .before .before .before .before .before .before .loop-test .taken, c .before .before .before .before .before .before .before .before .pair .ok))  -- add-i
-    (λ c. omega (arith, c .before .before .before .before .before .before .loop-test .taken))  -- loop-less
+    let row = c .before .before .before .before .before .before .before .loop .inv .row in
+    (ap length (made (c .before .before .before .before .before .before .before .before .before .before .before)), row .along, subst (RowFirst _ _) (sym (kept (c .before .before))) (row .begins)))  -- next-row-requires
     (λ c.
-    let e = c .before .before .before in
-    let r = e .before in
-    let l = r .before .before .before .loop in
-    let s = begun (r .before .before .before .before) in
-    let test = splittableIn (s .args .table .now) (s .args .r .now) in
-    turn-next (s .args .table .now) (s .pre .0) (s .args .k) (listed s) test (l .values) (l .i) (below (r .before .before)) (l .inv)
-    (c .before .step .last .0) (splits-same (s .args .table .now) (s .args .r .now) (s .args .k) (known s .fits) (l .values) ∙ sym (r .can-split .ensures) ∙ e .if2 .left)
-    (c .before .step .ensures) (c .before .step .kept .0))  -- loop-again
+    let s = c .before .before .before .before .before .before .before .before .before .before .before .before .before .before .before .before .before .before .before .before .before .before .before .before .before .before in
+    let x = c .before .before .before .before .before .before .before .choose-row in
+    let n = c .before .before in
+    sym (rows-end (s .args .table .now) (s .pre .0) (s .args .r .now) (s .args .k) (several (c .before .before .before .before .before .before .before .before .before .before .before .before .before .before .before .before .before .before .before .before .before .before)) ((c .before .before .before .before .before .before .before .before .before .before) .loop .inv) (x .ensures .none ((c .before .before .before .before .before) .if3 .left)) (next n) (not-true (n .next-row .result) (c .if4 .taken))))  -- returns-4
     (λ c.
-    let l = c .before .loop in
-    let s = begun (c .before .before) in
-    sym (choose-none (s .args .table .now) (s .args .r .now) (s .args .k) (known s .fits) (l .values) (l .i) (l .inv) (omega (arith, counted (c .before .before))))))  -- returns-3
+    let s = c .before .before .before .before .before .before .before .before .before .before .before .before .before .before .before .before .before .before .before .before .before .before .before .before .before .before in
+    let x = c .before .before .before .before .before .before .before .choose-row in
+    let n = c .before .before in
+    rows-fall (s .args .table .now) (s .pre .0) (s .args .r .now) (s .args .k) (several (c .before .before .before .before .before .before .before .before .before .before .before .before .before .before .before .before .before .before .before .before .before .before)) ((c .before .before .before .before .before .before .before .before .before .before) .loop .inv) (x .ensures .none ((c .before .before .before .before .before) .if3 .left)) (next n) (not-false (n .next-row .result) (c .if4 .left)))  -- loop-less
+    (λ c.
+    let s = c .before .before .before .before .before .before .before .before .before .before .before .before .before .before .before .before .before .before .before .before .before .before .before .before .before .before in
+    let x = c .before .before .before .before .before .before .before .choose-row in
+    let n = c .before .before in
+    rows-on (s .args .table .now) (s .pre .0) (s .args .r .now) (s .args .k) (several (c .before .before .before .before .before .before .before .before .before .before .before .before .before .before .before .before .before .before .before .before .before .before)) ((c .before .before .before .before .before .before .before .before .before .before) .loop .inv) (x .ensures .none ((c .before .before .before .before .before) .if3 .left)) (next n) (not-false (n .next-row .result) (c .if4 .left))))  -- loop-again
