@@ -2,6 +2,7 @@
 pub mod choose;
 pub mod close;
 pub mod index;
+pub mod loud;
 pub mod mark;
 pub mod node;
 pub mod rows;
