@@ -1,25 +1,37 @@
 -- The ways out of the operation, and what is told of its walk.
-use Prim.Native.Nat.{ℕ, _≤_, _<_}
+use Prim.Native.Nat.{ℕ, _+_, _≤_, _<_}
 use mathlib.Core.Bool.{true, false}
-use mathlib.Core.List.{List, _++_}
-use mathlib.Core.Path.{_≡_, ap, _∙_}
+use mathlib.Core.List.{List, [], _++_}
+use mathlib.Core.Path.{_≡_, sym, ap, subst, _∙_}
+use native.Mathlib.Omega.{arith}
+use lib.Dec.{T}
 use lib.ListN.{length, take, drop, replicate}
 use borrow.Author.Tests.{lt-ltb, le-ltb}
-use Rattle.search.specs.Relevancy.{findR}
+use Rattle.lists.specs.Key.{natKey}
+use Rattle.lists.specs.Member.{In}
+use Rattle.search.specs.Relevancy.{isRelevant, findR}
 use Rattle.search.specs.Session.{firstSession}
 use Rattle.problem.specs.Problem.{limitOf}
 use Rattle.problem.specs.Layout.{problemIn}
-use Rattle.problem.specs.Table.{isValid}
+use Rattle.problem.specs.Table.{Lawful, isValid}
+use Rattle.store.specs.contracts.Store.{logged}
+use Rattle.store.proofs.Laws.{store-flag}
 use Rattle.ground.specs.declared.verdict.Verdict.{Verdict}
 use Rattle.ground.specs.declared.verdict.Verdict.the-variants.{Refused}
 use Rattle.ground.specs.Verdict.{verdictOf, answerOf}
 use Rattle.ground.specs.Instance.{groundIn}
+use Rattle.ground.proofs.Instances.{atoms-few}
+use Rattle.relevancy_node.specs.contracts.Loud.{RootFlags}
 use Rattle.walk.specs.contracts.Walker.{fromRoot}
+use Rattle.walk.specs.contracts.Path.{pathIn}
+use Rattle.walk.specs.contracts.Place.{factsOf, Beginning}
+use Rattle.walk.specs.declared.answer.Found.{Found as Told}
+use Rattle.walk.specs.declared.answer.Found.the-variants.{Closed, Open, Split}
 use Rattle.session.specs.declared.record.Moved.{Moved}
 use Rattle.session.specs.Record.{laid}
 use Rattle.session.specs.contracts.End.{Concluded}
 use Rattle.session.proofs.EndLaws.{first-concluded}
-use Rattle.relevancy_walk.specs.contracts.Place.{relevancyWalker}
+use Rattle.relevancy_walk.specs.contracts.Place.{HeldIn, relevancyWalker}
 use Rattle.relevancy.specs.Engine.{outcomeIn, tooShort, fitResult, fitAnswer, fitWork}
 
 -- ---- the ways out of the operation
@@ -54,6 +66,18 @@ module _ (tb answer work : List ℕ) where
       → Fitted r left (part ++ drop 65536 work)
   unfolding fitResult fitAnswer fitWork
   fit-runs e v r left part o a z = (o ∙ rw (e, v), a ∙ rw (e, v), ap (λ (l : List ℕ). l ++ drop 65536 work) z ∙ rw (e, v))
+
+-- ---- the root
+
+-- nothing is marked there but what is relevant
+pub root-flags : (tb : List ℕ) → Lawful tb → (x : Told) (facts path : List ℕ) → Beginning (relevancyWalker tb) x facts path → RootFlags tb facts
+unfolding pathIn
+root-flags tb h x facts path b a few flagged = by-kind x (b .reached .holds) (subst T (store-flag (b .reached .store) (omega (arith, atoms-few (problemIn tb) (h .fits)))) (subst T (sym flagged) tt))
+  where
+    by-kind : (y : Told) → HeldIn tb y [] (logged facts 2050 (factsOf x)) → In natKey (logged facts 2050 (factsOf x)) (1025 + a) → T (isRelevant (groundIn tb) [] a)
+    by-kind (Closed n) held i = held .1 a few i
+    by-kind (Open n) held i = subst T (held .1 a few) i
+    by-kind (Split n) held i = subst T (held .1 a few) i
 
 -- ---- the end of a first run under the table's own limit
 

@@ -35,12 +35,12 @@ fn decide(table: &[u8], answer: &mut [u8], facts: &mut [u8]) -> Moved
 {
     let conds = build(table, false);
     let alts = build(table, true);
-    let new = relevancy_node::sweep::build(table);
     lists::zero(&mut facts[..2050]);
     let mut path = [0u8; 9227];
     let limit = limit_in(table);
     let found = root(table, &conds, &alts, facts, &mut path);
     let used = root_alternatives(table, &path, found);
+    let new = relevancy_node::sweep::build(table, facts, 0 < used);
     let walked = from_root(table, &conds, &alts, &new, facts, &mut path, found, limit);
     conclude(table, facts, &path, answer, walked, limit, used)
 }

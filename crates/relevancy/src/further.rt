@@ -36,7 +36,6 @@ fn further_run(
 {
     let conds = build(table, false);
     let alts = build(table, true);
-    let new = relevancy_node::sweep::build(table);
     let mut facts = [0u8; 6150];
     let mut path = [0u8; 9227];
     let atoms = session.atoms;
@@ -46,6 +45,7 @@ fn further_run(
     bring(&mut path, session.deepest as usize);
     let found = root(table, &conds, &alts, &mut facts, &mut path);
     let used = root_alternatives(table, &path, found);
+    let new = relevancy_node::sweep::build(table, &facts, 0 < used);
     let on = Onward {
         standing: session.verdict,
         next: session.next,
