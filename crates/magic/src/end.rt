@@ -72,7 +72,7 @@ pub fn conclude(
 ) -> Moved
     requires { ⌜ Ruled (now rules) ⌝ }
     requires { ⌜ length (now path) ≡ 9227 ⌝ }
-    requires { ⌜ (1024 ≤ length (now answer)) × (length (now facts) ≡ 55302) ⌝ }
+    requires { ⌜ (1024 ≤ length (now answer)) × (length (now facts) ≡ 6150) ⌝ }
     requires { ⌜ ((r : Run Instance) × ((r .limit ≡ limit) × Walks (magicWalker (now rules)) r walked (now facts) (now path))) ⌝ }
     requires { ⌜ used ≡ length (altsFound ((magicWalker (now rules)) .find [])) ⌝ }
     ensures { λ x. ⌜ ((r : Run Instance) → r .limit ≡ limit → Walks (magicWalker (now (rules .entry))) r walked (now (facts .entry)) (now (path .entry)) → Concluded (magicWalker (now (rules .entry))) r (now (answer .entry)) x (now (answer .exit))) ⌝ }

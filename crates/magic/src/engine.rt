@@ -32,11 +32,11 @@ ghost use Rattle.magic.specs.Sessions.{magicBegun, magicResumed, rulesLe
 // The magic walk by the rules of a buffer from the root on, under a limit, in a buffer for its facts: an empty set has its flags zero, the log may hold anything.
 fn decide(rules: &[u8], limit: u32, answer: &mut [u8], facts: &mut [u8]) -> Moved
     requires { ⌜ Ruled (now rules) ⌝ }
-    requires { ⌜ (1024 ≤ length (now answer)) × (length (now facts) ≡ 55302) ⌝ }
+    requires { ⌜ (1024 ≤ length (now answer)) × (length (now facts) ≡ 6150) ⌝ }
     ensures { λ r. ⌜ (r .verdict ≡ verdictOf (rulesOutcome (now (rules .entry)) limit)) × (r .session ≡ laid (firstSession (findIn (now (rules .entry))) limit)) × (now (answer .exit) ≡ answerOf (rulesOutcome (now (rules .entry)) limit) (now (answer .entry))) ⌝ }
 {
     let index = build(rules);
-    lists::zero(&mut facts[..18434]);
+    lists::zero(&mut facts[..2050]);
     let mut path = [0u8; 9227];
     let found = root(rules, &index, facts, &mut path);
     let used = root_alternatives(rules, &path, found);
@@ -52,7 +52,7 @@ fn run(table: &[u8], rules: &mut [u8], answer: &mut [u8], work: &mut [u8]) -> Mo
 {
     write_rules(table, rules);
     let limit = limit_in(table);
-    let moved = decide(rules, limit, answer, &mut work[0..55302]);
+    let moved = decide(rules, limit, answer, &mut work[0..6150]);
     lists::zero(work);
     moved
 }

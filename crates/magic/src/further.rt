@@ -40,7 +40,7 @@ fn further_run(
     ensures { λ r. ⌜ (r .verdict ≡ verdictTold (calledIn (findIn (now (rules .entry))) atoms session further)) × (r .session ≡ recordLeft (calledIn (findIn (now (rules .entry))) atoms session further) session) × (now (answer .exit) ≡ answerLeft (calledIn (findIn (now (rules .entry))) atoms session further) (now (answer .entry))) ⌝ }
 {
     let index = build(rules);
-    let mut facts = [0u8; 55302];
+    let mut facts = [0u8; 6150];
     let mut path = [0u8; 9227];
     let entered = session.atoms;
     let nexts = session.nexts;

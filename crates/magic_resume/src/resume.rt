@@ -50,7 +50,7 @@ fn work_off(
     let walked = try_next(rules, index, facts, path, depth, count, limit);
     match walked {
         Walked::Shut(shut) => {
-            undo(facts, 18434, own, done);
+            undo(facts, 2050, own, done);
             return Walked::Shut(shut);
         }
         _ => {}
@@ -81,7 +81,7 @@ fn stand(
             if !split_stands(all, depth, on.standing, on.next) {
                 return Resumed::Nowhere;
             }
-            rewind(facts, path, 18434, depth, n, on.next);
+            rewind(facts, path, 2050, depth, n, on.next);
             let walked = work_off(rules, index, facts, path, depth, done, on.count, on.limit);
             return Resumed::On(walked);
         }
@@ -89,7 +89,7 @@ fn stand(
             if !closed_stands(depth, on.standing, on.next) {
                 return Resumed::Nowhere;
             }
-            undo(facts, 18434, n, done);
+            undo(facts, 2050, n, done);
             return Resumed::On(Walked::Shut(on.count));
         }
         _ => {}
@@ -135,7 +135,7 @@ fn resume(
     if !is_taken(all, j, a) {
         return Resumed::Nowhere;
     }
-    rewind(facts, path, 18434, depth, n, j - 1);
+    rewind(facts, path, 2050, depth, n, j - 1);
     let own = mark(path, depth);
     let made = enter(rules, index, facts, path, depth, a);
     let below = resume(

@@ -69,9 +69,9 @@ module _ (bs : List ℕ) (h : Ruled bs) (facts path : List ℕ) (depth n done fr
     splitting : Splitting bs site
     splitting = record { listed = node .listed; several = node .several }
 
-    rests : RestedAtSplit bs site l (logged left-facts 18434 (markAt left depth))
+    rests : RestedAtSplit bs site l (logged left-facts 2050 (markAt left depth))
     rests =
-        subst (λ (j : ℕ). RestedAtSplit bs site l (logged left-facts 18434 j)) (sym (wrote .mark-is))
+        subst (λ (j : ℕ). RestedAtSplit bs site l (logged left-facts 2050 j)) (sym (wrote .mark-is))
         (record { rested = node .passed; following = node .rests .follows l (fresh .seeded); untrue = node .untrue })
 
     pub node-split : Finding (magicWalker bs) facts path depth n done (ToldSplit m) left-facts left

@@ -16,9 +16,9 @@ use Rattle.ground.specs.Instance.{Instance}
 use Rattle.rewriting.specs.Facts.{falseIn, findIn}
 use Rattle.rewriting.specs.contracts.Ruled.{Ruled}
 use Rattle.rewriting.specs.contracts.Numbered.{relevantFact}
-use Rattle.magic_node.specs.contracts.Watch.{sitePlace, askedAt, siteGoals, Met, continuationsIn}
+use Rattle.magic_node.specs.contracts.Watch.{sitePlace, neededAt, siteGoals, Met}
 use Rattle.magic_node.specs.contracts.Node.{HeldOpening, HeldStarted, HeldSeeded}
-use Rattle.magic_node.proofs.WatchLaws.{met-grows, continuations-all, continuations-same}
+use Rattle.magic_node.proofs.WatchLaws.{met-grows}
 use Rattle.walk.specs.contracts.Walker.{Walker}
 use Rattle.walk.specs.contracts.Path.{Room, nextAt, markAt, Passed, siteAt, altsAt, entryAt, pathIn}
 use Rattle.walk.specs.contracts.Place.{Parted, Finding, Making}
@@ -43,7 +43,7 @@ module _ (bs : List ℕ) (h : Ruled bs) (facts path : List ℕ) (depth : ℕ) (n
   l = entered (pathIn w path depth)
 
   abbrev before : List ℕ
-  before = logged facts 18434 mark
+  before = logged facts 2050 mark
 
   rests : RestedAtSplit bs (siteAt w path depth) l before
   rests = node .at-split .rests
@@ -53,15 +53,15 @@ module _ (bs : List ℕ) (h : Ruled bs) (facts path : List ℕ) (depth : ℕ) (n
 
   -- the next alternative is put into the set
   module _ (own : ℕ) (own-is : own ≡ markAt path depth) (a : ℕ) (a-is : a ≡ getD (altsAt (magicWalker bs) path depth) (nextAt path depth) 0)
-      (left : List ℕ) (n : ℕ) (added : Added 18434 facts own a left n) where
+      (left : List ℕ) (n : ℕ) (added : Added 2050 facts own a left n) where
     abbrev after : List ℕ
-    after = logged left 18434 n
+    after = logged left 2050 n
 
-    put : Added 18434 facts mark atom left n
+    put : Added 2050 facts mark atom left n
     put = rw (← own-is, ← a-is) added
 
     carried : (x : ℕ) → In natKey before x → In natKey after x
-    carried = added-carries 18434 facts mark atom left n put
+    carried = added-carries 2050 facts mark atom left n put
 
     added-seeded : HeldSeeded bs (atom ∷ l) left n
     added-seeded =
@@ -69,29 +69,20 @@ module _ (bs : List ℕ) (h : Ruled bs) (facts path : List ℕ) (depth : ℕ) (n
         record {
           small = (next-small, rests .following .small);
           seeds = (carried (relevantFact (falseIn bs)) (held .0), (added-in put, all-map (In natKey before) (In natKey after) carried l (held .1)));
-          inside = λ c closed asked. added-each 18434 facts mark atom left n put (In natKey c) (asked .1 .0) (rests .following .inside c closed (asked .0, asked .1 .1));
+          inside = λ c closed asked. added-each 2050 facts mark atom left n put (In natKey c) (asked .1 .0) (rests .following .inside c closed (asked .0, asked .1 .1));
         }
 
     -- what rested is worked off, and the truth is still to be
-    inside : All (In natKey before) (logged left 18434 mark ++ continuationsIn after)
-    inside =
-        let small : atom < 2050 = omega (arith, next-small, (sound bs h) .few) in
-        all-append (In natKey before) (logged left 18434 mark) (continuationsIn after)
-        (subst (All (In natKey before)) (sym (put .kept mark (omega arith))) (all-in natKey before))
-        (subst (All (In natKey before)) (sym (ap continuationsIn (put .list) ∙ continuations-same before atom small (has natKey before atom)))
-        (continuations-all (In natKey before) before (all-in natKey before)))
-
     pub added-opening : (from : ℕ) → from ≡ sitePlace bs (ruleSite (siteAt (magicWalker bs) path depth)) → HeldOpening bs left n own from
     added-opening from from-is =
-        let done : List ℕ = logged left 18434 mark ++ continuationsIn after in
         rw own-is
         (record {
           store = put .store;
           part = put .grows;
-          worked = λ i listed asked.
+          worked = λ i listed needs.
               all-map (Met bs (sitePlace bs (ruleSite (siteAt (magicWalker bs) path depth))) before) (Met bs from after)
               (met-grows bs (sitePlace bs (ruleSite (siteAt (magicWalker bs) path depth))) from before after (omega (arith, from-is)) carried) (siteGoals bs i)
-              (rests .rested i listed (all-map (In natKey done) (In natKey before) (λ x t. has-all natKey (In natKey before) done inside x t) (askedAt bs i) asked));
+              (rests .rested i listed (subst (λ (done : List ℕ). All (In natKey done) (neededAt bs i)) (put .kept mark (omega arith)) needs));
         })
 
     -- the path has the entry
@@ -117,17 +108,9 @@ module _ (bs : List ℕ) (h : Ruled bs) (facts path : List ℕ) (depth : ℕ) (n
 
 -- the root, once "false" relevant is in
 module _ (bs : List ℕ) (left path : List ℕ) (n : ℕ) (started : HeldStarted bs left n) where
-  pub root-opening : Ruled bs → HeldOpening bs left n 0 0
+  pub root-opening : HeldOpening bs left n 0 0
   unfolding logged
-  root-opening h =
-      let few = (sound bs h) .few in
-      record {
-        store = started .store;
-        part = omega arith;
-        worked = λ i listed asked.
-            started .worked i listed
-            (subst (λ (done : List ℕ). All (In natKey done) (askedAt bs i)) (ap continuationsIn (started .list) ∙ continuations-same [] (relevantFact (falseIn bs)) (omega arith) false) asked);
-      }
+  root-opening = record { store = started .store; part = omega arith; worked = started .worked }
 
   pub root-fresh : HeldFresh bs left path 0 n
   unfolding pathIn

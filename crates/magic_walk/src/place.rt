@@ -128,7 +128,7 @@ pub fn enter(
     let own = mark(path, depth);
     let from = split_place(rules, path, depth);
     pass(path, depth);
-    let n = add(facts, 18434, own, a);
+    let n = add(facts, 2050, own, a);
     find(rules, index, facts, path, depth + 1, n, own, from)
 }
 
@@ -157,7 +157,7 @@ pub fn place(
 pub fn root(rules: &[u8], index: &[u16; 1536], facts: &mut [u8], path: &mut [u8]) -> Found
     requires { ⌜ Ruled (now rules) ⌝ }
     requires { ⌜ RulesIndexed (now rules) (now index) ⌝ }
-    requires { ⌜ Store 18434 (now facts) 0 × Room (now path) 0 ⌝ }
+    requires { ⌜ Store 2050 (now facts) 0 × Room (now path) 0 ⌝ }
     ensures { λ x. ⌜ Beginning (magicWalker (now (rules .entry))) x (now (facts .exit)) (now (path .exit)) × OwnFacts (now (path .exit)) 0 x × (deepestAt (now (path .exit)) ≡ deepestAt (now (path .entry))) ⌝ }
 {
     let n = start(rules, facts);

@@ -40,7 +40,7 @@ pub fn visit(
             let walked = try_next(rules, index, facts, path, depth, count, limit);
             match walked {
                 Walked::Shut(shut) => {
-                    undo(facts, 18434, n, done);
+                    undo(facts, 2050, n, done);
                     return Walked::Shut(shut);
                 }
                 _ => {}
@@ -48,7 +48,7 @@ pub fn visit(
             return walked;
         }
         Found::Closed(n) => {
-            undo(facts, 18434, n, done);
+            undo(facts, 2050, n, done);
             return Walked::Shut(count);
         }
         _ => {}

@@ -14,6 +14,7 @@ use Rattle.rewriting.specs.Facts.{falseIn, findIn}
 use Rattle.rewriting.specs.contracts.Ruled.{theRule}
 use Rattle.magic_node.specs.contracts.Choosing.{siteOf, ruleHeads, RuleSite, ListedSite}
 use Rattle.magic_node.specs.contracts.Watch.{sitePlace, Rested}
+use Rattle.magic_node.specs.contracts.Implied.{extended}
 use Rattle.magic_node.specs.contracts.Node.{HeldStands, Following, HeldSeeded}
 use Rattle.walk.specs.contracts.Walker.{Site, Walker}
 use Rattle.walk.specs.contracts.Path.{markAt, pathIn}
@@ -39,11 +40,11 @@ pub record RestedAtSplit (bs : List ℕ) (s : Site) (l facts : List ℕ) : Type 
   pub following : Following bs l facts
   pub untrue : All (λ a. has natKey facts a ≡ false) (siteAlts bs s)
 
--- What is held true, held relevant and held of continuations is in the set at every place, closed ones too
+-- What is held true and held relevant is in the set at every place, closed ones too, and what is held of continuations is implied by it
 abbrev pub magicWalker : List ℕ → Walker Instance
 magicWalker bs =
     record {
-      capacity = 18434;
+      capacity = 2050;
       atoms = falseIn bs;
       find = findIn bs;
       vars = λ q. (theRule bs q) .vars;
@@ -52,7 +53,7 @@ magicWalker bs =
       Named = Splitting bs;
       Kept = Genuine (findIn bs);
       RestsAt = RestedAtSplit bs;
-      Holds = λ x l facts. HeldStands bs l facts;
+      Holds = λ x l facts. HeldStands bs l (extended bs facts);
     }
 
 -- a node just entered: the n facts follow from the path's atoms

@@ -21,13 +21,13 @@ none-entered : deepestAt (replicate 9227 0) ≡ 0
 none-entered = omega (arith, zeros-at 9227 9225, zeros-at 9227 9226)
 
 -- the flags come first, and they alone are lent to be made zero
-flags : (s : tie.Start) → length (take 18434 (s .args .facts .now)) ≡ 18434
-flags s = length-take-le 18434 (s .args .facts .now) (omega (arith, s .pre .1 .1))
+flags : (s : tie.Start) → length (take 2050 (s .args .facts .now)) ≡ 2050
+flags s = length-take-le 2050 (s .args .facts .now) (omega (arith, s .pre .1 .1))
 
-room : (z : tie.After-zero) → length (z .zero .last .0 ++ drop 18434 (z .before .before .before .before .before .before .args .facts .now)) ≡ length (z .before .before .before .before .before .before .args .facts .now)
+room : (z : tie.After-zero) → length (z .zero .last .0 ++ drop 2050 (z .before .before .before .before .before .before .args .facts .now)) ≡ length (z .before .before .before .before .before .before .args .facts .now)
 room z =
     let s = z .before .before .before .before .before .before in
-    put-size 18434 (length (s .args .facts .now)) (omega (arith, s .pre .1 .1)) (s .args .facts .now) refl (z .zero .last .0) (z .zero .kept .0 ∙ flags s)
+    put-size 2050 (length (s .args .facts .now)) (omega (arith, s .pre .1 .1)) (s .args .facts .now) refl (z .zero .last .0) (z .zero .kept .0 ∙ flags s)
 
 pub decide-spec : {M : Type 1} → statement M
 decide-spec =
@@ -41,7 +41,7 @@ decide-spec =
     (λ c κs.
     let s = c .before .before .before .before .before .before .before .before .before .before .before in
     let z = c .before .before .before .before .before .zero in
-    (s .pre .0, ((c .before .before .before .before .before .before .before) .build .ensures, (cleared-store 18434 (s .args .facts .now) (z .last .0) (s .pre .1 .1) (z .ensures), record { size = length-replicate {A = ℕ} 9227 0; deep = omega arith }))))  -- root-requires
+    (s .pre .0, ((c .before .before .before .before .before .before .before) .build .ensures, (cleared-store 2050 (s .args .facts .now) (z .last .0) (s .pre .1 .1) (z .ensures), record { size = length-replicate {A = ℕ} 9227 0; deep = omega arith }))))  -- root-requires
     (λ c. search needs)  -- slice-aggregate-root-alternatives
     (λ c κs.
     let s = c .before .before .before .before .before .before .before .before .before .before .before .before .before .before .before .before in

@@ -54,7 +54,7 @@ further-run-spec =
     (λ c κs.
     let s = c .before .before .before .before .before .before .before .before .before .before .before .before .before .before in
     let size : length ((c .before .before .before .before) .bring .last .0) ≡ 9227 = c .before .before .before .before .bring .kept .0 ∙ length-replicate {A = ℕ} 9227 0 in
-    (s .pre .0, ((c .before .before .before .before .before .before .before .before .before .before .before) .build .ensures, (blank-store 18434 (replicate 55302 0) (length-replicate {A = ℕ} 55302 0) (λ a l. zeros-at 55302 a), record { size = size; deep = omega arith }))))  -- root-requires
+    (s .pre .0, ((c .before .before .before .before .before .before .before .before .before .before .before) .build .ensures, (blank-store 2050 (replicate 6150 0) (length-replicate {A = ℕ} 6150 0) (λ a l. zeros-at 6150 a), record { size = size; deep = omega arith }))))  -- root-requires
     (λ c. search needs)  -- slice-aggregate-root-alternatives
     (λ c κs.
     let s = c .before .before .before .before .before .before .before .before .before .before .before .before .before .before .before .before .before .before in
@@ -99,7 +99,7 @@ further-run-spec =
       (
         q .kept .1 .1 .1 .0 ∙ b .root .kept .1 .1 .1 .0 ∙ (c .before .before .before .before .before .before .before .before .before .before .before .before .before .before .before .before .before .before .before .before .before .before .before) .bring .kept .0 ∙ length-replicate {A = ℕ} 9227 0,
         (
-          (s .pre .1 .0, q .kept .1 .1 .0 ∙ b .root .kept .1 .1 .0 ∙ length-replicate {A = ℕ} 55302 0),
+          (s .pre .1 .0, q .kept .1 .1 .0 ∙ b .root .kept .1 .1 .0 ∙ length-replicate {A = ℕ} 6150 0),
           (
             further-walks (magicWalker (a .rules .now)) (a .atoms) (a .session) (a .further) (kept s) (s .pre .1 .1 .0 .2) (deepestAt (b .root .last .1 .1 .1 .0)) (brings b) (a .session .count + a .further)
                 (q .result) (q .last .1 .1 .0) (q .last .1 .1 .1 .0) (q .ensures) (g .0 .0) (g .1),

@@ -29,7 +29,7 @@ work-off-spec =
     let own = markAt (s .args .path .now) (s .args .depth) in
     let shut : AllShut w (s .args .facts .now) (s .args .path .now) (s .args .depth) own (s .args .count) (s .args .limit) (k .0 .0) (y .last .1 .1 .0) (y .last .1 .1 .1 .0) =
     leaves-as w (s .args .facts .now) (s .args .path .now) (s .args .depth) own own (s .args .count) (s .args .limit) (y .result) (Shut (k .0 .0)) (y .last .1 .1 .0) (y .last .1 .1 .1 .0) refl (k .1) (y .ensures .0) in
-    (subst (λ (j : ℕ). Store 18434 (y .last .1 .1 .0) j) (sym (m .ensures)) (shut .undone .store), (omega (arith, s .pre .1 .1 .1 .0, m .ensures), omega arith)))  -- undo-requires
+    (subst (λ (j : ℕ). Store 2050 (y .last .1 .1 .0) j) (sym (m .ensures)) (shut .undone .store), (omega (arith, s .pre .1 .1 .1 .0, m .ensures), omega arith)))  -- undo-requires
     (λ c. search needs)  -- same-length
     (λ c. search needs)  -- same-length-2
     (λ c.

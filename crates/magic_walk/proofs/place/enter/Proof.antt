@@ -39,7 +39,7 @@ enter-spec =
     let node = s .pre .1 .1 .0 in
     let small = next-small rules (s .pre .0) (s .args .facts .now) (s .args .path .now) (s .args .depth) node (s .pre .1 .1 .1 .0) in
     let few = (sound rules (s .pre .0)) .few in
-    (subst (Store 18434 (s .args .facts .now)) (sym ((c .before .before .before .before .before .before .before) .mark .ensures)) (node .store), (omega (arith, s .pre .1 .1 .1 .1), omega arith)))  -- add-requires
+    (subst (Store 2050 (s .args .facts .now)) (sym ((c .before .before .before .before .before .before .before) .mark .ensures)) (node .store), (omega (arith, s .pre .1 .1 .1 .1), omega arith)))  -- add-requires
     (λ c. search needs)  -- add-find
     (λ c κs.
     let z = c .before .before .before .before in

@@ -19,7 +19,7 @@ root-spec =
         s .pre .1 .0,
         (
           s .pre .1 .1 .1,
-          root-opening (s .args .rules .now) (g .start .last .1 .0) (s .args .path .now) (g .start .result) (g .start .ensures) (s .pre .0),
+          root-opening (s .args .rules .now) (g .start .last .1 .0) (s .args .path .now) (g .start .result) (g .start .ensures),
           root-fresh (s .args .rules .now) (g .start .last .1 .0) (s .args .path .now) (g .start .result) (g .start .ensures),
         ),
       ),

@@ -65,7 +65,7 @@ module _ (t : ℕ) where
   own-is : (f : visit-lts.After-found visiting visit-at visit.Post) → let s = f .before .before .before .before .before in markAt (s .args .path .now) (s .args .depth) ≡ f .found .given .0 .0
   own-is f = let s = f .before .before .before .before .before in subst (OwnFacts (s .args .path .now) (s .args .depth)) (f .found .given .1) (s .pre .1 .1 .1 .0 .1)
 
-  own : (f : visit-lts.After-found visiting visit-at visit.Post) → let s = f .before .before .before .before .before in Undone 18434 (s .args .facts .now) (markAt (s .args .path .now) (s .args .depth)) (s .args .facts .now)
+  own : (f : visit-lts.After-found visiting visit-at visit.Post) → let s = f .before .before .before .before .before in Undone 2050 (s .args .facts .now) (markAt (s .args .path .now) (s .args .depth)) (s .args .facts .now)
   own f = let s = f .before .before .before .before .before in own-undone (magicWalker (s .args .rules .now)) (s .args .facts .now) (s .args .path .now) (s .args .depth) (s .args .done) (f .found .given .0 .0) (at f) (own-is f)
 
   -- a run that stands there is to try its alternatives
@@ -225,7 +225,7 @@ pub +try-next+visit-spec : {M : Type 1} → statement M
     let k = c .before .before in
     let f = k .before .before .before .before .before .before .before .before .before .before in
     let y = k .before .before .before .before .before .before .try-next in
-    (subst (Store 18434 (y .last .1 .1 .0)) (own-is t f) (shut t k .undone .store), (omega (arith, at t f .ready .0, own-is t f), omega arith)))  -- undo-requires
+    (subst (Store 2050 (y .last .1 .1 .0)) (own-is t f) (shut t k .undone .store), (omega (arith, at t f .ready .0, own-is t f), omega arith)))  -- undo-requires
     (λ c. search needs)  -- same-length
     (λ c. search needs)  -- same-length-2
     (λ c.
