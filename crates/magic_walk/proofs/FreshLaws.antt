@@ -1,13 +1,12 @@
 -- A node just entered: what follows from the path's atoms, once an atom is put into the facts of a split node, and at the root.
 use Prim.Native.Nat.{ℕ, _+_, _<_}
-use mathlib.Core.Bool.{false}
-use mathlib.Core.List.{List, [], _∷_, _++_}
-use mathlib.Core.Path.{_≡_, sym, ap, subst, _∙_}
+use mathlib.Core.List.{List, [], _∷_}
+use mathlib.Core.Path.{_≡_, sym, subst}
 use native.Mathlib.Omega.{arith}
 use lib.ListN.{length, getD}
 use Rattle.lists.specs.Key.{natKey}
-use Rattle.lists.specs.Member.{All, has, In}
-use Rattle.lists.proofs.Member.{all-map, all-append, all-in, has-all, has-here}
+use Rattle.lists.specs.Member.{All, In}
+use Rattle.lists.proofs.Member.{all-map, has-here}
 use Rattle.search.specs.Machine.{Branch, entered, Genuine}
 use Rattle.store.specs.contracts.Store.{Added, logged}
 use Rattle.store.proofs.Laws.{added-in}
