@@ -11,30 +11,7 @@ use crate::source::{Accepted, Source};
 use crate::spell::hex;
 use crate::ticket::Atom;
 
-pub const COMMAND: Command = Command {
-    name: "fit",
-    usage: "fit [--engine relevancy|magic|both] [--limit N] [--save SESSION] [--lines] FILE",
-    about: "whether a ticket fits, and the fitting",
-    help: "\
-Fits a ticket and prints the verdict, the entries made, how many of them the deepest
-path had, and the fitting's atoms. The memory that it prints is what this run took,
-by each engine: the stack, measured, and the bytes lent. So much is needed by a host
-that walks so deep in slices, as the tool does.
-  --engine E   relevancy, magic, or both (the default), which are then compared
-  --limit N    at most N entries, whatever limit the ticket has
-  --save SESSION  leaves in this file where the walk stands, so that 'resume' can go
-               on with it; a file that is there already is not written over
-  --lines      prints the lines that document 01 lays down: 81, 82 and 8F
-Ctrl-C stops a long walk and says how far it came; with --save it can be resumed. A
-second Ctrl-C ends the tool at once. On a terminal a long walk shows the entries
-that it has made, how many a second, and how deep it stands.
-Example: ./lutsamik fit --save /tmp/K6.session crates/cases/data/K6.text",
-    files: 1,
-    rule: false,
-    options: &["--engine", "--limit", "--save"],
-    flags: &["--lines"],
-    run,
-};
+pub const COMMAND: Command = Command { name: "fit", text: include_str!("help/fit.txt"), run };
 
 fn run(arguments: &Arguments) -> Result<Ending, Failure> {
     let engines = engines(arguments)?;
@@ -66,7 +43,7 @@ pub fn engines(arguments: &Arguments) -> Result<Vec<Engine>, Failure> {
 
 pub fn status(verdict: Verdict) -> Status {
     match verdict {
-        Verdict::Fits => Status::Good,
+        Verdict::Fits => Status::Fits,
         Verdict::None => Status::None,
         Verdict::Spent => Status::Spent,
     }

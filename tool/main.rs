@@ -16,6 +16,7 @@ mod interrupt;
 mod judge;
 mod language;
 mod library;
+mod out;
 mod parse;
 mod progress;
 mod read;
@@ -48,7 +49,7 @@ fn main() -> ExitCode {
     let status = match run(&words).and_then(put) {
         Ok(status) => status,
         Err(Failure { status, message }) => {
-            eprintln!("lutsamik: {message}");
+            eprintln!("lutsamik: {}", spell::plain(&message));
             if status == Status::Stopped {
                 interrupt::end();
             }
@@ -63,6 +64,9 @@ fn run(words: &[OsString]) -> Result<Ending, Failure> {
         return Err(Failure::usage("no command; './lutsamik --help' lists them"));
     };
     let name = name.to_string_lossy();
+    if name == "--version" {
+        return Ok(help::version());
+    }
     if let Some(asked) = help::asked(&name, rest) {
         return help::help(&COMMANDS, &asked);
     }

@@ -8,20 +8,7 @@ use crate::parse::parse;
 use crate::source::{Accepted, Source};
 use std::ops::Range;
 
-pub const COMMAND: Command = Command {
-    name: "read",
-    usage: "read FILE",
-    about: "whether a ticket is accepted, or what is wrong with it",
-    help: "\
-Says whether a ticket is accepted. Where it is refused: the refusal's number and
-line, the line itself, the rule it breaks, and what stands there instead.
-Example: ./lutsamik read crates/cases/data/K10_refused.text",
-    files: 1,
-    rule: false,
-    options: &[],
-    flags: &[],
-    run,
-};
+pub const COMMAND: Command = Command { name: "read", text: include_str!("help/read.txt"), run };
 
 /// Document 01's rule for each refusal, from 1 on.
 const RULES: [&str; 10] = [

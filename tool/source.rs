@@ -7,7 +7,7 @@ use crate::library::{self, Refusal, Table};
 use crate::parse::parse;
 use crate::ticket::Ticket;
 use std::ffi::{OsStr, OsString};
-use std::fs;
+use std::fs::File;
 use std::io::{self, Read};
 use std::path::Path;
 
@@ -26,21 +26,40 @@ pub struct Accepted {
     pub names: Option<Names>,
 }
 
+/// More bytes than any ticket, sheet or answer needs.
+const MOST: usize = 1 << 19;
+
 /// The bytes of a file, or of standard input where it is called `-`.
 pub fn bytes(file: &OsStr) -> Result<Vec<u8>, Failure> {
-    let mut bytes = Vec::new();
-    let read = if file == "-" { io::stdin().lock().read_to_end(&mut bytes).map(|_| bytes) } else { fs::read(file) };
-    read.map_err(|error| Failure::usage(format!("cannot read {}: {error}", called(file))))
+    let (mut bytes, most) = (Vec::new(), MOST as u64 + 1);
+    let read = if file == "-" {
+        io::stdin().lock().take(most).read_to_end(&mut bytes)
+    } else {
+        File::open(file).and_then(|file| file.take(most).read_to_end(&mut bytes))
+    };
+    read.map_err(|error| Failure::usage(format!("cannot read {}: {error}", called(file))))?;
+    if bytes.len() > MOST { Err(too_long(file, &bytes)) } else { Ok(bytes) }
+}
+
+/// What is wrong with a file of which these bytes are the beginning: the first line that does not fit, of a sheet as the language tells it, where it
+/// does so before the last line that is there.
+fn too_long(file: &OsStr, bytes: &[u8]) -> Failure {
+    let whole = bytes.iter().rposition(|byte| *byte == b'\n').map_or(0, |end| end + 1);
+    let lines = bytes[..whole].iter().filter(|byte| **byte == b'\n').count();
+    let sheet = std::str::from_utf8(&bytes[..whole]).ok().filter(|_| !is_ticket(bytes));
+    match sheet.and_then(|sheet| language::compile(sheet).err()) {
+        Some(error) if error.line < lines => misspelt(&called(file), error),
+        _ => Failure::refused(format!("{}:{}: with this line it has more than {MOST} bytes", called(file), lines + 1)),
+    }
+}
+
+fn misspelt(file: &str, error: language::Error) -> Failure {
+    Failure::refused(format!("{file}:{}:{}: {}", error.line, error.column, error.message))
 }
 
 /// What a file is called in a message.
 pub fn called(file: &OsStr) -> String {
     if file == "-" { "standard input".to_string() } else { file.to_string_lossy().into_owned() }
-}
-
-/// Writes a file that the command line names.
-pub fn put(file: &OsStr, bytes: &[u8]) -> Result<(), Failure> {
-    fs::write(file, bytes).map_err(|error| Failure::usage(format!("cannot write {}: {error}", called(file))))
 }
 
 /// The file of the names that belong to a ticket's file.
@@ -66,8 +85,7 @@ impl Source {
     pub fn compile(file: &OsStr, sheet: &[u8]) -> Result<Source, Failure> {
         let file = called(file);
         let sheet = std::str::from_utf8(sheet).map_err(|_| Failure::refused(format!("{file} is neither a ticket's text nor a sheet in UTF-8")))?;
-        let misspelt = |error: language::Error| Failure::refused(format!("{file}:{}:{}: {}", error.line, error.column, error.message));
-        let compiled = language::compile(sheet).map_err(misspelt)?;
+        let compiled = language::compile(sheet).map_err(|error| misspelt(&file, error))?;
         Ok(Source { file, text: compiled.text, names: Some(compiled.names), is_sheet: true })
     }
 

@@ -5,48 +5,33 @@ use crate::ending::{Ending, Failure};
 use crate::engines;
 use crate::fit::{depth_words, status, verdict_words};
 use crate::library::{Engine, Fit};
-use crate::source::{self, Accepted, Source};
+use crate::out;
+use crate::source::{Accepted, Source};
 use crate::svg;
 use crate::tree::{trail, Place, Trail};
 use crate::wanted::Found;
 
-pub const COMMAND: Command = Command {
-    name: "trail",
-    usage: "trail [--entries N] [--svg OUT] FILE",
-    about: "the walk as a tree, in words or as a drawing",
-    help: "\
-Prints the walk as a tree: each entry, in the walk's order, with the atom entered
-and how the place is found: closed, open, or split by a clause with values. An
-alternative that a split names again is entered once.
-  --entries N  the first N entries at most (1000 where it is not given)
-  --svg OUT    also draws the tree, into the file OUT
-The library tells verdict, count and fitting, but not the path. So the tool makes
-the tree itself, and has the library confirm each place: what is true there by
-judging, what is wanted by fitting tickets derived from this one, and by both how
-the place is found. Such a ticket is refused where it has more clauses, conditions,
-predicates or atoms than a ticket can have; the place is then marked [unchecked].
-In any case the tree's verdict, count, deepest path and fitting must be those of
-both engines. The memory is what these took, as with 'fit'.
-Example: ./lutsamik trail --svg /tmp/trail.svg crates/cases/data/example_1.text",
-    files: 1,
-    rule: false,
-    options: &["--entries", "--svg"],
-    flags: &[],
-    run,
-};
+pub const COMMAND: Command = Command { name: "trail", text: include_str!("help/trail.txt"), run };
 
 const ENTRIES: u32 = 1000;
+const MOST_ENTRIES: u32 = 20_000;
 
 fn run(arguments: &Arguments) -> Result<Ending, Failure> {
+    let out = out::file(arguments, "--svg")?;
     let entries = arguments.number("--entries")?.unwrap_or(ENTRIES);
+    if entries > MOST_ENTRIES {
+        return Err(Failure::usage(format!("--entries is at most {MOST_ENTRIES}: nobody reads a longer trail")));
+    }
     let whole = Source::open(arguments.file(0))?.accepted()?;
     let accepted = whole.with_limit(whole.ticket.limit.min(entries))?;
     let trail = trail(&accepted)?;
     let walk = engines::agreed(&[Engine::Relevancy, Engine::Magic], &accepted)?;
     let fit = &walk.at.fit;
     same(&trail, fit)?;
-    if let Some(out) = arguments.option("--svg") {
-        source::put(out, svg::drawing(&accepted, &trail, fit).as_bytes())?;
+    if arguments.option("--svg").is_some() {
+        let drawing = svg::drawing(&accepted, &trail, fit);
+        let Some(out) = out else { return Ok(Ending::new(status(fit.verdict), drawing)) };
+        out::put(out, drawing.as_bytes())?;
     }
     let stopper = if entries < whole.ticket.limit { "--entries" } else { "the limit" };
     let verdict = verdict_words(fit, accepted.ticket.limit, stopper) + &depth_words(&walk.depth());

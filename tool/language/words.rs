@@ -28,6 +28,8 @@ pub struct Word<'a> {
     pub place: Place,
 }
 
+const MOST_LETTERS: usize = 64;
+
 /// Those that begin alike, the longer one first.
 const SIGNS: [&str; 9] = ["->", "..", ".", ",", "/", "(", ")", "&", "|"];
 
@@ -102,6 +104,10 @@ impl<'a> Reader<'a> {
 
 /// What a word of letters and digits is.
 fn kind(text: &str, place: Place) -> Result<Kind, Error> {
+    let letters = text.chars().count();
+    if letters > MOST_LETTERS {
+        return Err(Error::at(place, format!("this word has {letters} letters: at most {MOST_LETTERS}")));
+    }
     if text.starts_with(char::is_uppercase) {
         return Ok(Kind::Variable);
     }
