@@ -16,18 +16,26 @@ mod show;
 #[path = "language/words.rs"]
 mod words;
 
-pub use names::Names;
+pub use names::{Names, VARIABLES};
 pub use show::show;
 use words::Place;
 
 /// The limit of a sheet that gives none.
 const USUAL_LIMIT: u32 = 1_000_000;
 
-/// A sheet's ticket text, and what its constants and predicates are called.
+/// A sheet's ticket text, what its constants and predicates are called, and for each clause what it came from.
 #[derive(Clone, Debug, PartialEq, Eq)]
 pub struct Compiled {
     pub text: Vec<u8>,
     pub names: Names,
+    pub origins: Vec<Origin>,
+}
+
+/// The line of a sheet that a clause came from, and what the clause's variables are called there, in the order of their numbers.
+#[derive(Clone, Debug, PartialEq, Eq)]
+pub struct Origin {
+    pub line: usize,
+    pub variables: Vec<String>,
 }
 
 /// The bytes of a rule's clause line, and what the rule has that no ticket's can, in words of the language.
@@ -60,11 +68,11 @@ pub fn rule(source: &str, names: &Names) -> Result<Rule, Error> {
 pub fn compile(source: &str) -> Result<Compiled, Error> {
     let sheet = sheet::read(source)?;
     let names = Names::declared(&sheet)?;
-    let clauses = clauses::frames(&sheet.rules, &names)?;
+    let (clauses, origins): (Vec<Vec<u8>>, Vec<Origin>) = clauses::frames(&sheet.rules, &names)?.into_iter().unzip();
     let mut frames = vec![frames::heading(names.constants().len(), names.arities().count(), sheet.limit.unwrap_or(USUAL_LIMIT))];
     frames.extend(names.arities().map(|arity| vec![frames::ARITY, arity]));
     let end = vec![frames::END, clauses.len() as u8];
     frames.extend(clauses);
     frames.push(end);
-    Ok(Compiled { text: frames::text(&frames), names })
+    Ok(Compiled { text: frames::text(&frames), names, origins })
 }

@@ -9,6 +9,7 @@ mod compile;
 mod ending;
 mod engines;
 mod fit;
+mod fold;
 mod frame;
 mod help;
 mod instance;

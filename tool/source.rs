@@ -2,7 +2,7 @@
 
 use crate::ending::Failure;
 use crate::frame::Fault;
-use crate::language::{self, Names};
+use crate::language::{self, Names, Origin};
 use crate::library::{self, Refusal, Table};
 use crate::parse::parse;
 use crate::ticket::Ticket;
@@ -17,6 +17,8 @@ pub struct Source {
     pub text: Vec<u8>,
     pub names: Option<Names>,
     pub is_sheet: bool,
+    /// of a sheet: what each clause came from
+    pub origins: Vec<Origin>,
 }
 
 /// A ticket that the library accepted.
@@ -24,6 +26,7 @@ pub struct Accepted {
     pub table: Table,
     pub ticket: Ticket,
     pub names: Option<Names>,
+    pub origins: Vec<Origin>,
 }
 
 /// More bytes than any ticket, sheet or answer needs.
@@ -76,7 +79,7 @@ impl Source {
     pub fn open(file: &OsStr) -> Result<Source, Failure> {
         let bytes = bytes(file)?;
         if is_ticket(&bytes) {
-            return Ok(Source { file: called(file), names: names_beside(file, &bytes)?, text: bytes, is_sheet: false });
+            return Ok(Source { file: called(file), names: names_beside(file, &bytes)?, text: bytes, is_sheet: false, origins: Vec::new() });
         }
         Source::compile(file, &bytes)
     }
@@ -86,7 +89,7 @@ impl Source {
         let file = called(file);
         let sheet = std::str::from_utf8(sheet).map_err(|_| Failure::refused(format!("{file} is neither a ticket's text nor a sheet in UTF-8")))?;
         let compiled = language::compile(sheet).map_err(|error| misspelt(&file, error))?;
-        Ok(Source { file, text: compiled.text, names: Some(compiled.names), is_sheet: true })
+        Ok(Source { file, text: compiled.text, names: Some(compiled.names), is_sheet: true, origins: compiled.origins })
     }
 
     /// The ticket, or a failure that tells the refusal's number and line.
@@ -99,7 +102,7 @@ impl Source {
         };
         let table = library::read(&self.text).map_err(refused)?;
         let ticket = parse(&self.text).map_err(missed)?;
-        Ok(Accepted { table, ticket, names: self.names })
+        Ok(Accepted { table, ticket, names: self.names, origins: self.origins })
     }
 }
 
@@ -108,7 +111,7 @@ impl Accepted {
     pub fn with_limit(&self, limit: u32) -> Result<Accepted, Failure> {
         let ticket = self.ticket.with_limit(limit);
         let refused = |_| Failure::disagreement("with another limit the ticket is refused");
-        Ok(Accepted { table: library::read(&ticket.text()).map_err(refused)?, ticket, names: self.names.clone() })
+        Ok(Accepted { table: library::read(&ticket.text()).map_err(refused)?, ticket, names: self.names.clone(), origins: self.origins.clone() })
     }
 }
 

@@ -6,7 +6,8 @@ use crate::engines;
 use crate::fit::{depth_words, status, verdict_words};
 use crate::library::{Engine, Fit};
 use crate::out;
-use crate::source::{Accepted, Source};
+use crate::source::{self, Accepted, Source};
+use crate::spell::plain;
 use crate::svg;
 use crate::tree::{trail, Place, Trail};
 use crate::wanted::Found;
@@ -29,7 +30,7 @@ fn run(arguments: &Arguments) -> Result<Ending, Failure> {
     let fit = &walk.at.fit;
     same(&trail, fit)?;
     if arguments.option("--svg").is_some() {
-        let drawing = svg::drawing(&accepted, &trail, fit);
+        let drawing = svg::drawing(&accepted, &trail, fit, &format!("The trail of {}", plain(&source::called(arguments.file(0)))));
         let Some(out) = out else { return Ok(Ending::new(status(fit.verdict), drawing)) };
         out::put(out, drawing.as_bytes())?;
     }
@@ -86,7 +87,9 @@ pub fn label(accepted: &Accepted, number: usize, place: &Place) -> String {
 /// How a place is found, in words.
 pub fn told(accepted: &Accepted, found: &Found) -> String {
     match found {
-        Found::Closed => "closed".to_string(),
+        Found::Closed(clause, values) => {
+            format!("closed by {}: {}", accepted.instance_name(*clause, values), accepted.reason(*clause, values))
+        }
         Found::Open(_) => "open".to_string(),
         Found::Split(clause, values) => {
             format!("split by {}: {}", accepted.instance_name(*clause, values), accepted.instance(*clause, values))

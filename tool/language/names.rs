@@ -11,7 +11,7 @@ const MOST_ATOMS: usize = 1024;
 
 /// The first variable of a clause; there are four.
 pub const FIRST_VARIABLE: u8 = 0x80;
-const VARIABLES: [&str; 4] = ["X", "Y", "Z", "W"];
+pub const VARIABLES: [&str; 4] = ["X", "Y", "Z", "W"];
 
 /// The names of a ticket's constants, and of its predicates with their arities, in the ticket's order.
 #[derive(Clone, Debug, PartialEq, Eq)]
@@ -29,19 +29,25 @@ impl Names {
         }
     }
 
-    /// An atom as a sheet has it. A number without a name stands as in a ticket without names.
+    /// An atom as a sheet has it, with the usual variables. A number without a name stands as in a ticket without names.
     pub fn atom(&self, predicate: u8, args: &[u8]) -> String {
+        self.atom_with(predicate, args, &VARIABLES)
+    }
+
+    /// An atom of a clause whose variables are called so.
+    pub fn atom_with(&self, predicate: u8, args: &[u8], variables: &[impl AsRef<str>]) -> String {
         let name = self.predicates.get(predicate as usize).map_or_else(|| format!("p{predicate}"), |(name, _)| name.clone());
         if args.is_empty() {
             return name;
         }
-        let args: Vec<String> = args.iter().map(|arg| self.argument(*arg)).collect();
+        let args: Vec<String> = args.iter().map(|arg| self.argument(*arg, variables)).collect();
         format!("{name}({})", args.join(", "))
     }
 
-    fn argument(&self, arg: u8) -> String {
-        let variable = arg.checked_sub(FIRST_VARIABLE).and_then(|number| VARIABLES.get(number as usize));
-        let name = variable.map(|name| name.to_string()).or_else(|| self.constants.get(arg as usize).cloned());
+    /// A constant or a variable.
+    pub fn argument(&self, arg: u8, variables: &[impl AsRef<str>]) -> String {
+        let variable = arg.checked_sub(FIRST_VARIABLE).and_then(|number| variables.get(number as usize));
+        let name = variable.map(|name| name.as_ref().to_string()).or_else(|| self.constants.get(arg as usize).cloned());
         name.unwrap_or_else(|| arg.to_string())
     }
 
