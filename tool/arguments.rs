@@ -32,8 +32,8 @@ struct Allowed {
     rule: bool,
 }
 
-/// What the usage calls a value that is a number.
-const NUMBER: &str = "N";
+/// What the usage calls a value that is a number: of entries or fittings, or of seconds.
+const NUMBERS: [&str; 2] = ["N", "S"];
 
 impl Command {
     fn usage(&self) -> &'static str {
@@ -87,7 +87,7 @@ impl Command {
         } else if let Some((option, kind)) = allowed.options.iter().find(|(option, _)| *option == name) {
             let value = value.or_else(|| rest.next().cloned()).ok_or_else(|| self.wrong(&format!("{option} needs a value")))?;
             into.options.push((option, value));
-            if *kind == NUMBER {
+            if NUMBERS.contains(kind) {
                 into.number(option)?;
             }
         } else if let Some(flag) = allowed.flags.iter().find(|flag| **flag == name) {

@@ -2,6 +2,7 @@
 
 use crate::arguments::{Arguments, Command};
 use crate::carry::Carry;
+use crate::clock;
 use crate::ending::{Ending, Failure};
 use crate::engines::Walk;
 use crate::fit::engines;
@@ -17,6 +18,7 @@ pub const COMMAND: Command = Command { name: "resume", text: include_str!("help/
 
 fn run(arguments: &Arguments) -> Result<Ending, Failure> {
     let engines = engines(arguments)?;
+    clock::begin(arguments.number("--time-limit")?);
     let further = arguments.number("--further")?;
     let further = further.ok_or_else(|| Failure::usage("resume needs --further N: how many entries more it may make"))?;
     let [file, ticket] = [0, 1].map(|i| arguments.file(i));

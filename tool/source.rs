@@ -27,6 +27,8 @@ pub struct Accepted {
     pub ticket: Ticket,
     pub names: Option<Names>,
     pub origins: Vec<Origin>,
+    /// the clauses' numbers in the ticket that they are some of; none where they are all
+    pub numbers: Vec<usize>,
 }
 
 /// More bytes than any ticket, sheet or answer needs.
@@ -102,7 +104,7 @@ impl Source {
         };
         let table = library::read(&self.text).map_err(refused)?;
         let ticket = parse(&self.text).map_err(missed)?;
-        Ok(Accepted { table, ticket, names: self.names, origins: self.origins })
+        Ok(Accepted { table, ticket, names: self.names, origins: self.origins, numbers: Vec::new() })
     }
 }
 
@@ -111,7 +113,15 @@ impl Accepted {
     pub fn with_limit(&self, limit: u32) -> Result<Accepted, Failure> {
         let ticket = self.ticket.with_limit(limit);
         let refused = |_| Failure::disagreement("with another limit the ticket is refused");
-        Ok(Accepted { table: library::read(&ticket.text()).map_err(refused)?, ticket, names: self.names.clone(), origins: self.origins.clone() })
+        Ok(Accepted { table: library::read(&ticket.text()).map_err(refused)?, ticket, names: self.names.clone(), origins: self.origins.clone(), numbers: self.numbers.clone() })
+    }
+
+    /// Some of its clauses, by their numbers.
+    pub fn only(&self, clauses: &[usize]) -> Result<Accepted, Failure> {
+        let ticket = Ticket { clauses: clauses.iter().map(|i| self.ticket.clauses[*i].clone()).collect(), ..self.ticket.clone() };
+        let origins = clauses.iter().filter_map(|i| self.origins.get(*i).cloned()).collect();
+        let refused = |_| Failure::disagreement("with fewer clauses the ticket is refused");
+        Ok(Accepted { table: library::read(&ticket.text()).map_err(refused)?, ticket, names: self.names.clone(), origins, numbers: clauses.to_vec() })
     }
 }
 

@@ -1,6 +1,7 @@
 //! How atoms, rules and instances of a ticket are written: as in the sheet that they came from, or by names where those are known, else as in the
 //! ticket's text.
 
+use crate::json::Json;
 use crate::language::VARIABLES;
 use crate::source::Accepted;
 use crate::spell::hex;
@@ -12,6 +13,14 @@ impl Accepted {
             Some(names) => names.atom(atom.predicate, &atom.arguments),
             None => hex(&atom.bytes()),
         }
+    }
+
+    pub fn predicate(&self, predicate: u8) -> String {
+        self.names.as_ref().map_or_else(|| hex(&[predicate]), |names| names.atom(predicate, &[]))
+    }
+
+    pub fn constant(&self, constant: u8) -> String {
+        self.names.as_ref().map_or_else(|| hex(&[constant]), |names| names.argument(constant, &VARIABLES))
     }
 
     pub fn atoms(&self, atoms: &[Atom]) -> Vec<String> {
@@ -51,10 +60,15 @@ impl Accepted {
 
     /// A clause by its line in the sheet, and its number.
     pub fn clause_name(&self, clause: usize) -> String {
+        let number = self.clause_number(clause);
         match self.origins.get(clause) {
-            Some(origin) => format!("line {} (clause {clause})", origin.line),
-            None => format!("clause {clause}"),
+            Some(origin) => format!("line {} (clause {number})", origin.line),
+            None => format!("clause {number}"),
         }
+    }
+
+    fn clause_number(&self, clause: usize) -> usize {
+        self.numbers.get(clause).copied().unwrap_or(clause)
     }
 
     /// An instance by its clause and its variables' values.
@@ -67,6 +81,22 @@ impl Accepted {
         };
         let (name, values) = (self.clause_name(clause), own.iter().enumerate().map(value).collect::<Vec<_>>());
         if values.is_empty() { name } else { format!("{name} with {}", values.join(", ")) }
+    }
+
+    /// A clause as JSON has it.
+    pub fn clause_fields(&self, clause: usize) -> Vec<(&'static str, Json)> {
+        let line = self.origins.get(clause).map_or(Json::Null, |origin| Json::number(origin.line));
+        vec![("clause", Json::number(self.clause_number(clause))), ("line", line), ("rule", Json::text(self.rule(clause)))]
+    }
+
+    /// An instance as JSON has it: the values are those of its variables, as they first appear in the rule.
+    pub fn instance_fields(&self, clause: usize, values: &[u8]) -> Vec<(&'static str, Json)> {
+        let own = &values[..self.ticket.clauses[clause].variables()];
+        let [conditions, alternatives] = self.instance_atoms(clause, values).map(|atoms| Json::texts(self.atoms(&atoms)));
+        let mut fields = self.clause_fields(clause);
+        fields.push(("values", Json::texts(own.iter().map(|value| self.constant(*value)).collect())));
+        fields.extend([("conditions", conditions), ("alternatives", alternatives)]);
+        fields
     }
 
     /// Why an instance without alternatives closes a place.

@@ -5,6 +5,8 @@
 
 #[path = "../../tool/clause.rs"]
 mod clause;
+#[path = "../../tool/clock.rs"]
+mod clock;
 #[path = "../../tool/ending.rs"]
 mod ending;
 #[path = "../../tool/engines.rs"]

@@ -10,6 +10,8 @@ mod clause;
 mod ending;
 #[path = "../../tool/frame.rs"]
 mod frame;
+#[path = "../../tool/json.rs"]
+mod json;
 #[path = "../../tool/language.rs"]
 mod language;
 #[path = "../../tool/library.rs"]
