@@ -9,6 +9,7 @@ CFLAGS = -O2 -Wall -Wextra
 
 prefix := $(abspath $(PREFIX))
 root := $(DESTDIR)$(prefix)
+version := $(shell sed -n 's/^.define LUTSAMIK_VERSION "\(.*\)"/\1/p' include/lutsamik.h)
 
 .PHONY: archive install host
 
@@ -20,7 +21,7 @@ install:
 	install -d "$(root)/include" "$(root)/lib/pkgconfig" && \
 	install -m 644 include/lutsamik.h "$(root)/include" && \
 	install -m 644 "$$archive" "$(root)/lib/liblutsamik.a" && \
-	sed 's|@PREFIX@|$(prefix)|' lutsamik.pc.in >"$(root)/lib/pkgconfig/lutsamik.pc"
+	sed 's|@PREFIX@|$(prefix)|; s|@VERSION@|$(version)|' lutsamik.pc.in >"$(root)/lib/pkgconfig/lutsamik.pc"
 
 host:
 	archive=$$(tests/archive) && \

@@ -68,6 +68,8 @@
 extern "C" {
 #endif
 
+#define LUTSAMIK_VERSION "1.0.0"
+
 /* What a buffer must hold at least, whatever the ticket. */
 #define LUTSAMIK_TABLE_BYTES 4096
 #define LUTSAMIK_TEXT_BYTES 7168

@@ -6,42 +6,21 @@ use crate::ending::{Ending, Failure, Status};
 use crate::frame::Fault;
 use crate::language::{self, Names};
 use crate::library::{self, Slip};
+use crate::out;
 use crate::read;
 use crate::source::{self, Accepted, Source};
-use crate::spell::hex;
+use crate::spell::{hex, plain};
 use crate::ticket::Ticket;
+use std::ffi::OsStr;
 
-pub const COMMAND: Command = Command {
-    name: "add",
-    usage: "add [--set [-o OUT]] FILE RULE",
-    about: "whether a rule can be added to a ticket, and the ticket with it",
-    help: "\
-Says whether RULE can be added to the ticket, after its other clauses. If not: the
-number by which its line would be refused, the rule it breaks, and what stands
-there instead. RULE is one rule of the language in docs/LANGUAGE.md, by the names
-of the sheet, or of a ticket without names as 'show' prints them; its full stop may
-be left out.
-  --set        prints the ticket with the rule, a ticket's text also where FILE is
-               a sheet; where it cannot be added, nothing is printed
-  -o OUT       writes it to the file OUT instead, and its names, where they are
-               known, to OUT.names. OUT may be FILE, where that is a ticket
-Example: ./lutsamik add crates/cases/data/K6.text 'p2(X) -> p1(X)'",
-    files: 1,
-    rule: true,
-    options: &["-o"],
-    flags: &["--set"],
-    run,
-};
+pub const COMMAND: Command = Command { name: "add", text: include_str!("help/add.txt"), run };
 
 fn run(arguments: &Arguments) -> Result<Ending, Failure> {
-    let out = arguments.option("-o");
-    if out.is_some() && !arguments.has("--set") {
+    if arguments.option("-o").is_some() && !arguments.has("--set") {
         return Err(Failure::usage("-o goes with --set: without it no ticket is written"));
     }
     let source = Source::open(arguments.file(0))?;
-    if source.is_sheet && out == Some(arguments.file(0)) {
-        return Err(Failure::usage(format!("{} is the sheet itself: the ticket needs another file", source.file)));
-    }
+    let out = out(arguments, &source)?;
     let accepted = source.accepted()?;
     let rule = Typed::by(arguments.rule()?, &accepted)?;
     let offered = offered(&rule.frame, &accepted)?;
@@ -51,12 +30,21 @@ fn run(arguments: &Arguments) -> Result<Ending, Failure> {
     let (slip, longer) = offered.map_err(|fault| Failure::refused(format!("the rule is refused, by {}: {}", fault.number, fault.words)))?;
     let text = set(&accepted, &slip, &longer)?;
     let Some(out) = out else { return Ok(Ending::new(Status::Good, text)) };
-    source::put(out, &text)?;
+    out::put(out, &text)?;
     if let Some(names) = &accepted.names {
         let sheet = language::show(&text, Some(names)).map_err(Failure::disagreement)?;
-        source::put(&source::names_file(out), sheet.as_bytes())?;
+        out::put(&source::names_file(out), sheet.as_bytes())?;
     }
     Ok(Ending::new(Status::Good, ""))
+}
+
+/// The file that is written: FILE itself, where that is a ticket, or another one.
+fn out<'a>(arguments: &'a Arguments, source: &Source) -> Result<Option<&'a OsStr>, Failure> {
+    let file = arguments.file(0);
+    match arguments.option("-o") {
+        Some(out) if !source.is_sheet && file != "-" && out::is_same(out, file) => Ok(Some(out)),
+        _ => out::ticket_file(arguments, "-o"),
+    }
 }
 
 /// The rule as it was typed, the bytes of its line, and what is wrong with it in the language's words, where they say so.
@@ -122,5 +110,5 @@ fn addable(frame: &[u8], longer: Accepted) -> String {
 fn refused(rule: &Typed, Fault { number, digits, words }: Fault) -> String {
     let line = read::shown("line: ", hex(&rule.frame).as_bytes(), digits);
     let beyond = rule.beyond.as_ref().map_or(String::new(), |words| format!("{words}\n"));
-    format!("cannot be added: refused by {number}\nrule: {}\n{line}here: {words}\n{beyond}{}", rule.rule, read::broken(number))
+    format!("cannot be added: refused by {number}\nrule: {}\n{line}here: {words}\n{beyond}{}", plain(rule.rule), read::broken(number))
 }

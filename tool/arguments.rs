@@ -1,23 +1,15 @@
-//! The words after a command: options, some with a value, files, and a rule.
+//! The words after a command: options, some with a value, files, and a rule. Which ones there can be is what the usage says, in the first line of the
+//! command's help; `lutsamik`, the script, reads it too.
 
 use crate::ending::{Ending, Failure};
 use crate::spell::counted;
 use std::ffi::{OsStr, OsString};
+use std::os::unix::ffi::{OsStrExt, OsStringExt};
 
-/// A command: what can follow its name, what it does, and its help.
+/// A command: its help, of which the first line is the usage, and what it does.
 pub struct Command {
     pub name: &'static str,
-    pub usage: &'static str,
-    /// in one line
-    pub about: &'static str,
-    pub help: &'static str,
-    pub files: usize,
-    /// whether a rule follows the files
-    pub rule: bool,
-    /// options with a value
-    pub options: &'static [&'static str],
-    /// options without one
-    pub flags: &'static [&'static str],
+    pub text: &'static str,
     pub run: fn(&Arguments) -> Result<Ending, Failure>,
 }
 
@@ -27,50 +19,109 @@ pub struct Arguments {
     words: Vec<OsString>,
     options: Vec<(&'static str, OsString)>,
     flags: Vec<&'static str>,
+    has_rule: bool,
 }
 
+/// What a usage allows.
+#[derive(Default)]
+struct Allowed {
+    /// options with a value, and what the usage calls that
+    options: Vec<(&'static str, &'static str)>,
+    flags: Vec<&'static str>,
+    files: usize,
+    rule: bool,
+}
+
+/// What the usage calls a value that is a number: of entries or fittings, or of seconds.
+const NUMBERS: [&str; 2] = ["N", "S"];
+
 impl Command {
+    fn usage(&self) -> &'static str {
+        let first = self.text.lines().next().unwrap_or_default();
+        first.strip_prefix("usage: ./lutsamik ").unwrap_or(first)
+    }
+
+    /// An option stands in brackets, alone or with its value; or without them, where it is needed.
+    fn allowed(&self) -> Allowed {
+        let mut allowed = Allowed::default();
+        let mut words = self.usage().split(' ').skip(1);
+        while let Some(word) = words.next() {
+            let bare = word.trim_matches(['[', ']']);
+            match (bare.starts_with('-'), bare) {
+                (true, _) if word.ends_with(']') => allowed.flags.push(bare),
+                (true, _) => allowed.options.push((bare, words.next().unwrap_or_default().trim_end_matches(']'))),
+                (false, "RULE") => allowed.rule = true,
+                (false, _) => allowed.files += 1,
+            }
+        }
+        allowed
+    }
+
     pub fn arguments(&self, words: &[OsString]) -> Result<Arguments, Failure> {
-        let mut arguments = Arguments::default();
+        let allowed = self.allowed();
+        let mut arguments = Arguments { has_rule: allowed.rule, ..Arguments::default() };
         let mut words = words.iter();
         while let Some(word) = words.next() {
-            self.take(word, &mut words, &mut arguments)?;
+            if word == "--" {
+                arguments.words.extend(words.by_ref().cloned());
+            } else {
+                self.take(&allowed, word, &mut words, &mut arguments)?;
+            }
         }
         let given = arguments.words.len();
-        if given != self.files + self.rule as usize {
-            let rule = if self.rule { " and a rule" } else { "" };
-            return Err(self.wrong(&format!("{} takes {}{rule} and was given {given}", self.name, counted(self.files, "file"))));
+        if given != allowed.files + allowed.rule as usize {
+            let rule = if allowed.rule { " and a rule" } else { "" };
+            return Err(self.wrong(&format!("{} takes {}{rule} and was given {given}", self.name, counted(allowed.files, "file"))));
         }
-        match arguments.words[..self.files].iter().filter(|file| *file == "-").count() {
+        match arguments.files().iter().filter(|file| *file == "-").count() {
             0 | 1 => Ok(arguments),
             _ => Err(self.wrong("standard input can be named once")),
         }
     }
 
     /// Takes a word, and the next one where it is the word's value. A rule may begin with its arrow, as no option does.
-    fn take<'a>(&self, word: &'a OsString, rest: &mut impl Iterator<Item = &'a OsString>, into: &mut Arguments) -> Result<(), Failure> {
-        let name = word.to_string_lossy();
-        if name == "-" || !name.starts_with('-') || (self.rule && name.starts_with("->")) {
+    fn take<'a>(&self, allowed: &Allowed, word: &'a OsString, rest: &mut impl Iterator<Item = &'a OsString>, into: &mut Arguments) -> Result<(), Failure> {
+        let (name, value) = parted(word);
+        if word == "-" || !name.starts_with('-') || (allowed.rule && name.starts_with("->")) {
             into.words.push(word.clone());
-        } else if let Some(flag) = self.flags.iter().find(|flag| **flag == name) {
+        } else if let Some((option, kind)) = allowed.options.iter().find(|(option, _)| *option == name) {
+            let value = value.or_else(|| rest.next().cloned()).ok_or_else(|| self.wrong(&format!("{option} needs a value")))?;
+            into.options.push((option, value));
+            if NUMBERS.contains(kind) {
+                into.number(option)?;
+            }
+        } else if let Some(flag) = allowed.flags.iter().find(|flag| **flag == name) {
+            if value.is_some() {
+                return Err(self.wrong(&format!("{flag} takes no value")));
+            }
             into.flags.push(flag);
-        } else if let Some(option) = self.options.iter().find(|option| **option == name) {
-            let value = rest.next().ok_or_else(|| self.wrong(&format!("{option} needs a value")))?;
-            into.options.push((option, value.clone()));
         } else {
-            return Err(self.wrong(&format!("{} has no option {name}", self.name)));
+            return Err(self.wrong(&format!("{} has no option {}", self.name, word.to_string_lossy())));
         }
         Ok(())
     }
 
     fn wrong(&self, what: &str) -> Failure {
-        Failure::usage(format!("{what}; usage: ./lutsamik {}", self.usage))
+        Failure::usage(format!("{what}; usage: ./lutsamik {}", self.usage()))
+    }
+}
+
+/// A word before and after its first equals sign, where it is a long option.
+fn parted(word: &OsStr) -> (String, Option<OsString>) {
+    let bytes = word.as_bytes();
+    match bytes.iter().position(|byte| *byte == b'=').filter(|_| bytes.starts_with(b"--")) {
+        Some(at) => (String::from_utf8_lossy(&bytes[..at]).into_owned(), Some(OsString::from_vec(bytes[at + 1..].to_vec()))),
+        None => (word.to_string_lossy().into_owned(), None),
     }
 }
 
 impl Arguments {
     pub fn file(&self, i: usize) -> &OsStr {
         &self.words[i]
+    }
+
+    pub fn files(&self) -> &[OsString] {
+        &self.words[..self.words.len() - self.has_rule as usize]
     }
 
     /// The last word, of a command that takes a rule.
@@ -88,7 +139,7 @@ impl Arguments {
         self.options.iter().rev().find(|(option, _)| *option == name).map(|(_, value)| value.as_os_str())
     }
 
-    /// An option's value as a number of entries.
+    /// An option's value as a number.
     pub fn number(&self, name: &str) -> Result<Option<u32>, Failure> {
         let Some(value) = self.option(name) else { return Ok(None) };
         let number = value.to_str().and_then(|digits| digits.parse().ok());

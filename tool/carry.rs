@@ -3,10 +3,15 @@
 use crate::arguments::Arguments;
 use crate::ending::{Ending, Failure, Status};
 use crate::engines::Walk;
-use crate::fit::{depth_words, engine_words, fitting_words, lines, status, verdict_words};
+use crate::fit::{depth_words, engine_words, fitting_words, json, lines, stats_words, status, verdict_words};
+use crate::fitting::Fitting;
 use crate::library::{Engine, Session, Verdict};
+use crate::more::{further, Further};
+use crate::out;
+use crate::picture;
 use crate::save::Save;
-use crate::source::Accepted;
+use crate::source::{called, Accepted};
+use crate::spell::plain;
 use std::ffi::OsStr;
 
 /// How a walk is carried on.
@@ -30,27 +35,53 @@ impl Carry<'_> {
         if !is_over {
             return Err(self.stopped(&walk.at.session, save.as_ref(), saved));
         }
-        let printed = self.printed(&walk, save.as_ref().filter(|_| saved.is_ok()));
-        Ok(match saved {
-            Ok(()) => Ending::new(status(walk.at.fit.verdict), printed),
+        let printed = self.printed(&walk, save.as_ref().filter(|_| saved.is_ok()))?;
+        match saved {
+            Ok(()) => Ok(printed),
             Err(failure) => {
                 eprintln!("lutsamik: {}", failure.message);
-                Ending::new(Status::Usage, printed)
+                Ok(Ending { status: Status::Usage, ..printed })
             }
-        })
+        }
     }
 
-    fn printed(&self, walk: &Walk, save: Option<&Save>) -> String {
+    fn printed(&self, walk: &Walk, save: Option<&Save>) -> Result<Ending, Failure> {
         let fit = &walk.at.fit;
+        let fitting = (fit.verdict == Verdict::Fits).then(|| Fitting::of(self.accepted, &self.accepted.ticket, &walk.at)).transpose()?;
         if self.arguments.has("--lines") {
-            return lines(self.accepted, fit);
+            return Ok(Ending::new(status(fit.verdict), lines(fit, fitting.as_ref())));
         }
+        if let (Some("-"), Some(fitting)) = (self.arguments.option("--svg").and_then(OsStr::to_str), &fitting) {
+            return Ok(Ending::new(status(fit.verdict), self.picture(fitting)));
+        }
+        if let (Some(out), Some(fitting)) = (out::file(self.arguments, "--svg")?, &fitting) {
+            out::put(out, self.picture(fitting).as_bytes())?;
+        }
+        let many = self.arguments.number("-n")?.filter(|_| fitting.is_some());
+        let further = many.map(|many| further(self, &walk.at, many)).transpose()?;
+        if self.arguments.has("--json") {
+            return Ok(json(self, walk, fitting.as_ref(), further));
+        }
+        let stopper = if fit.count < self.most { "--time-limit" } else { self.stopper };
         let saved = save.map_or(String::new(), |save| match fit.verdict {
             Verdict::Spent => format!("to go on: {}\n", self.resuming(save, "N")),
             _ => format!("saved: {}\n", save.name),
         });
-        let verdict = verdict_words(fit, self.most, self.stopper) + &depth_words(&walk.depth());
-        [verdict, engine_words(self.engines), saved, fitting_words(self.accepted, fit)].concat()
+        let verdict = verdict_words(fit, self.most, stopper) + &depth_words(&walk.depth());
+        let stats = if self.arguments.has("--stats") { stats_words(self.accepted, fit)? } else { String::new() };
+        let shown = fitting.as_ref().map_or(Ok(String::new()), |fitting| fitting_words(self.arguments, fitting))?;
+        let further = further.map_or(Ok(String::new()), |further| self.further_words(&further))?;
+        Ok(Ending::new(status(fit.verdict), [verdict, engine_words(self.engines), stats, saved, shown, further].concat()))
+    }
+
+    fn picture(&self, fitting: &Fitting) -> String {
+        picture::drawing(fitting, &format!("A fitting of {}", plain(&called(self.file))))
+    }
+
+    fn further_words(&self, further: &Further) -> Result<String, Failure> {
+        let told = |(i, fitting): (usize, &Fitting)| Ok(format!("{}. {}", i + 2, fitting_words(self.arguments, fitting)?));
+        let told = further.fittings.iter().enumerate().map(told).collect::<Result<String, Failure>>()?;
+        Ok(format!("{told}{}\n", further.others))
     }
 
     fn stopped(&self, session: &Session, save: Option<&Save>, saved: Result<(), Failure>) -> Failure {

@@ -4,41 +4,15 @@ use crate::arguments::{Arguments, Command};
 use crate::ending::{Ending, Failure, Status};
 use crate::language;
 use crate::library;
+use crate::out;
 use crate::source::{self, Accepted, Source};
 
-pub const COMPILE: Command = Command {
-    name: "compile",
-    usage: "compile [-o OUT] RULES",
-    about: "a sheet of rules as a ticket",
-    help: "\
-Writes the ticket of a sheet of rules to the file OUT, and its names to the file
-OUT.names beside it, where the other commands find them. Without -o the ticket
-alone is printed. The other commands take a sheet too. docs/LANGUAGE.md has the
-language.
-Example: ./lutsamik compile -o /tmp/heads.text examples/heads.rules",
-    files: 1,
-    rule: false,
-    options: &["-o"],
-    flags: &[],
-    run: compile,
-};
+pub const COMPILE: Command = Command { name: "compile", text: include_str!("help/compile.txt"), run: compile };
 
-pub const SHOW: Command = Command {
-    name: "show",
-    usage: "show FILE",
-    about: "a ticket as a sheet of rules",
-    help: "\
-Prints a ticket as a sheet of rules, which compiles to the same ticket.
-Example: ./lutsamik show crates/cases/data/K6.text",
-    files: 1,
-    rule: false,
-    options: &[],
-    flags: &[],
-    run: show,
-};
+pub const SHOW: Command = Command { name: "show", text: include_str!("help/show.txt"), run: show };
 
 fn compile(arguments: &Arguments) -> Result<Ending, Failure> {
-    let file = arguments.file(0);
+    let (file, out) = (arguments.file(0), out::ticket_file(arguments, "-o")?);
     let bytes = source::bytes(file)?;
     if source::is_ticket(&bytes) {
         return Err(Failure::usage(format!("{} is a ticket's text already; './lutsamik show' prints it as rules", source::called(file))));
@@ -49,9 +23,15 @@ fn compile(arguments: &Arguments) -> Result<Ending, Failure> {
     if library::write(&accepted.table)? != text {
         return Err(Failure::disagreement("the library writes another ticket than was compiled"));
     }
-    let Some(out) = arguments.option("-o") else { return Ok(Ending::new(Status::Good, text)) };
-    source::put(out, &text)?;
-    source::put(&source::names_file(out), shown(&text, &accepted)?.as_bytes())?;
+    let used = accepted.ticket.used();
+    let tight = if accepted.ticket.is_tight() { "; more than 90 % of a limit is used" } else { "" };
+    eprintln!("lutsamik: {used}{tight}");
+    if arguments.has("--rules") {
+        return Ok(Ending::new(Status::Good, shown(&text, &accepted)?));
+    }
+    let Some(out) = out else { return Ok(Ending::new(Status::Good, text)) };
+    out::put(out, &text)?;
+    out::put(&source::names_file(out), shown(&text, &accepted)?.as_bytes())?;
     Ok(Ending::new(Status::Good, ""))
 }
 

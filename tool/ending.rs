@@ -1,14 +1,15 @@
 //! How a command ends: with what it prints and a status, or with a failure in one line.
 
-/// The program's exit statuses. `help` lists them.
+/// The program's exit statuses, with 10 and 20 as SAT solvers have them. `help` lists them.
 #[derive(Clone, Copy, Debug, PartialEq, Eq)]
 pub enum Status {
     Good = 0,
     Refused = 1,
     Usage = 2,
     Disagreement = 3,
-    None = 10,
-    Spent = 20,
+    Fits = 10,
+    None = 20,
+    Spent = 30,
     Stopped = 130,
 }
 

@@ -4,6 +4,7 @@
 //! A walk is begun on the ticket with limit 0 in place of its own, and all that follows are further limits on that ticket. The library claims that this
 //! comes to the answer and the session of one run under the sum of the limits; and but for its end a walk does not depend on the ticket's limit.
 
+use crate::clock;
 use crate::ending::Failure;
 use crate::interrupt;
 use crate::library::{self, Engine, Moved, Session, Stack, Table, Verdict};
@@ -79,7 +80,7 @@ impl Walk {
         Depth { deepest, most: self.atoms, is_earlier: deepest > 0 && deepest == self.brought, stacks }
     }
 
-    /// Goes on until the walk is over or has made so many entries, or Ctrl-C stops it: whether it came so far. Each session on the way is shown.
+    /// Goes on until the walk is over, has made so many entries or has taken its time, or Ctrl-C stops it: whether it was not stopped. Each session on the way is shown.
     pub fn run(&mut self, most: u32, show: &mut dyn FnMut(&Session) -> Result<(), Failure>) -> Result<bool, Failure> {
         let mut slice = Slice::first();
         let mut progress = Progress::new(self.at.fit.count, most);
@@ -87,6 +88,9 @@ impl Walk {
             show(&self.at.session)?;
             if interrupt::is_asked() {
                 return Ok(false);
+            }
+            if clock::is_over() {
+                return Ok(true);
             }
             let (path, made, begun) = (self.at.session.length, slice.entries.min(most - self.at.fit.count), Instant::now());
             self.go_on(made)?;

@@ -2,43 +2,27 @@
 
 use crate::arguments::{Arguments, Command};
 use crate::carry::Carry;
+use crate::clock;
 use crate::ending::{Ending, Failure, Status};
 use crate::engines::{Depth, Walk};
+use crate::fitting::Fitting;
 use crate::interrupt;
+use crate::json::{self, Json};
 use crate::library::{self, Engine, Fit, Refusal, Verdict};
+use crate::more::Further;
+use crate::out;
 use crate::save::Save;
 use crate::source::{Accepted, Source};
 use crate::spell::hex;
-use crate::ticket::Atom;
+use std::io::{self, IsTerminal};
 
-pub const COMMAND: Command = Command {
-    name: "fit",
-    usage: "fit [--engine relevancy|magic|both] [--limit N] [--save SESSION] [--lines] FILE",
-    about: "whether a ticket fits, and the fitting",
-    help: "\
-Fits a ticket and prints the verdict, the entries made, how many of them the deepest
-path had, and the fitting's atoms. The memory that it prints is what this run took,
-by each engine: the stack, measured, and the bytes lent. So much is needed by a host
-that walks so deep in slices, as the tool does.
-  --engine E   relevancy, magic, or both (the default), which are then compared
-  --limit N    at most N entries, whatever limit the ticket has
-  --save SESSION  leaves in this file where the walk stands, so that 'resume' can go
-               on with it; a file that is there already is not written over
-  --lines      prints the lines that document 01 lays down: 81, 82 and 8F
-Ctrl-C stops a long walk and says how far it came; with --save it can be resumed. A
-second Ctrl-C ends the tool at once. On a terminal a long walk shows the entries
-that it has made, how many a second, and how deep it stands.
-Example: ./lutsamik fit --save /tmp/K6.session crates/cases/data/K6.text",
-    files: 1,
-    rule: false,
-    options: &["--engine", "--limit", "--save"],
-    flags: &["--lines"],
-    run,
-};
+pub const COMMAND: Command = Command { name: "fit", text: include_str!("help/fit.txt"), run };
 
 fn run(arguments: &Arguments) -> Result<Ending, Failure> {
     let engines = engines(arguments)?;
     let limit = arguments.number("--limit")?;
+    clock::begin(arguments.number("--time-limit")?);
+    out::file(arguments, "--svg")?;
     let source = Source::open(arguments.file(0))?;
     if arguments.has("--lines") {
         if let Err(refusal) = library::read(&source.text) {
@@ -56,7 +40,7 @@ fn run(arguments: &Arguments) -> Result<Ending, Failure> {
 
 pub fn engines(arguments: &Arguments) -> Result<Vec<Engine>, Failure> {
     let both = vec![Engine::Relevancy, Engine::Magic];
-    let Some(chosen) = arguments.option("--engine") else { return Ok(both) };
+    let Some(chosen) = arguments.option("--engine") else { return Ok(vec![Engine::Magic]) };
     let engines: Vec<Engine> = both.into_iter().filter(|engine| chosen == "both" || chosen == engine.name()).collect();
     if engines.is_empty() {
         return Err(Failure::usage(format!("--engine is relevancy, magic or both, not '{}'", chosen.to_string_lossy())));
@@ -66,16 +50,10 @@ pub fn engines(arguments: &Arguments) -> Result<Vec<Engine>, Failure> {
 
 pub fn status(verdict: Verdict) -> Status {
     match verdict {
-        Verdict::Fits => Status::Good,
+        Verdict::Fits => Status::Fits,
         Verdict::None => Status::None,
         Verdict::Spent => Status::Spent,
     }
-}
-
-/// The atoms of a fitting, in the order of their numbers.
-fn fitting(accepted: &Accepted, fit: &Fit) -> Vec<Atom> {
-    let atoms = accepted.ticket.ground_atoms().into_iter().zip(&fit.answer);
-    atoms.filter(|(_, mark)| fit.verdict == Verdict::Fits && **mark == 1).map(|(atom, _)| atom).collect()
 }
 
 pub fn engine_words(engines: &[Engine]) -> String {
@@ -85,14 +63,48 @@ pub fn engine_words(engines: &[Engine]) -> String {
     }
 }
 
-/// The fitting's atoms; nothing where there is none.
-pub fn fitting_words(accepted: &Accepted, fit: &Fit) -> String {
-    if fit.verdict != Verdict::Fits {
-        return String::new();
+/// The fitting: what is true in it at a terminal, or of the predicates asked for; else all of it, since the true atoms alone need not be one.
+pub fn fitting_words(arguments: &Arguments, fitting: &Fitting) -> Result<String, Failure> {
+    let shown = arguments.option("--show").map(|words| predicates(&words.to_string_lossy(), fitting.accepted())).transpose()?;
+    if arguments.has("--all") || (shown.is_none() && !io::stdout().is_terminal()) {
+        return Ok(fitting.whole());
     }
-    let atoms = fitting(accepted, fit);
-    let heading = format!("fitting: {} of {} atoms\n", atoms.len(), accepted.ticket.atoms());
-    std::iter::once(heading).chain(accepted.atoms(&atoms).iter().map(|atom| format!("  {atom}\n"))).collect()
+    Ok(fitting.what_is_true(shown.as_deref()))
+}
+
+/// The predicates of these names, with commas between them.
+fn predicates(words: &str, accepted: &Accepted) -> Result<Vec<u8>, Failure> {
+    let all: Vec<String> = (0..accepted.ticket.arities.len() as u8).map(|predicate| accepted.predicate(predicate)).collect();
+    let number = |word: &str| all.iter().position(|name| name == word.trim()).map(|number| number as u8);
+    let unknown = |word| Failure::usage(format!("--show: there is no predicate '{word}'; there are {}", all.join(", ")));
+    words.split(',').map(|word| number(word).ok_or_else(|| unknown(word))).collect()
+}
+
+/// What was measured, and how much of a ticket's limits is used.
+pub fn stats_words(accepted: &Accepted, fit: &Fit) -> Result<String, Failure> {
+    let (seconds, rules) = (clock::seconds(), library::rewrite(&accepted.table)?);
+    let time = format!("time: {seconds:.3} s, {:.0} entries a second\n", fit.count as f64 / seconds);
+    Ok(format!("{time}used: {}\nmagic rules: {rules} of at most 320\n", accepted.ticket.used()))
+}
+
+/// As JSON.
+pub fn json(carry: &Carry, walk: &Walk, fitting: Option<&Fitting>, further: Option<Further>) -> Ending {
+    let (fit, accepted) = (&walk.at.fit, carry.accepted);
+    let mut more = vec![
+        ("entries", Json::number(fit.count)),
+        ("limit", Json::number(carry.most)),
+        ("deepest", Json::number(fit.deepest)),
+        ("engines", Json::texts(carry.engines.iter().map(|engine| engine.name().to_string()).collect())),
+    ];
+    if let Some(fitting) = fitting {
+        more.push(("fitting", Json::texts(accepted.atoms(&fitting.atoms()))));
+        more.push(("true", Json::texts(accepted.atoms(&fitting.true_atoms()))));
+    }
+    if let Some(Further { fittings, others }) = further {
+        more.push(("further", Json::List(fittings.iter().map(|fitting| Json::texts(accepted.atoms(&fitting.atoms()))).collect())));
+        more.push(("others", Json::text(others)));
+    }
+    json::ending("fit", fit.verdict.name(), status(fit.verdict), more)
 }
 
 /// Verdict and entries; `stopper` is what stops a walk at the limit.
@@ -114,9 +126,9 @@ pub fn depth_words(depth: &Depth) -> String {
 }
 
 /// Document 01's lines.
-pub fn lines(accepted: &Accepted, fit: &Fit) -> String {
+pub fn lines(fit: &Fit, fitting: Option<&Fitting>) -> String {
     let first = [&[0x81, fit.verdict as u8], &fit.count.to_be_bytes()[..]].concat();
-    let atoms = fitting(accepted, fit).into_iter().map(|atom| [&[0x82], &atom.bytes()[..]].concat());
+    let atoms = fitting.map_or(Vec::new(), Fitting::atoms).into_iter().map(|atom| [&[0x82], &atom.bytes()[..]].concat());
     std::iter::once(first).chain(atoms).map(|frame| hex(&frame) + "\n").collect()
 }
 

@@ -1,6 +1,6 @@
 //! An instance that the command line names, and where its rule gives out in an answer.
 
-use crate::ending::{Ending, Failure, Status};
+use crate::ending::Failure;
 use crate::library::{self, Held, Judged};
 use crate::source::Accepted;
 use crate::spell::{counted, hex};
@@ -12,8 +12,19 @@ struct Named {
     values: Vec<u8>,
 }
 
+/// What is said of an instance.
+pub struct Told {
+    pub verdict: &'static str,
+    pub clause: usize,
+    pub values: Vec<u8>,
+    /// how many conditions are in the answer, before the first that is not
+    pub hold: usize,
+    /// what follows the verdict
+    pub words: String,
+}
+
 /// What `--at` says: where the rule gives out in the answer, that it is satisfied, or that it is violated.
-pub fn at(words: &str, accepted: &Accepted, marks: &[u8]) -> Result<Ending, Failure> {
+pub fn at(words: &str, accepted: &Accepted, marks: &[u8]) -> Result<Told, Failure> {
     let named = Named::by(words, accepted)?;
     let hold = match library::holding(&accepted.table, marks, named.clause, &named.values)? {
         Held::Conditions(hold) => hold,
@@ -39,7 +50,7 @@ pub fn at(words: &str, accepted: &Accepted, marks: &[u8]) -> Result<Ending, Fail
 }
 
 /// An instance that the answer violates: by the library all its conditions hold, and the answer is no fitting.
-pub fn violated(accepted: &Accepted, marks: &[u8], clause: usize, values: &[u8]) -> Result<Ending, Failure> {
+pub fn violated(accepted: &Accepted, marks: &[u8], clause: usize, values: &[u8]) -> Result<Told, Failure> {
     let [conditions, alternatives] = accepted.instance_atoms(clause, values);
     let own = &values[..accepted.ticket.clauses[clause].variables()];
     let held = library::holding(&accepted.table, marks, clause as u32, own)?;
@@ -48,22 +59,25 @@ pub fn violated(accepted: &Accepted, marks: &[u8], clause: usize, values: &[u8])
         let name = accepted.instance_name(clause, values);
         return Err(Failure::disagreement(format!("{name} is violated, and lutsamik_holding says {held:?}, lutsamik_judge {judged:?}")));
     }
+    let hold = conditions.len();
     let [conditions, alternatives] = [conditions, alternatives].map(|atoms| list(accepted, &atoms, "it has none"));
     let told = format!("conditions, all in the answer: {conditions}\nalternatives, none in the answer: {alternatives}\n");
-    Ok(Ending::new(Status::Refused, format!("violated: {}{told}", heading(accepted, clause, values, ""))))
+    let words = heading(accepted, clause, values, "") + &told;
+    Ok(Told { verdict: "violated", clause, values: own.to_vec(), hold, words })
 }
 
-fn satisfied(accepted: &Accepted, named: &Named, conditions: &[Atom], offered: &[Atom]) -> Ending {
+fn satisfied(accepted: &Accepted, named: &Named, conditions: &[Atom], offered: &[Atom]) -> Told {
+    let hold = conditions.len();
     let [conditions, offered] = [conditions, offered].map(|atoms| list(accepted, atoms, "it has none"));
     let told = format!("conditions, all in the answer: {conditions}\nalternatives in the answer: {offered}\n");
-    Ending::new(Status::Good, format!("satisfied: {}{told}", heading(accepted, named.clause as usize, &named.values, "")))
+    named.told(accepted, "satisfied", hold, "", &told)
 }
 
-fn gives_out(accepted: &Accepted, named: &Named, conditions: &[Atom], hold: usize, first: &Atom) -> Ending {
+fn gives_out(accepted: &Accepted, named: &Named, conditions: &[Atom], hold: usize, first: &Atom) -> Told {
     let after = format!(", after {hold} of {}", counted(conditions.len(), "condition"));
     let (before, first) = (list(accepted, &conditions[..hold], "none"), accepted.atom(first));
     let told = format!("conditions in the answer, before it gives out: {before}\nfirst condition not in the answer: {first}\n");
-    Ending::new(Status::Good, format!("gives out: {}{told}", heading(accepted, named.clause as usize, &named.values, &after)))
+    named.told(accepted, "gives out", hold, &after, &told)
 }
 
 /// The instance's name, with some words after it, and its rule.
@@ -102,6 +116,13 @@ impl Named {
             }
             _ => Ok(Named { clause, values }),
         }
+    }
+
+    /// What is said of it, with some words after its name.
+    fn told(&self, accepted: &Accepted, verdict: &'static str, hold: usize, after: &str, told: &str) -> Told {
+        let clause = self.clause as usize;
+        let words = heading(accepted, clause, &self.values, after) + told;
+        Told { verdict, clause, values: self.values.clone(), hold, words }
     }
 
     /// Whether the ticket has this clause and these constants.

@@ -5,18 +5,26 @@ mod arguments;
 mod carry;
 mod check;
 mod clause;
+mod clock;
 mod compile;
 mod ending;
 mod engines;
+mod explain;
 mod fit;
+mod fitting;
+mod fold;
 mod frame;
 mod help;
 mod instance;
 mod interrupt;
 mod judge;
+mod json;
 mod language;
 mod library;
+mod more;
+mod out;
 mod parse;
+mod picture;
 mod progress;
 mod read;
 mod resume;
@@ -40,15 +48,24 @@ use std::ffi::OsString;
 use std::io::{self, ErrorKind, Write};
 use std::process::ExitCode;
 
-const COMMANDS: [Command; 8] =
-    [fit::COMMAND, resume::COMMAND, read::COMMAND, add::COMMAND, judge::COMMAND, trail::COMMAND, compile::COMPILE, compile::SHOW];
+const COMMANDS: [Command; 9] = [
+    fit::COMMAND,
+    resume::COMMAND,
+    explain::COMMAND,
+    read::COMMAND,
+    add::COMMAND,
+    judge::COMMAND,
+    trail::COMMAND,
+    compile::COMPILE,
+    compile::SHOW,
+];
 
 fn main() -> ExitCode {
     let words: Vec<OsString> = env::args_os().skip(1).collect();
     let status = match run(&words).and_then(put) {
         Ok(status) => status,
         Err(Failure { status, message }) => {
-            eprintln!("lutsamik: {message}");
+            eprintln!("lutsamik: {}", spell::plain(&message));
             if status == Status::Stopped {
                 interrupt::end();
             }
@@ -63,6 +80,9 @@ fn run(words: &[OsString]) -> Result<Ending, Failure> {
         return Err(Failure::usage("no command; './lutsamik --help' lists them"));
     };
     let name = name.to_string_lossy();
+    if name == "--version" {
+        return Ok(help::version());
+    }
     if let Some(asked) = help::asked(&name, rest) {
         return help::help(&COMMANDS, &asked);
     }

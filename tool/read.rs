@@ -3,25 +3,13 @@
 use crate::arguments::{Arguments, Command};
 use crate::ending::{Ending, Failure, Status};
 use crate::frame::Fault;
+use crate::json::{self, Json};
 use crate::library::{self, Refusal};
 use crate::parse::parse;
 use crate::source::{Accepted, Source};
 use std::ops::Range;
 
-pub const COMMAND: Command = Command {
-    name: "read",
-    usage: "read FILE",
-    about: "whether a ticket is accepted, or what is wrong with it",
-    help: "\
-Says whether a ticket is accepted. Where it is refused: the refusal's number and
-line, the line itself, the rule it breaks, and what stands there instead.
-Example: ./lutsamik read crates/cases/data/K10_refused.text",
-    files: 1,
-    rule: false,
-    options: &[],
-    flags: &[],
-    run,
-};
+pub const COMMAND: Command = Command { name: "read", text: include_str!("help/read.txt"), run };
 
 /// Document 01's rule for each refusal, from 1 on.
 const RULES: [&str; 10] = [
@@ -42,10 +30,37 @@ const SHOWN: usize = 100;
 
 fn run(arguments: &Arguments) -> Result<Ending, Failure> {
     let source = Source::open(arguments.file(0))?;
-    match library::read(&source.text) {
-        Ok(_) => Ok(Ending::new(Status::Good, summary(&source.accepted()?)?)),
-        Err(refusal) => Ok(Ending::new(Status::Refused, refused(&source.text, refusal))),
+    match (library::read(&source.text), arguments.has("--json")) {
+        (Ok(_), false) => Ok(Ending::new(Status::Good, summary(&source.accepted()?)?)),
+        (Ok(_), true) => accepted_json(&source.accepted()?),
+        (Err(refusal), false) => Ok(Ending::new(Status::Refused, refused(&source.text, refusal))),
+        (Err(refusal), true) => Ok(refused_json(&source.text, refusal)),
     }
+}
+
+fn accepted_json(accepted: &Accepted) -> Result<Ending, Failure> {
+    let ticket = &accepted.ticket;
+    let more = vec![
+        ("constants", Json::number(ticket.constants)),
+        ("arities", Json::List(ticket.arities.iter().map(|arity| Json::number(*arity)).collect())),
+        ("atoms", Json::number(ticket.atoms())),
+        ("clauses", Json::number(ticket.clauses.len())),
+        ("sum", Json::number(ticket.sum())),
+        ("magic_rules", Json::number(library::rewrite(&accepted.table)?)),
+        ("limit", Json::number(ticket.limit)),
+    ];
+    Ok(json::ending("read", "accepted", Status::Good, more))
+}
+
+fn refused_json(text: &[u8], Refusal { number, line }: Refusal) -> Ending {
+    let here = found(text, number, line).map_or(Json::Null, |fault| Json::text(fault.words));
+    let rule = RULES.get((number as usize).wrapping_sub(1)).map_or(Json::Null, |rule| Json::text(*rule));
+    json::ending("read", "refused", Status::Refused, vec![("number", Json::number(number)), ("line", Json::number(line)), ("here", here), ("rule", rule)])
+}
+
+/// What stands on the line, if the tool's own reading finds the very same fault.
+fn found(text: &[u8], number: u8, line: usize) -> Option<Fault> {
+    parse(text).err().filter(|(at, fault)| *at == line && fault.number == number).map(|(_, fault)| fault)
 }
 
 fn summary(accepted: &Accepted) -> Result<String, Failure> {
@@ -67,15 +82,15 @@ fn list(numbers: &[u8]) -> String {
     numbers.iter().map(u8::to_string).collect::<Vec<_>>().join(", ")
 }
 
-/// The refusal in words. What stands on the line is told if the tool's own reading finds the very same fault.
+/// The refusal in words.
 fn refused(text: &[u8], Refusal { number, line }: Refusal) -> String {
     let mut printed = format!("refused: {number} at line {line}\n");
-    let found = parse(text).err().filter(|(at, fault)| *at == line && fault.number == number);
+    let found = found(text, number, line);
     let stands = text.split(|byte| *byte == b'\n').nth(line - 1).unwrap_or_default();
     if !stands.is_empty() {
-        printed += &shown(&format!("line {line}: "), stands, found.as_ref().and_then(|(_, fault)| fault.digits.clone()));
+        printed += &shown(&format!("line {line}: "), stands, found.as_ref().and_then(|fault| fault.digits.clone()));
     }
-    if let Some((_, Fault { words, .. })) = &found {
+    if let Some(Fault { words, .. }) = &found {
         printed += &format!("here: {words}\n");
     }
     printed + &broken(number)

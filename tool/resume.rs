@@ -2,42 +2,23 @@
 
 use crate::arguments::{Arguments, Command};
 use crate::carry::Carry;
+use crate::clock;
 use crate::ending::{Ending, Failure};
 use crate::engines::Walk;
 use crate::fit::engines;
 use crate::interrupt;
 use crate::library::{Session, TOO_MANY_ENTRIES};
+use crate::out::is_same;
 use crate::save::Save;
 use crate::session::Kept;
 use crate::source::{called, Source};
 use std::ffi::OsStr;
-use std::fs;
 
-pub const COMMAND: Command = Command {
-    name: "resume",
-    usage: "resume [--engine relevancy|magic|both] [--save OTHER] [--lines] SESSION FILE --further N",
-    about: "goes on with a ticket that was spent or stopped, from its session",
-    help: "\
-Goes on with the walk of the ticket FILE from where SESSION says that it stands, and
-prints what 'fit' would print under all limits together. The session is then written
-back. One that has come to fits or none answers again. Where the deepest path was
-entered in an earlier run, that one may have taken more memory than this one.
-  --further N  at most N entries more
-  --engine E   relevancy, magic, or both (the default), whichever came so far
-  --save OTHER writes the session to this file instead, and leaves SESSION as it is
-  --lines      prints the lines that document 01 lays down: 81 and 82
-A session is refused that was begun on another ticket, but for the limit. Ctrl-C
-does as with 'fit'.
-Example: ./lutsamik resume /tmp/K6.session crates/cases/data/K6.text --further 100",
-    files: 2,
-    rule: false,
-    options: &["--engine", "--save", "--further"],
-    flags: &["--lines"],
-    run,
-};
+pub const COMMAND: Command = Command { name: "resume", text: include_str!("help/resume.txt"), run };
 
 fn run(arguments: &Arguments) -> Result<Ending, Failure> {
     let engines = engines(arguments)?;
+    clock::begin(arguments.number("--time-limit")?);
     let further = arguments.number("--further")?;
     let further = further.ok_or_else(|| Failure::usage("resume needs --further N: how many entries more it may make"))?;
     let [file, ticket] = [0, 1].map(|i| arguments.file(i));
@@ -60,9 +41,8 @@ fn run(arguments: &Arguments) -> Result<Ending, Failure> {
 
 /// Where the session goes: back, or into another file.
 fn save(file: &OsStr, other: Option<&OsStr>, ticket: Vec<u8>) -> Result<Save, Failure> {
-    let is_same = |other: &&OsStr| matches!((fs::canonicalize(file), fs::canonicalize(other)), (Ok(file), Ok(other)) if file == other);
     match other {
-        Some(other) if !is_same(&other) => Save::anew(other, ticket),
+        Some(other) if !is_same(file, other) => Save::anew(other, ticket),
         _ => Save::back(file, ticket),
     }
 }

@@ -97,6 +97,16 @@ impl Ticket {
         (0..self.power(many)).map(move |index| (0..many).map(|place| digit(index, place)).collect())
     }
 
+    /// How much of what a ticket can have is used.
+    pub fn used(&self) -> String {
+        format!("{} of 64 rules, {} of 1024 atoms, {} of 16384 as the sum", self.clauses.len(), self.atoms(), self.sum())
+    }
+
+    /// Whether more than nine tenths of one of these are used.
+    pub fn is_tight(&self) -> bool {
+        [(self.clauses.len(), 64), (self.atoms(), 1024), (self.sum(), 16384)].iter().any(|(used, most)| 10 * used > 9 * most)
+    }
+
     /// The ticket with another limit.
     pub fn with_limit(&self, limit: u32) -> Ticket {
         Ticket { limit, ..self.clone() }

@@ -4,53 +4,72 @@ use crate::arguments::{Arguments, Command};
 use crate::ending::{Ending, Failure};
 use crate::engines;
 use crate::fit::{depth_words, status, verdict_words};
+use crate::json::{self, Json};
 use crate::library::{Engine, Fit};
+use crate::out;
 use crate::source::{self, Accepted, Source};
+use crate::spell::plain;
 use crate::svg;
 use crate::tree::{trail, Place, Trail};
 use crate::wanted::Found;
 
-pub const COMMAND: Command = Command {
-    name: "trail",
-    usage: "trail [--entries N] [--svg OUT] FILE",
-    about: "the walk as a tree, in words or as a drawing",
-    help: "\
-Prints the walk as a tree: each entry, in the walk's order, with the atom entered
-and how the place is found: closed, open, or split by a clause with values. An
-alternative that a split names again is entered once.
-  --entries N  the first N entries at most (1000 where it is not given)
-  --svg OUT    also draws the tree, into the file OUT
-The library tells verdict, count and fitting, but not the path. So the tool makes
-the tree itself, and has the library confirm each place: what is true there by
-judging, what is wanted by fitting tickets derived from this one, and by both how
-the place is found. Such a ticket is refused where it has more clauses, conditions,
-predicates or atoms than a ticket can have; the place is then marked [unchecked].
-In any case the tree's verdict, count, deepest path and fitting must be those of
-both engines. The memory is what these took, as with 'fit'.
-Example: ./lutsamik trail --svg /tmp/trail.svg crates/cases/data/example_1.text",
-    files: 1,
-    rule: false,
-    options: &["--entries", "--svg"],
-    flags: &[],
-    run,
-};
+pub const COMMAND: Command = Command { name: "trail", text: include_str!("help/trail.txt"), run };
 
 const ENTRIES: u32 = 1000;
+const MOST_ENTRIES: u32 = 20_000;
 
 fn run(arguments: &Arguments) -> Result<Ending, Failure> {
+    let out = out::file(arguments, "--svg")?;
     let entries = arguments.number("--entries")?.unwrap_or(ENTRIES);
+    if entries > MOST_ENTRIES {
+        return Err(Failure::usage(format!("--entries is at most {MOST_ENTRIES}: nobody reads a longer trail")));
+    }
     let whole = Source::open(arguments.file(0))?.accepted()?;
     let accepted = whole.with_limit(whole.ticket.limit.min(entries))?;
-    let trail = trail(&accepted)?;
-    let walk = engines::agreed(&[Engine::Relevancy, Engine::Magic], &accepted)?;
+    let (trail, walk) = made(&accepted)?;
     let fit = &walk.at.fit;
-    same(&trail, fit)?;
-    if let Some(out) = arguments.option("--svg") {
-        source::put(out, svg::drawing(&accepted, &trail, fit).as_bytes())?;
+    if arguments.option("--svg").is_some() {
+        let drawing = svg::drawing(&accepted, &trail, fit, &format!("The trail of {}", plain(&source::called(arguments.file(0)))));
+        let Some(out) = out else { return Ok(Ending::new(status(fit.verdict), drawing)) };
+        out::put(out, drawing.as_bytes())?;
     }
     let stopper = if entries < whole.ticket.limit { "--entries" } else { "the limit" };
+    if arguments.has("--json") {
+        return Ok(as_json(&accepted, &trail, fit));
+    }
     let verdict = verdict_words(fit, accepted.ticket.limit, stopper) + &depth_words(&walk.depth());
     Ok(Ending::new(status(fit.verdict), words(&accepted, &trail, &verdict)))
+}
+
+/// The trail of a ticket, and the walk of both engines, which must end as it does.
+pub fn made(accepted: &Accepted) -> Result<(Trail, engines::Walk), Failure> {
+    let trail = trail(accepted)?;
+    let walk = engines::agreed(&[Engine::Relevancy, Engine::Magic], accepted)?;
+    same(&trail, &walk.at.fit)?;
+    Ok((trail, walk))
+}
+
+fn as_json(accepted: &Accepted, trail: &Trail, fit: &Fit) -> Ending {
+    let place = |place: &Place| {
+        let (found, instance) = match &place.found {
+            Found::Closed(clause, values) => ("closed", Some((*clause, values))),
+            Found::Open(_) => ("open", None),
+            Found::Split(clause, values) => ("split", Some((*clause, values))),
+        };
+        let (above, atom) = place.entry.as_ref().map_or((Json::Null, Json::Null), |(above, atom)| (Json::number(*above), Json::text(accepted.atom(atom))));
+        let mut fields = vec![("above", above), ("entered", atom), ("found", Json::text(found)), ("checked", Json::True(place.confirmed))];
+        if let Some((clause, values)) = instance {
+            fields.extend(accepted.instance_fields(clause, values));
+        }
+        Json::Record(fields)
+    };
+    let more = vec![
+        ("entries", Json::number(fit.count)),
+        ("limit", Json::number(accepted.ticket.limit)),
+        ("deepest", Json::number(fit.deepest)),
+        ("places", Json::List(trail.places.iter().map(place).collect())),
+    ];
+    json::ending("trail", fit.verdict.name(), status(fit.verdict), more)
 }
 
 /// behind a place that the library does not confirm
@@ -75,7 +94,7 @@ fn same(trail: &Trail, fit: &Fit) -> Result<(), Failure> {
 }
 
 fn words(accepted: &Accepted, trail: &Trail, verdict: &str) -> String {
-    let mut printed: String = trail.places.iter().enumerate().map(|(i, place)| line(accepted, i, place)).collect();
+    let mut printed = tree_words(accepted, trail);
     printed += verdict;
     let confirmed = trail.places.iter().filter(|place| place.confirmed).count();
     printed += &format!("checked: {confirmed} of {} places\n", trail.places.len());
@@ -83,6 +102,11 @@ fn words(accepted: &Accepted, trail: &Trail, verdict: &str) -> String {
         printed += LEGEND;
     }
     printed
+}
+
+/// A line for each place.
+pub fn tree_words(accepted: &Accepted, trail: &Trail) -> String {
+    trail.places.iter().enumerate().map(|(i, place)| line(accepted, i, place)).collect()
 }
 
 fn line(accepted: &Accepted, number: usize, place: &Place) -> String {
@@ -101,7 +125,9 @@ pub fn label(accepted: &Accepted, number: usize, place: &Place) -> String {
 /// How a place is found, in words.
 pub fn told(accepted: &Accepted, found: &Found) -> String {
     match found {
-        Found::Closed => "closed".to_string(),
+        Found::Closed(clause, values) => {
+            format!("closed by {}: {}", accepted.instance_name(*clause, values), accepted.reason(*clause, values))
+        }
         Found::Open(_) => "open".to_string(),
         Found::Split(clause, values) => {
             format!("split by {}: {}", accepted.instance_name(*clause, values), accepted.instance(*clause, values))

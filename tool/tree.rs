@@ -92,8 +92,8 @@ impl Walk<'_> {
         entry.iter().for_each(|(_, atom)| marks[ticket.number(atom)] = 1);
         let depth = self.path.len();
         let (found, confirmed) = match self.truth.from(marks)? {
-            Some(truth) => self.find(&entry, truth)?,
-            None => (Found::Closed, true),
+            Ok(truth) => self.find(&entry, truth)?,
+            Err((clause, values)) => (Found::Closed(clause, values), true),
         };
         self.places.push(Place { entry, depth, found, confirmed });
         Ok(())

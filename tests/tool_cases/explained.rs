@@ -18,6 +18,7 @@ mod reference;
 #[path = "../report.rs"]
 mod report;
 #[path = "../../tool/spell.rs"]
+#[allow(dead_code)] // nothing foreign is printed
 mod spell;
 #[path = "../threads.rs"]
 mod threads;

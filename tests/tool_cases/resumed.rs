@@ -5,6 +5,8 @@
 
 #[path = "../../tool/clause.rs"]
 mod clause;
+#[path = "../../tool/clock.rs"]
+mod clock;
 #[path = "../../tool/ending.rs"]
 mod ending;
 #[path = "../../tool/engines.rs"]
@@ -73,7 +75,7 @@ fn run(run: &mut Run<Met>, many: u64) -> Result<(), Report> {
 }
 
 fn compare(text: &[u8], run: &mut Run<Met>) -> Result<(), Report> {
-    let source = Source { file: "ticket".to_string(), text: text.to_vec(), names: None, is_sheet: false };
+    let source = Source { file: "ticket".to_string(), text: text.to_vec(), names: None, is_sheet: false, origins: Vec::new() };
     let accepted = source.accepted().map_err(told)?;
     let (atoms, most) = (accepted.ticket.atoms(), accepted.ticket.limit);
     let mut stack = Stack::painted(STACK);

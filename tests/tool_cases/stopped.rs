@@ -145,7 +145,7 @@ fn read(file: &str) -> String {
 fn is_of_one_run(session: &str, count: u32) {
     let single = fresh("single");
     let output = ran(&["fit", "--engine", "magic", "--limit", &count.to_string(), "--save", &single, ENDLESS]);
-    assert_eq!(Some(20), output.status.code(), "{}", text(&output.stderr));
+    assert_eq!(Some(30), output.status.code(), "{}", text(&output.stderr));
     assert_eq!(read(&single), read(session), "the session of a single run with {count} entries");
 }
 
@@ -180,7 +180,7 @@ fn to_the_end() {
     let command = first.next.strip_prefix("to go on: ").expect("a command");
     let resumed = Command::new("bash").args(["-c", command]).output().expect("bash runs");
     let single = ran(&["fit", "--engine", "magic", "--limit", MOST, "--save", &whole, LONG]);
-    assert_eq!(Some(10), resumed.status.code(), "{}", text(&resumed.stderr));
+    assert_eq!(Some(20), resumed.status.code(), "{}", text(&resumed.stderr));
     assert_eq!(unmeasured(&single).replace(&whole, &session).replace("magic", "relevancy"), unmeasured(&resumed));
     assert_eq!(read(&whole), read(&session));
 }
@@ -219,7 +219,7 @@ fn at_any_time() {
         signals.iter().for_each(|number| send(&ended, *number));
         assert_eq!(Some(signals[0]), ended.output().status.signal());
         let output = ran(&["resume", &session, ENDLESS, "--further", "0"]);
-        assert_eq!(Some(20), output.status.code(), "{}", text(&output.stderr));
+        assert_eq!(Some(30), output.status.code(), "{}", text(&output.stderr));
         is_of_one_run(&session, count_in(&session));
     }
 }

@@ -10,6 +10,8 @@ mod clause;
 mod ending;
 #[path = "../../tool/frame.rs"]
 mod frame;
+#[path = "../../tool/json.rs"]
+mod json;
 #[path = "../../tool/language.rs"]
 mod language;
 #[path = "../../tool/library.rs"]
@@ -74,7 +76,7 @@ fn run(run: &mut Run<Met>, many: u64) -> Result<(), Report> {
 }
 
 fn compare(ticket: &reference::Ticket, text: &[u8], tally: &mut Met) -> Result<(), Report> {
-    let accepted = Source { file: "ticket".to_string(), text: text.to_vec(), names: None, is_sheet: false }.accepted().map_err(|failure| failure.message)?;
+    let accepted = Source { file: "ticket".to_string(), text: text.to_vec(), names: None, is_sheet: false, origins: Vec::new() }.accepted().map_err(|failure| failure.message)?;
     let trail = tree::trail(&accepted).map_err(|failure| failure.message)?;
     let mut expected = Vec::new();
     let outcome = walk::walk(&Relevancy::new(ticket), LIMIT, &mut |entered, place| expected.push((entered.to_vec(), place.found.clone())));
@@ -106,7 +108,7 @@ fn same_found(expected: &walk::Found, found: &wanted::Found) -> Result<(), Repor
         walk::Found::Split { clause, values, .. } => split(clause, values),
     };
     let found = match found {
-        wanted::Found::Closed => "closed".to_string(),
+        wanted::Found::Closed(..) => "closed".to_string(),
         wanted::Found::Open(_) => "open".to_string(),
         wanted::Found::Split(clause, values) => split(clause, values),
     };
@@ -124,7 +126,7 @@ struct Met {
 impl Met {
     fn place(&mut self, place: &Place) {
         let kind = match place.found {
-            wanted::Found::Closed => 0,
+            wanted::Found::Closed(..) => 0,
             wanted::Found::Open(_) => 1,
             wanted::Found::Split(..) => 2,
         };

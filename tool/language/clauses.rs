@@ -4,42 +4,44 @@ use super::frames::CLAUSE;
 use super::names::{Names, FIRST_VARIABLE};
 use super::sheet::{Atom, Rule};
 use super::words::{Kind, Word};
-use super::Error;
+use super::{Error, Origin};
 
-const MOST_CLAUSES: usize = 64;
+pub const MOST_CLAUSES: usize = 64;
 const MOST_ATOMS: usize = 4;
-const MOST_VARIABLES: usize = 4;
+pub const MOST_VARIABLES: usize = 4;
 const MOST_MARKS: u64 = 16384;
 
-pub fn frames(rules: &[Rule], names: &Names) -> Result<Vec<Vec<u8>>, Error> {
+/// The frame of each rule, with what it came from.
+pub fn frames(rules: &[Rule], names: &Names) -> Result<Vec<(Vec<u8>, Origin)>, Error> {
     let mut frames = Vec::new();
     let mut sum = 0;
     for rule in rules {
         if frames.len() == MOST_CLAUSES {
             return Err(Error::at(rule.place, format!("this is one rule too many: at most {MOST_CLAUSES}")));
         }
-        let (frame, variables) = frame(rule, names)?;
-        let (n, c) = (rule.conditions.len() as u64, names.constants().len() as u64);
+        let (frame, called) = frame(rule, names)?;
+        let (n, c, variables) = (rule.conditions.len() as u64, names.constants().len() as u64, called.len() as u32);
         let marks = n * c.pow(variables);
         sum += marks;
         if sum > MOST_MARKS {
             let this = format!("this rule counts {n} * {c}^{variables} = {marks}, conditions * constants^variables");
             return Err(Error::at(rule.place, format!("{this}; with it the sum over the rules is {sum}, at most {MOST_MARKS}")));
         }
-        frames.push(frame);
+        let variables = called.into_iter().map(str::to_string).collect();
+        frames.push((frame, Origin { part: rule.place.file, file: None, line: rule.place.line, variables }));
     }
     Ok(frames)
 }
 
-/// A rule's frame and its number of variables.
-pub fn frame(rule: &Rule, names: &Names) -> Result<(Vec<u8>, u32), Error> {
+/// A rule's frame and its variables, in the order of their numbers.
+pub fn frame<'a>(rule: &Rule<'a>, names: &'a Names) -> Result<(Vec<u8>, Vec<&'a str>), Error> {
     few("condition", &rule.conditions)?;
     few("alternative", &rule.alternatives)?;
     let frame = vec![CLAUSE, rule.conditions.len() as u8, rule.alternatives.len() as u8];
     let mut clause = Clause { names, variables: Vec::new(), frame };
     rule.conditions.iter().try_for_each(|atom| clause.add(atom, Clause::any_variable))?;
     rule.alternatives.iter().try_for_each(|atom| clause.add(atom, Clause::known_variable))?;
-    Ok((clause.frame, clause.variables.len() as u32))
+    Ok((clause.frame, clause.variables))
 }
 
 /// A rule's frame, however many conditions, alternatives and variables it has, and wherever these stand. Numbers that a byte cannot hold are the
@@ -116,7 +118,7 @@ impl<'a> Clause<'a> {
     }
 
     fn number(&self, word: &Word) -> Option<usize> {
-        self.variables.iter().position(|variable| *variable == word.text)
+        self.variables.iter().position(|variable| *variable == word.text && word.text != "_")
     }
 }
 

@@ -1,7 +1,7 @@
 //! What the constants and predicates of a ticket are called, by their numbers, and how a sheet declares them.
 
 use super::sheet::{Constants, Predicate, Sheet};
-use super::words::{Kind, Place};
+use super::words::Place;
 use super::Error;
 
 const MOST_CONSTANTS: usize = 32;
@@ -11,7 +11,7 @@ const MOST_ATOMS: usize = 1024;
 
 /// The first variable of a clause; there are four.
 pub const FIRST_VARIABLE: u8 = 0x80;
-const VARIABLES: [&str; 4] = ["X", "Y", "Z", "W"];
+pub const VARIABLES: [&str; 4] = ["X", "Y", "Z", "W"];
 
 /// The names of a ticket's constants, and of its predicates with their arities, in the ticket's order.
 #[derive(Clone, Debug, PartialEq, Eq)]
@@ -29,19 +29,25 @@ impl Names {
         }
     }
 
-    /// An atom as a sheet has it. A number without a name stands as in a ticket without names.
+    /// An atom as a sheet has it, with the usual variables. A number without a name stands as in a ticket without names.
     pub fn atom(&self, predicate: u8, args: &[u8]) -> String {
+        self.atom_with(predicate, args, &VARIABLES)
+    }
+
+    /// An atom of a clause whose variables are called so.
+    pub fn atom_with(&self, predicate: u8, args: &[u8], variables: &[impl AsRef<str>]) -> String {
         let name = self.predicates.get(predicate as usize).map_or_else(|| format!("p{predicate}"), |(name, _)| name.clone());
         if args.is_empty() {
             return name;
         }
-        let args: Vec<String> = args.iter().map(|arg| self.argument(*arg)).collect();
+        let args: Vec<String> = args.iter().map(|arg| self.argument(*arg, variables)).collect();
         format!("{name}({})", args.join(", "))
     }
 
-    fn argument(&self, arg: u8) -> String {
-        let variable = arg.checked_sub(FIRST_VARIABLE).and_then(|number| VARIABLES.get(number as usize));
-        let name = variable.map(|name| name.to_string()).or_else(|| self.constants.get(arg as usize).cloned());
+    /// A constant or a variable.
+    pub fn argument(&self, arg: u8, variables: &[impl AsRef<str>]) -> String {
+        let variable = arg.checked_sub(FIRST_VARIABLE).and_then(|number| variables.get(number as usize));
+        let name = variable.map(|name| name.as_ref().to_string()).or_else(|| self.constants.get(arg as usize).cloned());
         name.unwrap_or_else(|| arg.to_string())
     }
 
@@ -79,14 +85,32 @@ impl Names {
 
 /// The constant, or each of a range.
 fn add_constants(constants: &mut Declared, item: &Constants) -> Result<(), Error> {
-    let place = item.first.place;
-    let (Kind::Number(first), Some(Kind::Number(last))) = (item.first.kind, item.last.map(|last| last.kind)) else {
-        return constants.add(item.first.text.to_string(), place);
+    range(item)?.try_for_each(|name| constants.add(name, item.first.place))
+}
+
+/// The names of a constant or of a range: of numbers, or of names that end in numbers and are alike before them.
+pub(super) fn range(item: &Constants) -> Result<impl Iterator<Item = String>, Error> {
+    let wrong = |what: &str| Error::at(item.first.place, format!("the range {}..{} {what}", item.first.text, item.last.unwrap_or(item.first).text));
+    let (stem, first, last) = match item.last {
+        None => (item.first.text, None, 0),
+        Some(last) => match (numbered(item.first.text), numbered(last.text)) {
+            (Some((stem, first)), Some((other, last))) if stem == other => (stem, Some(first), last),
+            _ => return Err(wrong("is none: both names end in a number, and are the same before it")),
+        },
     };
-    if first > last {
-        return Err(Error::at(place, format!("the range {first}..{last} goes down")));
+    if first.is_some_and(|first| first > last) {
+        return Err(wrong("goes down"));
     }
-    (first..=last).try_for_each(|number| constants.add(number.to_string(), place))
+    let stem = stem.to_string();
+    let single = first.is_none().then(|| stem.clone());
+    Ok(single.into_iter().chain(first.into_iter().flat_map(move |first| first..=last).map(move |number| format!("{stem}{number}"))))
+}
+
+/// A name before its number, and the number, which has no needless 0.
+fn numbered(name: &str) -> Option<(&str, u32)> {
+    let stem = name.trim_end_matches(|c: char| c.is_ascii_digit());
+    let digits = &name[stem.len()..];
+    digits.parse().ok().filter(|number: &u32| number.to_string() == digits).map(|number| (stem, number))
 }
 
 /// The predicates with their arities, and not too many ground atoms of them.
