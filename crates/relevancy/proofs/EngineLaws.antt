@@ -1,12 +1,12 @@
 -- The ways out of the operation, and what is told of its walk.
 use Prim.Native.Nat.{ℕ, _+_, _≤_, _<_}
-use mathlib.Core.Bool.{true, false}
+use mathlib.Core.Bool.{Bool, true, false, cond, _||_}
 use mathlib.Core.List.{List, [], _++_}
-use mathlib.Core.Path.{_≡_, sym, ap, subst, _∙_}
+use mathlib.Core.Path.{_≡_, refl, sym, ap, subst, _∙_}
 use native.Mathlib.Omega.{arith}
-use lib.Dec.{T}
+use lib.Dec.{T, ltb}
 use lib.ListN.{length, take, drop, replicate}
-use borrow.Author.Tests.{lt-ltb, le-ltb}
+use borrow.Author.Tests.{lt-ltb, le-ltb, ltb-false}
 use Rattle.lists.specs.Key.{natKey}
 use Rattle.lists.specs.Member.{In}
 use Rattle.search.specs.Relevancy.{isRelevant, findR}
@@ -14,6 +14,8 @@ use Rattle.search.specs.Session.{firstSession}
 use Rattle.problem.specs.Problem.{limitOf}
 use Rattle.problem.specs.Layout.{problemIn}
 use Rattle.problem.specs.Table.{Lawful, isValid}
+use Rattle.writing.specs.contracts.Lent.{refusalOf}
+use Rattle.writing.proofs.LentLaws.{refused-says, Taken, taken}
 use Rattle.store.specs.contracts.Store.{logged}
 use Rattle.store.proofs.Laws.{store-flag}
 use Rattle.ground.specs.declared.verdict.Verdict.{Verdict}
@@ -28,13 +30,36 @@ use Rattle.walk.specs.contracts.Place.{factsOf, Beginning}
 use Rattle.walk.specs.declared.answer.Found.{Found as Told}
 use Rattle.walk.specs.declared.answer.Found.the-variants.{Closed, Open, Split}
 use Rattle.session.specs.declared.record.Moved.{Moved}
+use Rattle.session.specs.declared.record.Reply.{Reply}
 use Rattle.session.specs.Record.{laid}
-use Rattle.session.specs.contracts.End.{Concluded}
+use Rattle.session.specs.contracts.End.{Replied, Concluded}
 use Rattle.session.proofs.EndLaws.{first-concluded}
 use Rattle.relevancy_walk.specs.contracts.Place.{HeldIn, relevancyWalker}
-use Rattle.relevancy.specs.Engine.{outcomeIn, tooShort, fitResult, fitAnswer, fitWork}
+use Rattle.relevancy.specs.Engine.{outcomeIn, deepestIn, tooShort, fitResult, fitDeepest, fitAnswer, fitWork}
 
 -- ---- the ways out of the operation
+
+or-three : (a b c : Bool) → (a || (b || c)) ≡ (a || b || c)
+or-three true b c = refl
+or-three false b c = refl
+
+or-none : (a b : Bool) → (a || b) ≡ false → (a ≡ false) × (b ≡ false)
+or-none true b e = let z : _≡_ {A = ℕ} 0 1 = cc in absurd (omega arith)
+or-none false b e = (refl, e)
+
+-- whether the answer or the work buffer is too short, asked one after the other
+pub small-yes : (a w : ℕ) → a < 1024 → true ≡ (ltb a 1024 || ltb w 65536)
+small-yes a w l = rw (lt-ltb a 1024 l)
+
+pub small-no : (a w : ℕ) → 1024 ≤ a → ltb w 65536 ≡ (ltb a 1024 || ltb w 65536)
+small-no a w l = rw (le-ltb a 1024 l)
+
+-- all that is lent is taken
+pub record AllTaken (tb answer work : List ℕ) : Type 0 where
+  pub table-long : 4096 ≤ length tb
+  pub answer-long : 1024 ≤ length answer
+  pub work-long : 65536 ≤ length work
+  pub valid : isValid (take 4096 tb) ≡ true
 
 module _ (tb answer work : List ℕ) where
   pub short-table : length tb < 4096 → tooShort tb answer work ≡ true
@@ -48,6 +73,22 @@ module _ (tb answer work : List ℕ) where
 
   pub long-enough : 4096 ≤ length tb → 1024 ≤ length answer → 65536 ≤ length work → tooShort tb answer work ≡ false
   long-enough h l m = rw (le-ltb (length tb) 4096 h, le-ltb (length answer) 1024 l, le-ltb (length work) 65536 m)
+
+  -- by the number that what is lent is refused by, or 0
+  abbrev small : Bool
+  small = ltb (length answer) 1024 || ltb (length work) 65536
+
+  module _ (e : ℕ) (is : e ≡ refusalOf tb (ltb (length answer) 1024 || ltb (length work) 65536)) where
+    pub refused-by : {A : Type 0} (f : ℕ → A) (x : A) → 0 < e → f e ≡ cond (tooShort tb answer work) (f 11) (cond (isValid (take 4096 tb)) x (f 31))
+    refused-by {A} f x some-number =
+        ap f is ∙ refused-says {A = A} tb small f x (subst (λ (n : ℕ). 0 < n) is some-number)
+        ∙ ap (λ (b : Bool). cond b (f 11) (cond (isValid (take 4096 tb)) x (f 31))) (or-three (ltb (length tb) 4096) (ltb (length answer) 1024) (ltb (length work) 65536))
+
+    pub unrefused : e ≤ 0 → AllTaken tb answer work
+    unrefused none =
+        let all : Taken tb small = taken tb small (sym is ∙ (omega arith)) in
+        let room = or-none (ltb (length answer) 1024) (ltb (length work) 65536) (all .room) in
+        record { table-long = all .long; answer-long = ltb-false (length answer) 1024 (room .0); work-long = ltb-false (length work) 65536 (room .1); valid = all .valid }
 
   -- what the operation says and leaves
   abbrev pub Fitted : Verdict → List ℕ → List ℕ → Type 0
@@ -67,6 +108,29 @@ module _ (tb answer work : List ℕ) where
   unfolding fitResult fitAnswer fitWork
   fit-runs e v r left part o a z = (o ∙ rw (e, v), a ∙ rw (e, v), ap (λ (l : List ℕ). l ++ drop 65536 work) z ∙ rw (e, v))
 
+  -- and where no session is kept
+  abbrev pub Replies : Verdict → ℕ → List ℕ → List ℕ → Type 0
+  Replies v deepest left rest = (v ≡ fitResult tb answer work) × (deepest ≡ fitDeepest tb answer work) × (left ≡ fitAnswer tb answer work) × (rest ≡ fitWork tb answer work)
+
+  pub fit-refused : (e : ℕ) → e ≡ refusalOf tb (ltb (length answer) 1024 || ltb (length work) 65536) → 0 < e → Replies (Refused e) 0 answer work
+  unfolding fitResult fitDeepest fitAnswer fitWork
+  fit-refused e is l = (
+    refused-by e is {A = Verdict} (λ x. Refused x) (verdictOf (outcomeIn (take 4096 tb))) l,
+    refused-by e is {A = ℕ} (λ x. 0) (deepestIn (take 4096 tb)) l,
+    refused-by e is {A = List ℕ} (λ x. answer) (answerOf (outcomeIn (take 4096 tb)) answer) l,
+    refused-by e is {A = List ℕ} (λ x. work) (replicate 65536 0 ++ drop 65536 work) l,
+  )
+
+  pub fit-replies : AllTaken tb answer work → (x : Reply) (left part : List ℕ)
+      → (x .verdict ≡ verdictOf (outcomeIn (take 4096 tb))) × (x .deepest ≡ deepestIn (take 4096 tb)) × (left ≡ answerOf (outcomeIn (take 4096 tb)) answer) × (part ≡ replicate 65536 0)
+      → Replies (x .verdict) (x .deepest) left (part ++ drop 65536 work)
+  unfolding fitDeepest
+  fit-replies t x left part is =
+      let e : tooShort tb answer work ≡ false = long-enough (t .table-long) (t .answer-long) (t .work-long) in
+      let v : isValid (take 4096 tb) ≡ true = t .valid in
+      let told = fit-runs e v (x .verdict) left part (is .0) (is .2) (is .3) in
+      (told .0, is .1 ∙ rw (e, v), told .1, told .2)
+
 -- ---- the root
 
 -- nothing is marked there but what is relevant
@@ -81,8 +145,13 @@ root-flags tb h x facts path b a few flagged = by-kind x (b .reached .holds) (su
 
 -- ---- the end of a first run under the table's own limit
 
-pub first-run : (tb : List ℕ) (deepest limit : ℕ) → deepest ≡ 0 → limit ≡ limitOf ((problemIn tb) .limit) → (answer : List ℕ) (m : Moved) (left : List ℕ)
-    → Concluded (relevancyWalker tb) (fromRoot (relevancyWalker tb) deepest limit) answer m left
+pub first-run : (tb : List ℕ) (limit : ℕ) → limit ≡ limitOf ((problemIn tb) .limit) → (answer : List ℕ) (m : Moved) (left : List ℕ)
+    → Concluded (relevancyWalker tb) (fromRoot (relevancyWalker tb) 0 limit) answer m left
     → (m .verdict ≡ verdictOf (outcomeIn tb)) × (m .session ≡ laid (firstSession (findR (groundIn tb)) (limitOf ((problemIn tb) .limit)))) × (left ≡ answerOf (outcomeIn tb) answer)
 unfolding outcomeIn
-first-run tb deepest limit none e answer m left h = first-concluded (relevancyWalker tb) deepest limit (limitOf ((problemIn tb) .limit)) none e answer m left h
+first-run tb limit e answer m left h = first-concluded (relevancyWalker tb) 0 limit (limitOf ((problemIn tb) .limit)) refl e answer m left h
+
+pub run-replied : (tb answer : List ℕ) (x : Reply) (left : List ℕ) → Replied (relevancyWalker tb) (limitOf ((problemIn tb) .limit)) answer x left
+    → (x .verdict ≡ verdictOf (outcomeIn tb)) × (x .deepest ≡ deepestIn tb) × (left ≡ answerOf (outcomeIn tb) answer)
+unfolding outcomeIn
+run-replied tb answer x left h = (h .verdict-is, h .deepest-is, h .answer-is)

@@ -1,23 +1,25 @@
 -- The ways out of the calls with a session, and a first run's other statements.
-use Prim.Native.Nat.{ℕ}
-use mathlib.Core.Bool.{Bool, true, false}
+use Prim.Native.Nat.{ℕ, _<_}
+use mathlib.Core.Bool.{Bool, true, false, _||_}
 use mathlib.Core.List.{List}
-use mathlib.Core.Path.{_≡_, refl, ap, _∙_}
-use lib.ListN.{take, replicate}
+use mathlib.Core.Path.{_≡_, refl, sym, ap, _∙_}
+use lib.Dec.{ltb}
+use lib.ListN.{length, take, replicate}
 use Rattle.search.specs.Relevancy.{findR}
 use Rattle.search.specs.Session.{Called, declined}
 use Rattle.problem.specs.Problem.{limitOf}
 use Rattle.problem.specs.Layout.{problemIn}
 use Rattle.problem.specs.Table.{isValid}
+use Rattle.writing.specs.contracts.Lent.{refusalOf}
 use Rattle.ground.specs.declared.verdict.Verdict.the-variants.{Refused}
 use Rattle.ground.specs.Verdict.{verdictOf, answerOf}
 use Rattle.ground.specs.Instance.{groundIn}
 use Rattle.session.specs.declared.record.Session.{Session as Record}
-use Rattle.session.specs.Calls.{deepestTold, calledIn, begunBy, verdictTold, recordLeft, answerLeft, workLeft}
-use Rattle.session.proofs.CallLaws.{screened-short, screened-invalid, screened-through, screened-first, declined-by, deepest-lent, deepest-first}
+use Rattle.session.specs.Calls.{deepestTold, calledIn, begunBy, verdictTold, answerLeft, workLeft}
+use Rattle.session.proofs.CallLaws.{screened-short, screened-invalid, screened-through, screened-first, declined-by, deepest-first}
 use Rattle.relevancy.specs.Engine.{outcomeIn, tooShort, fitResult, fitDeepest, fitAnswer, fitWork}
 use Rattle.relevancy.specs.Sessions.{begun, resumed}
-use Rattle.relevancy.proofs.EngineLaws.{Fitted, fit-short, fit-invalid, fit-runs}
+use Rattle.relevancy.proofs.EngineLaws.{refused-by, Fitted, fit-short, fit-invalid, fit-runs}
 
 module _ (tb answer work : List ℕ) where
   abbrev own : List ℕ
@@ -28,11 +30,11 @@ module _ (tb answer work : List ℕ) where
 
   -- ---- a first run
 
-  pub begun-short : tooShort tb answer work ≡ true → begun tb answer work ≡ declined 11
+  begun-short : tooShort tb answer work ≡ true → begun tb answer work ≡ declined 11
   unfolding begun
   begun-short e = screened-short (tooShort tb answer work) (isValid own) run e
 
-  pub begun-invalid : tooShort tb answer work ≡ false → isValid (take 4096 tb) ≡ false → begun tb answer work ≡ declined 31
+  begun-invalid : tooShort tb answer work ≡ false → isValid (take 4096 tb) ≡ false → begun tb answer work ≡ declined 31
   unfolding begun
   begun-invalid e v = screened-invalid (tooShort tb answer work) (isValid own) run e v
 
@@ -40,6 +42,10 @@ module _ (tb answer work : List ℕ) where
       → begun tb answer work ≡ begunBy (findR (groundIn (take 4096 tb))) (limitOf ((problemIn (take 4096 tb)) .limit))
   unfolding begun
   begun-runs e v = screened-through (tooShort tb answer work) (isValid own) run e v
+
+  pub begun-refused : (e : ℕ) → e ≡ refusalOf tb (ltb (length answer) 1024 || ltb (length work) 65536) → 0 < e → begun tb answer work ≡ declined e
+  unfolding begun
+  begun-refused e is l = sym (refused-by tb answer work e is {A = Called} (λ x. declined x) run l)
 
   -- its other statements are those of a run without a session
   pub begun-same : (verdictTold (begun tb answer work) ≡ fitResult tb answer work) × (answerLeft (begun tb answer work) answer ≡ fitAnswer tb answer work)
@@ -65,23 +71,15 @@ module _ (tb answer work : List ℕ) where
   unfolding begun fitDeepest
   begun-shows = deepest-first (findR (groundIn own)) (limitOf ((problemIn own) .limit)) (tooShort tb answer work) (isValid own)
 
-  -- a record lent with no figure holds the longest path entered
-  pub begun-deepest : (r left : Record) → r .deepest ≡ 0 → left ≡ recordLeft (begun tb answer work) r → left .deepest ≡ fitDeepest tb answer work
-  begun-deepest r left lent is = ap (λ (x : Record). x .deepest) is ∙ deepest-lent (begun tb answer work) r lent ∙ begun-shows
-
   -- ---- going on
 
   module _ (r : Record) (further : ℕ) where
     abbrev on : Called
     on = calledIn (findR (groundIn own)) ((groundIn own) .atoms) r further
 
-    pub resumed-short : tooShort tb answer work ≡ true → resumed r further tb answer work ≡ declined 11
+    pub resumed-refused : (e : ℕ) → e ≡ refusalOf tb (ltb (length answer) 1024 || ltb (length work) 65536) → 0 < e → resumed r further tb answer work ≡ declined e
     unfolding resumed
-    resumed-short e = screened-short (tooShort tb answer work) (isValid own) on e
-
-    pub resumed-invalid : tooShort tb answer work ≡ false → isValid (take 4096 tb) ≡ false → resumed r further tb answer work ≡ declined 31
-    unfolding resumed
-    resumed-invalid e v = screened-invalid (tooShort tb answer work) (isValid own) on e v
+    resumed-refused e is l = sym (refused-by tb answer work e is {A = Called} (λ x. declined x) on l)
 
     pub resumed-runs : tooShort tb answer work ≡ false → isValid (take 4096 tb) ≡ true
         → resumed r further tb answer work ≡ calledIn (findR (groundIn (take 4096 tb))) ((groundIn (take 4096 tb)) .atoms) r further

@@ -15,9 +15,9 @@ use Rattle.lists.proofs.Tabulate.{tabulate-length}
 use Rattle.search.specs.Relevancy.{modelBits}
 use Rattle.search.specs.Machine.{Place, Outcome, root, proceed, outcome}
 use Rattle.search.specs.Session.{Session, altsFound, placeOf, stepsOf, sessionAfter, firstSession, Called, declined, told}
-use Rattle.search.proofs.Deepest.{steps-length}
+use Rattle.search.proofs.Deepest.{steps-length, first-deepest}
 use Rattle.ground.specs.declared.verdict.Verdict.{Verdict}
-use Rattle.ground.specs.declared.verdict.Verdict.the-variants.{Refused}
+use Rattle.ground.specs.declared.verdict.Verdict.the-variants.{Refused, Exhausted as IsExhausted}
 use Rattle.ground.specs.Verdict.{verdictOf, answerOf}
 use Rattle.walk.specs.contracts.Walker.{Walker, Run, fromRoot}
 use Rattle.walk.specs.contracts.Path.{Room, nextAt, deepestAt, pathIn}
@@ -37,10 +37,11 @@ use Rattle.walk.proofs.WalkLaws.{walks-tell}
 use Rattle.walk.proofs.LeftLaws.{walks-left}
 use Rattle.session.specs.declared.record.Session.{Session as Record}
 use Rattle.session.specs.declared.record.Moved.{Moved}
+use Rattle.session.specs.declared.record.Reply.{Reply}
 use Rattle.session.specs.declared.end.Left.{Left}
 use Rattle.session.specs.Record.{slots, laid}
 use Rattle.session.specs.Calls.{calledIn, workLeft}
-use Rattle.session.specs.contracts.End.{depthOf, answerBy, movedBy, PathLaid, LeftBy, comesOut, Concluded}
+use Rattle.session.specs.contracts.End.{depthOf, answerBy, verdictBy, movedBy, PathLaid, LeftBy, Replied, comesOut, Concluded}
 use Rattle.session.proofs.RecordLaws.{laid-as, slots-left}
 use Rattle.session.proofs.CallLaws.{isKeptOver, called-nowhere, called-on, CallLeft, left-declined, left-told}
 
@@ -64,6 +65,14 @@ answer-kept (Opened c e) tag bits answer = absurd (not-one tag)
     not-one (inl e) = let z : _≡_ {A = ℕ} 1 0 = e in omega arith
     not-one (inr e) = let z : _≡_ {A = ℕ} 1 2 = e in omega arith
 answer-kept (LimitMet e) tag bits answer = refl
+
+-- ---- the verdict
+
+-- the limit is met
+pub verdict-met : (x : Walked) → tagOf walked-type x ≡ 2 → (limit : ℕ) → IsExhausted limit ≡ verdictBy x limit
+verdict-met (Shut c) tag limit = let z : _≡_ {A = ℕ} 0 2 = tag in absurd (omega arith)
+verdict-met (Opened c e) tag limit = let z : _≡_ {A = ℕ} 1 2 = tag in absurd (omega arith)
+verdict-met (LimitMet e) tag limit = refl
 
 -- ---- the path written down
 
@@ -118,17 +127,22 @@ module _ {I : Type 0} (w : Walker I) (r : Run I) where
       let at = (subst (λ (z : Walked). Walks w r z facts path) same h) .1 .node in
       (at .room, at .kept, at .named)
 
-  module _ (facts path answer : List ℕ) (x : Left) where
-    verdict-of : (y : Walked) → Tells w r y facts → movedBy y (r .limit) x .verdict ≡ verdictOf (comesOut w r)
-    verdict-of (Shut c) tells = sym (ap verdictOf tells)
-    verdict-of (Opened c e) tells = sym (ap verdictOf tells)
-    verdict-of (LimitMet e) tells = sym (ap verdictOf tells)
+  verdict-of : (y : Walked) (facts : List ℕ) → Tells w r y facts → verdictBy y (r .limit) ≡ verdictOf (comesOut w r)
+  verdict-of (Shut c) facts tells = sym (ap verdictOf tells)
+  verdict-of (Opened c e) facts tells = sym (ap verdictOf tells)
+  verdict-of (LimitMet e) facts tells = sym (ap verdictOf tells)
 
-    answer-of : (y : Walked) → Tells w r y facts → answerBy y (bitsIn w facts) answer ≡ answerOf (comesOut w r) answer
-    answer-of (Shut c) tells = sym (ap (λ (o : Outcome). answerOf o answer) tells)
-    answer-of (Opened c e) tells = sym (ap (λ (o : Outcome). answerOf o answer) tells)
-    answer-of (LimitMet e) tells = sym (ap (λ (o : Outcome). answerOf o answer) tells)
+  deepest-of : (y : Walked) (path : List ℕ) → sessionLeft w r y path .deepest ≡ deepestAt path
+  deepest-of (Shut c) path = refl
+  deepest-of (Opened c e) path = refl
+  deepest-of (LimitMet e) path = refl
 
+  answer-of : (y : Walked) (facts answer : List ℕ) → Tells w r y facts → answerBy y (bitsIn w facts) answer ≡ answerOf (comesOut w r) answer
+  answer-of (Shut c) facts answer tells = sym (ap (λ (o : Outcome). answerOf o answer) tells)
+  answer-of (Opened c e) facts answer tells = sym (ap (λ (o : Outcome). answerOf o answer) tells)
+  answer-of (LimitMet e) facts answer tells = sym (ap (λ (o : Outcome). answerOf o answer) tells)
+
+  module _ (path : List ℕ) (x : Left) where
     session-of : (y : Walked) → PathLaid (sessionLeft w r y path) x → movedBy y (r .limit) x .session ≡ laid (sessionLeft w r y path)
     session-of (Shut c) at = laid-as (movedBy (Shut c) (r .limit) x .session) (sessionLeft w r (Shut c) path) refl refl refl (at .next-is) (at .atoms-are) (at .nexts-are) (at .deepest-is)
     session-of (Opened c e) at =
@@ -144,12 +158,12 @@ concluded w tied y limit facts path answer x m left laid-down moved-is n atoms-a
     let tells = walks-tell w r y facts path h in
     let moved : m ≡ movedBy y (r .limit) x = moved-is ∙ ap (λ (n : ℕ). movedBy y n x) (sym same) in
     record {
-      verdict-is = ap (λ (v : Moved). v .verdict) moved ∙ verdict-of w r facts path answer x y tells;
+      verdict-is = ap (λ (v : Moved). v .verdict) moved ∙ verdict-of w r y facts tells;
       session-is =
-          ap (λ (v : Moved). v .session) moved ∙ session-of w r facts path answer x y (laid-down r) ∙ ap laid (sym (walks-left w tied r y facts path h));
+          ap (λ (v : Moved). v .session) moved ∙ session-of w r path x y (laid-down r) ∙ ap laid (sym (walks-left w tied r y facts path h));
       answer-is =
           answer-is ∙ ap (λ (k : ℕ). answerBy y (modelBits k (isSet facts) (λ a. isSet facts (1025 + a))) answer) atoms-are
-          ∙ answer-of w r facts path answer x y tells;
+          ∙ answer-of w r y facts answer tells;
     }
 
 -- ---- what a call leaves
@@ -201,6 +215,26 @@ first-concluded w d limit n no-figure e answer m left h =
       h .session-is ∙ ap (λ (k : ℕ). laid (sessionAfter (w .find) (limit - 0) 0 k (root (w .find)))) no-figure ∙ ap (λ (k : ℕ). laid (firstSession (w .find) k)) all,
       h .answer-is ∙ ap (λ (k : ℕ). answerOf (outcome (w .find) k) answer) all,
     )
+
+-- and where its session is not kept
+pub first-replied : {I : Type 0} (w : Walker I) → Tied w → (limit n : ℕ) → limit ≡ n → (y : Walked) (facts path answer : List ℕ) → Walks w (fromRoot w 0 limit) y facts path
+    → (x : Reply) → x .verdict ≡ verdictBy y limit → x .deepest ≡ deepestAt path
+    → (left : List ℕ) (k : ℕ) → k ≡ w .atoms → left ≡ answerBy y (modelBits k (isSet facts) (λ a. isSet facts (1025 + a))) answer
+    → Replied w n answer x left
+first-replied w tied limit n e y facts path answer h x verdict-is deepest-is left k atoms-are answer-is =
+    let all : limit - 0 ≡ n = omega (arith, e) in
+    let tells = walks-tell w (fromRoot w 0 limit) y facts path h in
+    record {
+      verdict-is = verdict-is ∙ verdict-of w (fromRoot w 0 limit) y facts tells ∙ ap (λ (m : ℕ). verdictOf (outcome (w .find) m)) all;
+      deepest-is =
+          deepest-is ∙ sym (deepest-of w (fromRoot w 0 limit) y path) ∙ ap (λ (s : Session). s .deepest) (sym (walks-left w tied (fromRoot w 0 limit) y facts path h))
+          ∙ ap (λ (m : ℕ). (firstSession (w .find) m) .deepest) all
+          ∙ first-deepest (w .find) n;
+      answer-is =
+          answer-is ∙ ap (λ (m : ℕ). answerBy y (modelBits m (isSet facts) (λ a. isSet facts (1025 + a))) answer) atoms-are
+          ∙ answer-of w (fromRoot w 0 limit) y facts answer tells
+          ∙ ap (λ (m : ℕ). answerOf (outcome (w .find) m) answer) all;
+    }
 
 -- what going on says and leaves, with the session in a record over so many atoms, under the limit that its count and the further one make
 module _ {I : Type 0} (w : Walker I) (atoms : ℕ) (r : Record) (further : ℕ) (kept : isKeptOver atoms r ≡ true) (within : r .count + further ≤ 4294967295) where

@@ -1,4 +1,4 @@
-// The end of a run: its verdict, the model where there is one, and the record of the session that it leaves.
+// The end of a run: its verdict, the model where there is one, and the record of the session that it leaves, if one is kept.
 use crate::record::Moved;
 use crate::record::Session;
 use ground::verdict::Verdict;
@@ -9,7 +9,7 @@ ghost use Prim.Native.Nat.{_+_, _≤_};
 ghost use lib.ListN.{length};
 ghost use Rattle.lists.specs.Bytes.{isSet};
 ghost use Rattle.search.specs.Relevancy.{modelBits};
-ghost use Rattle.session.specs.contracts.End.{depthOf, answerBy, movedBy};
+ghost use Rattle.session.specs.contracts.End.{depthOf, answerBy, verdictBy, movedBy};
 
 // What a run leaves of its path: the next alternative of the last node, the slots of the record, and how many entries the longest path had.
 pub struct Left {
@@ -32,7 +32,18 @@ pub fn give_model(walked: Walked, facts: &[u8], answer: &mut [u8], atoms: usize)
     }
 }
 
-// The verdict of a run that ends so under a limit, and its session.
+// The verdict of a run that ends so under a limit.
+pub fn verdict_by(walked: Walked, limit: u32) -> Verdict
+    ensures { λ r. ⌜ r ≡ verdictBy walked limit ⌝ }
+{
+    match walked {
+        Walked::Opened(count, _) => Verdict::Satisfied(count),
+        Walked::Shut(count) => Verdict::Refuted(count),
+        Walked::Exhausted(_) => Verdict::Exhausted(limit),
+    }
+}
+
+// The same, and its session.
 pub fn moved(walked: Walked, limit: u32, left: Left) -> Moved
     requires { ⌜ depthOf walked ≤ 1024 ⌝ }
     ensures { λ r. ⌜ r ≡ movedBy walked limit left ⌝ }

@@ -1,0 +1,39 @@
+// The walk of a whole table.
+use relevancy_node::index::build;
+use relevancy_resume::left::root_alternatives;
+use relevancy_walk::place::root;
+use relevancy_walk::trail::from_root;
+use walk::answer::Walked;
+ghost use mathlib.Core.List.{[]};
+ghost use mathlib.Core.Path.{_≡_};
+ghost use lib.ListN.{length, replicate};
+ghost use Rattle.search.specs.Session.{altsFound};
+ghost use Rattle.problem.specs.Table.{Lawful};
+ghost use Rattle.walk.specs.contracts.Walker.{fromRoot};
+ghost use Rattle.walk.specs.contracts.Walk.{Walks};
+ghost use Rattle.relevancy_walk.specs.contracts.Place.{relevancyWalker};
+
+// How it ends, and how many alternatives the root has.
+pub struct Whole {
+    pub walked: Walked,
+    pub used: u8,
+}
+
+// The walk of a valid table from the root on, under a limit, in buffers for its facts and its path: an empty set has its flags zero, the log may hold anything.
+pub fn walk_whole(table: &[u8], facts: &mut [u8], path: &mut [u8], limit: u32) -> Whole
+    requires { ⌜ Lawful (now table) ⌝ }
+    requires { ⌜ (length (now facts) ≡ 6150) × (now path ≡ replicate 9227 0) ⌝ }
+    ensures { λ r. ⌜ (r .used ≡ length (altsFound ((relevancyWalker (now (table .entry))) .find []))) × Walks (relevancyWalker (now (table .entry))) (fromRoot (relevancyWalker (now (table .entry))) 0 limit) (r .walked) (now (facts .exit)) (now (path .exit)) ⌝ }
+{
+    let conds = build(table, false);
+    let alts = build(table, true);
+    lists::zero(&mut facts[..2050]);
+    let found = root(table, &conds, &alts, facts, path);
+    let used = root_alternatives(table, path, found);
+    let new = relevancy_node::sweep::build(table, facts, 0 < used);
+    let walked = from_root(table, &conds, &alts, &new, facts, path, found, limit);
+    Whole {
+        walked: walked,
+        used: used,
+    }
+}
