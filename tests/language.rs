@@ -36,6 +36,7 @@ fn run(run: &mut Run<Met>, sheets: u64) -> Result<(), Report> {
         names()?;
         usual_limit()?;
         layout()?;
+        several()?;
         guide()?;
         run.tally.examples = example_sheets::all_hold()?;
     }
@@ -45,10 +46,36 @@ fn run(run: &mut Run<Met>, sheets: u64) -> Result<(), Report> {
     Ok(())
 }
 
+/// What stands for several rules is those rules.
+fn several() -> Result<(), Report> {
+    const SAME: [(&str, &str); 12] = [
+        ("p(1..3).", "p(1). p(2). p(3)."),
+        ("p(1; 3).", "p(1). p(3)."),
+        ("q(1..2, 3; 1) -> false.", "q(1, 3) -> false. q(1, 1) -> false. q(2, 3) -> false. q(2, 1) -> false."),
+        ("q(X, Y) & X != Y & p(Z) -> false.", "q(1, 2) & p(Z) -> false. q(1, 3) & p(Z) -> false. q(2, 1) & p(Z) -> false. \
+         q(2, 3) & p(Z) -> false. q(3, 1) & p(Z) -> false. q(3, 2) & p(Z) -> false."),
+        ("p(X) & p(Y) & X != Y -> false.", "p(1) & p(2) -> false. p(1) & p(3) -> false. p(2) & p(3) -> false."),
+        ("p(X) & X != 2 -> q(X, X).", "p(1) -> q(1, 1). p(3) -> q(3, 3)."),
+        ("q(_, _) & p(_) -> p(1).", "q(X, Y) & p(Z) -> p(1)."),
+        ("p(X) -> q(X, 1) & q(1, X).", "p(X) -> q(X, 1). p(X) -> q(1, X)."),
+        ("at most 1 of p(1..3).", "p(1) & p(2) -> false. p(1) & p(3) -> false. p(2) & p(3) -> false."),
+        ("p(X) -> at least 2 of q(X, 1..3).", "p(X) -> q(X, 1) | q(X, 2). p(X) -> q(X, 1) | q(X, 3). p(X) -> q(X, 2) | q(X, 3)."),
+        ("exactly 1 of p(1), p(2).", "p(1) & p(2) -> false. p(1) | p(2)."),
+        ("exactly 2 of p(1), p(2). at most 2 of p(1; 2). at least 0 of p(1). at least 2 of p(1).", "p(1). p(2). -> false."),
+    ];
+    const HEAD: &str = "constants 1..3. predicates p/1, q/2.\n";
+    SAME.iter().try_for_each(|(short, long)| {
+        let [short, long] = [short, long].map(|rules| compile(&format!("{HEAD}{rules}")).map(|compiled| compiled.text));
+        same("several rules", long, short)
+    })?;
+    let text = |declared: &str| compile(&format!("constants {declared}. predicates p/1. p(b10).")).map(|compiled| compiled.text);
+    same("a range of names", text("b8, b9, b10, b11"), text("b8..b11"))
+}
+
 /// A sheet with a mark where the error is to be told, and the error's words.
 fn told(marked: &str, words: &str) -> Result<(), Report> {
     let (line, column) = place_of_mark(marked);
-    let expected = Error { line, column, message: words.to_string() };
+    let expected = Error { part: 0, line, column, message: words.to_string() };
     same(&format!("compiling {marked:?}"), Err(expected), compile(&marked.replace(FOREIGN, "")))
 }
 
@@ -154,7 +181,7 @@ impl Run<Met> {
         chars.insert(at, FOREIGN);
         let marked: String = chars.into_iter().collect();
         let (line, column) = place_of_mark(&marked);
-        let error = Error { line, column, message: format!("no word begins with '{FOREIGN}'") };
+        let error = Error { part: 0, line, column, message: format!("no word begins with '{FOREIGN}'") };
         same(&format!("compiling {marked}"), Err(error), compile(&marked))
     }
 
@@ -181,7 +208,8 @@ fn is_spelt_back(compiled: &Compiled) -> Result<(), Report> {
     let mut table = [0; TABLE];
     same_answer(packed(0, 0), library::read(&compiled.text, &mut table), || "reading".to_string())?;
     let named = show(&compiled.text, Some(&compiled.names))?;
-    same(&format!("shown as\n{named}\ncompiled"), Ok(compiled), compile(&named).as_ref())?;
+    let again = compile(&named).map_err(|error| format!("shown as\n{named}\n{error:?}"))?;
+    same(&format!("shown as\n{named}\ncompiled"), (&compiled.text, &compiled.names), (&again.text, &again.names))?;
     let plain = show(&compiled.text, None)?;
     same("shown without names, compiled", Ok(&compiled.text), compile(&plain).as_ref().map(|again| &again.text))
 }

@@ -4,14 +4,16 @@
 pub type Fault = (String, &'static str);
 
 pub fn faults() -> Vec<Fault> {
-    let plain = [&WORDS[..], &DECLARATIONS, &RULES, &NAMES].concat();
+    let plain = [&WORDS[..], &DECLARATIONS, &RULES, &NAMES, &SEVERAL].concat();
     let mut faults: Vec<Fault> = plain.into_iter().map(|(sheet, words)| (sheet.to_string(), words)).collect();
     faults.extend(limits());
     faults
 }
 
-const WORDS: [(&str, &str); 8] = [
-    ("predicates p/0.\np @; p.", "no word begins with ';'"),
+const WORDS: [(&str, &str); 10] = [
+    ("predicates p/0.\np @! p.", "no word begins with '!'"),
+    ("@\"p\n\".", "this quotation mark is not closed on its line"),
+    ("predicates @aaaaaaaaaaaaaaaaaaaaaaaaaaaaaaaaaaaaaaaaaaaaaaaaaaaaaaaaaaaaaaaaa/0.", "this word has 65 letters: at most 64"),
     ("predicates p/0.\np @- p.", "no word begins with '-'"),
     ("@_x -> p.", "no word begins with '_'"),
     ("# first\n\t@\0", "no word begins with '\\0'"),
@@ -19,6 +21,26 @@ const WORDS: [(&str, &str); 8] = [
     ("limit @07.", "the number 07 begins with a needless 0"),
     ("limit @4294967296.", "the number 4294967296 is too large: at most 4294967295"),
     ("constants 1..@99999999999999999999.", "the number 99999999999999999999 is too large: at most 4294967295"),
+];
+
+/// Of what stands for several rules.
+const SEVERAL: [(&str, &str); 16] = [
+    ("constants @b1..c3. predicates p/0.", "the range b1..c3 is none: both names end in a number, and are the same before it"),
+    ("constants @b3..b1. predicates p/0.", "the range b3..b1 goes down"),
+    ("constants 1..3. predicates p/1. p(@1..4).", "no constant '4' is declared"),
+    ("constants a. predicates p/1. p(a; @b).", "no constant 'b' is declared"),
+    ("constants a. predicates p/1. p(X) -> p(X) & p(a) @| p(a).", "expected '&' or '.', but '|' follows"),
+    ("constants a. predicates p/1. p(X) -> p(X) | p(a) @& p(a).", "expected '|' or '.', but '&' follows"),
+    ("constants a. predicates p/1. p(X) & X != a@.", "expected '&' or '->', but '.' follows"),
+    ("constants a. predicates p/1. p(X) & X != @b -> false.", "no constant 'b' is declared"),
+    ("constants a. predicates p/1. p(X) & X != @Y -> false.", "the variable 'Y' stands in no condition of this rule"),
+    ("constants a. predicates p/1. p(_) & @_ != a -> false.", "the variable '_' stands in no condition of this rule"),
+    ("constants a. predicates p/1. p(X) -> p(@_).", "the variable '_' stands in no condition of this rule"),
+    ("constants a. predicates p/1. at most 1 @p(a).", "expected 'of', but 'p' follows"),
+    ("constants 1..9. predicates p/1. @at least 1 of p(1..9).", "at least 1 of 9 needs rules with 9 alternatives: a rule has at most 4"),
+    ("constants 1..9. predicates p/1. @at most 4 of p(1..9).", "at most 4 of 9 needs rules with 5 conditions: a rule has at most 4"),
+    ("constants 1..32. predicates p/2. @p(1..32, 1..32).", "this is one rule too many: at most 64"),
+    ("predicates p/0. include @\"other\".", "'other' cannot be included here"),
 ];
 
 const DECLARATIONS: [(&str, &str); 26] = [
@@ -32,7 +54,7 @@ const DECLARATIONS: [(&str, &str); 26] = [
     ("constants @.", "expected a constant, but '.' follows"),
     ("constants a,@\n", "expected a constant, but the sheet ends"),
     ("constants a @b.", "expected ',' or '.', but 'b' follows"),
-    ("constants a@..b.", "expected ',' or '.', but '..' follows"),
+    ("constants @a..b.", "the range a..b is none: both names end in a number, and are the same before it"),
     ("constants 1..@b.", "expected a number, but 'b' follows"),
     ("constants a, @B.", "'B' has a variable's capital letter; a constant begins with a small one"),
     ("constants @false.", "'false' is a word of the language, not a constant"),
@@ -57,7 +79,7 @@ const RULES: [(&str, &str); 19] = [
     ("predicates p/0.\np@\np.", "expected '&', '->', '|' or '.', but 'p' follows on line 3"),
     ("predicates p/0.\np & p@.", "expected '&' or '->', but '.' follows"),
     ("predicates p/0.\np & p @| p.", "expected '&' or '->', but '|' follows"),
-    ("predicates p/0.\np -> p @& p.", "expected '|' or '.', but '&' follows"),
+    ("predicates p/0.\np -> p | p @& p.", "expected '|' or '.', but '&' follows"),
     ("predicates p/0.\np | p @-> p.", "expected '|' or '.', but '->' follows"),
     ("predicates p/0.\np -> false @| p.", "expected '.', but '|' follows"),
     ("predicates p/0.\nfalse @& p -> p.", "expected '.', but '&' follows"),

@@ -23,6 +23,12 @@ fn compile(arguments: &Arguments) -> Result<Ending, Failure> {
     if library::write(&accepted.table)? != text {
         return Err(Failure::disagreement("the library writes another ticket than was compiled"));
     }
+    let used = accepted.ticket.used();
+    let tight = if accepted.ticket.is_tight() { "; more than 90 % of a limit is used" } else { "" };
+    eprintln!("lutsamik: {used}{tight}");
+    if arguments.has("--rules") {
+        return Ok(Ending::new(Status::Good, shown(&text, &accepted)?));
+    }
     let Some(out) = out else { return Ok(Ending::new(Status::Good, text)) };
     out::put(out, &text)?;
     out::put(&source::names_file(out), shown(&text, &accepted)?.as_bytes())?;

@@ -2,7 +2,7 @@
 //! against them. What is true at the open place, which the walk has come to, is what follows from the atoms entered, by the library's judging.
 
 use crate::ending::Failure;
-use crate::library::Moved;
+use crate::library::{self, Judged, Moved};
 use crate::source::Accepted;
 use crate::ticket::{Atom, Ticket};
 use crate::truth::Truth;
@@ -19,7 +19,8 @@ pub struct Fitting<'a> {
 const WIDTH: usize = 78;
 
 impl Fitting<'_> {
-    /// Of a walk on this ticket that has come to fits. The atoms shown are those of `accepted`, which may be a ticket with fewer predicates and clauses.
+    /// Of a walk on this ticket that has come to fits. The atoms shown are those of `accepted`, which may be a ticket with fewer predicates and clauses; of
+    /// that it must be a fitting.
     pub fn of<'a>(accepted: &'a Accepted, walked: &Ticket, at: &Moved) -> Result<Fitting<'a>, Failure> {
         let mut marks = vec![0; walked.atoms()];
         at.session.atoms.iter().take(at.session.length as usize).for_each(|atom| marks[*atom as usize] = 1);
@@ -32,11 +33,10 @@ impl Fitting<'_> {
         let atoms = accepted.ticket.atoms();
         answer.truncate(atoms);
         truth.truncate(atoms);
-        Ok(Fitting { accepted, answer, truth })
-    }
-
-    pub fn answer(&self) -> &[u8] {
-        &self.answer
+        match library::judge(&accepted.table, &answer)? {
+            Judged::Fitting => Ok(Fitting { accepted, answer, truth }),
+            judged => Err(Failure::disagreement(format!("judging says that the fitting is none: {judged:?}"))),
+        }
     }
 
     /// Whether an atom is true, and whether it is in the fitting.

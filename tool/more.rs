@@ -1,11 +1,11 @@
 //! Further fittings. Each is one of the ticket with rules that forbid the entered atoms of every fitting before to hold together; a rule has four
-//! conditions at most, and more of them go through helper predicates. It is judged against the ticket itself.
+//! conditions at most, and more of them go through helper predicates. It must be a fitting of the ticket itself.
 
 use crate::carry::Carry;
 use crate::ending::Failure;
 use crate::engines::agreed;
 use crate::fitting::Fitting;
-use crate::library::{self, Judged, Moved, Verdict};
+use crate::library::{self, Moved, Verdict};
 use crate::source::Accepted;
 use crate::ticket::{Atom, Clause, Ticket};
 
@@ -34,20 +34,11 @@ pub fn further<'a>(carry: &Carry<'a>, first: &Moved, many: u32) -> Result<Furthe
         match walk.at.fit.verdict {
             Verdict::None => break "no others: every fitting has the entered atoms of one of these",
             Verdict::Spent => break "others may exist: the walk to the next one is spent",
-            Verdict::Fits => fittings.push(judged(carry.accepted, &next.ticket, &walk.at)?),
+            Verdict::Fits => fittings.push(Fitting::of(carry.accepted, &next.ticket, &walk.at)?),
         }
         (at, ticket) = (walk.at, next.ticket);
     };
     Ok(Further { fittings, others })
-}
-
-/// A fitting that was found of a longer ticket must be one of this ticket.
-fn judged<'a>(accepted: &'a Accepted, longer: &Ticket, at: &Moved) -> Result<Fitting<'a>, Failure> {
-    let fitting = Fitting::of(accepted, longer, at)?;
-    match library::judge(&accepted.table, fitting.answer())? {
-        Judged::Fitting => Ok(fitting),
-        judged => Err(Failure::disagreement(format!("a further fitting is none of the ticket: {judged:?}"))),
-    }
 }
 
 /// The ticket with a rule by which the entered atoms do not hold together, if it can have that.

@@ -62,6 +62,35 @@ fn misspelt(file: &str, error: language::Error) -> Failure {
     Failure::refused(format!("{file}:{}:{}: {}", error.line, error.column, error.message))
 }
 
+/// A sheet's file, and those that it includes.
+struct Files {
+    names: Vec<String>,
+    /// how many bytes the next ones can have
+    room: usize,
+}
+
+/// How many files a sheet can be in.
+const MOST_FILES: usize = 16;
+
+impl Files {
+    /// A file that one of these includes, by its name in the folder of that one: its number and its text, which is kept as long as the tool runs.
+    fn include(&mut self, name: &str, from: usize) -> Result<(usize, &'static str), String> {
+        let file = Path::new(&self.names[from]).parent().unwrap_or(Path::new("")).join(name);
+        let called = called(file.as_os_str());
+        if self.names.contains(&called) {
+            return Err(format!("{called} is read already"));
+        }
+        if self.names.len() == MOST_FILES {
+            return Err(format!("with {called} there are more than {MOST_FILES} files"));
+        }
+        let bytes = bytes(file.as_os_str()).map_err(|failure| failure.message)?;
+        self.room = self.room.checked_sub(bytes.len()).ok_or_else(|| format!("with {called} the sheet has more than {MOST} bytes"))?;
+        let text = String::from_utf8(bytes).map_err(|_| format!("{called} is no sheet in UTF-8"))?;
+        self.names.push(called);
+        Ok((self.names.len() - 1, text.leak()))
+    }
+}
+
 /// What a file is called in a message.
 pub fn called(file: &OsStr) -> String {
     if file == "-" { "standard input".to_string() } else { file.to_string_lossy().into_owned() }
@@ -90,7 +119,10 @@ impl Source {
     pub fn compile(file: &OsStr, sheet: &[u8]) -> Result<Source, Failure> {
         let file = called(file);
         let sheet = std::str::from_utf8(sheet).map_err(|_| Failure::refused(format!("{file} is neither a ticket's text nor a sheet in UTF-8")))?;
-        let compiled = language::compile(sheet).map_err(|error| misspelt(&file, error))?;
+        let mut files = Files { names: vec![file.clone()], room: MOST.saturating_sub(sheet.len()) };
+        let compiled = language::compile_with(sheet, &mut |name, from| files.include(name, from));
+        let mut compiled = compiled.map_err(|error| misspelt(&files.names[error.part], error))?;
+        compiled.origins.iter_mut().filter(|origin| origin.part > 0).for_each(|origin| origin.file = Some(files.names[origin.part].clone()));
         Ok(Source { file, text: compiled.text, names: Some(compiled.names), is_sheet: true, origins: compiled.origins })
     }
 

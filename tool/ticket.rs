@@ -102,6 +102,11 @@ impl Ticket {
         format!("{} of 64 rules, {} of 1024 atoms, {} of 16384 as the sum", self.clauses.len(), self.atoms(), self.sum())
     }
 
+    /// Whether more than nine tenths of one of these are used.
+    pub fn is_tight(&self) -> bool {
+        [(self.clauses.len(), 64), (self.atoms(), 1024), (self.sum(), 16384)].iter().any(|(used, most)| 10 * used > 9 * most)
+    }
+
     /// The ticket with another limit.
     pub fn with_limit(&self, limit: u32) -> Ticket {
         Ticket { limit, ..self.clone() }

@@ -2,7 +2,7 @@
 //! ticket's text.
 
 use crate::json::Json;
-use crate::language::VARIABLES;
+use crate::language::{Origin, VARIABLES};
 use crate::source::Accepted;
 use crate::spell::hex;
 use crate::ticket::{Atom, FIRST_VARIABLE};
@@ -62,7 +62,8 @@ impl Accepted {
     pub fn clause_name(&self, clause: usize) -> String {
         let number = self.clause_number(clause);
         match self.origins.get(clause) {
-            Some(origin) => format!("line {} (clause {number})", origin.line),
+            Some(Origin { file: Some(file), line, .. }) => format!("{file}:{line} (clause {number})"),
+            Some(Origin { line, .. }) => format!("line {line} (clause {number})"),
             None => format!("clause {number}"),
         }
     }

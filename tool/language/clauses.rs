@@ -6,9 +6,9 @@ use super::sheet::{Atom, Rule};
 use super::words::{Kind, Word};
 use super::{Error, Origin};
 
-const MOST_CLAUSES: usize = 64;
+pub const MOST_CLAUSES: usize = 64;
 const MOST_ATOMS: usize = 4;
-const MOST_VARIABLES: usize = 4;
+pub const MOST_VARIABLES: usize = 4;
 const MOST_MARKS: u64 = 16384;
 
 /// The frame of each rule, with what it came from.
@@ -28,7 +28,7 @@ pub fn frames(rules: &[Rule], names: &Names) -> Result<Vec<(Vec<u8>, Origin)>, E
             return Err(Error::at(rule.place, format!("{this}; with it the sum over the rules is {sum}, at most {MOST_MARKS}")));
         }
         let variables = called.into_iter().map(str::to_string).collect();
-        frames.push((frame, Origin { line: rule.place.line, variables }));
+        frames.push((frame, Origin { part: rule.place.file, file: None, line: rule.place.line, variables }));
     }
     Ok(frames)
 }
@@ -118,7 +118,7 @@ impl<'a> Clause<'a> {
     }
 
     fn number(&self, word: &Word) -> Option<usize> {
-        self.variables.iter().position(|variable| *variable == word.text)
+        self.variables.iter().position(|variable| *variable == word.text && word.text != "_")
     }
 }
 

@@ -1,7 +1,7 @@
 //! What the constants and predicates of a ticket are called, by their numbers, and how a sheet declares them.
 
 use super::sheet::{Constants, Predicate, Sheet};
-use super::words::{Kind, Place};
+use super::words::Place;
 use super::Error;
 
 const MOST_CONSTANTS: usize = 32;
@@ -85,14 +85,32 @@ impl Names {
 
 /// The constant, or each of a range.
 fn add_constants(constants: &mut Declared, item: &Constants) -> Result<(), Error> {
-    let place = item.first.place;
-    let (Kind::Number(first), Some(Kind::Number(last))) = (item.first.kind, item.last.map(|last| last.kind)) else {
-        return constants.add(item.first.text.to_string(), place);
+    range(item)?.try_for_each(|name| constants.add(name, item.first.place))
+}
+
+/// The names of a constant or of a range: of numbers, or of names that end in numbers and are alike before them.
+pub(super) fn range(item: &Constants) -> Result<impl Iterator<Item = String>, Error> {
+    let wrong = |what: &str| Error::at(item.first.place, format!("the range {}..{} {what}", item.first.text, item.last.unwrap_or(item.first).text));
+    let (stem, first, last) = match item.last {
+        None => (item.first.text, None, 0),
+        Some(last) => match (numbered(item.first.text), numbered(last.text)) {
+            (Some((stem, first)), Some((other, last))) if stem == other => (stem, Some(first), last),
+            _ => return Err(wrong("is none: both names end in a number, and are the same before it")),
+        },
     };
-    if first > last {
-        return Err(Error::at(place, format!("the range {first}..{last} goes down")));
+    if first.is_some_and(|first| first > last) {
+        return Err(wrong("goes down"));
     }
-    (first..=last).try_for_each(|number| constants.add(number.to_string(), place))
+    let stem = stem.to_string();
+    let single = first.is_none().then(|| stem.clone());
+    Ok(single.into_iter().chain(first.into_iter().flat_map(move |first| first..=last).map(move |number| format!("{stem}{number}"))))
+}
+
+/// A name before its number, and the number, which has no needless 0.
+fn numbered(name: &str) -> Option<(&str, u32)> {
+    let stem = name.trim_end_matches(|c: char| c.is_ascii_digit());
+    let digits = &name[stem.len()..];
+    digits.parse().ok().filter(|number: &u32| number.to_string() == digits).map(|number| (stem, number))
 }
 
 /// The predicates with their arities, and not too many ground atoms of them.

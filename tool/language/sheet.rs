@@ -10,11 +10,35 @@ pub struct Sheet<'a> {
     pub limit: Option<u32>,
     pub constants: Vec<Constants<'a>>,
     pub predicates: Vec<Predicate<'a>>,
-    pub rules: Vec<Rule<'a>>,
+    pub rules: Vec<Written<'a>>,
     pub end: Place,
 }
 
-/// A constant, or a range of them.
+/// A rule as it is written, which may stand for several.
+pub struct Written<'a> {
+    pub place: Place,
+    pub conditions: Vec<Listed<'a>>,
+    /// what must not be the same
+    pub apart: Vec<[Word<'a>; 2]>,
+    pub goal: Goal<'a>,
+}
+
+pub enum Goal<'a> {
+    /// one of these holds
+    Any(Vec<Listed<'a>>),
+    /// all of these hold
+    All(Vec<Listed<'a>>),
+    /// of these at least and at most so many hold
+    Count { least: Option<u32>, most: Option<u32>, set: Vec<Listed<'a>> },
+}
+
+/// An atom, of which each argument is a constant or a variable, or a list of constants and ranges.
+pub struct Listed<'a> {
+    pub name: Word<'a>,
+    pub arguments: Vec<Vec<Constants<'a>>>,
+}
+
+/// A constant, or a range of them; as an argument also a variable.
 pub struct Constants<'a> {
     pub first: Word<'a>,
     pub last: Option<Word<'a>>,
@@ -26,30 +50,33 @@ pub struct Predicate<'a> {
     pub arity_place: Place,
 }
 
+#[derive(Clone)]
 pub struct Rule<'a> {
     pub place: Place,
     pub conditions: Vec<Atom<'a>>,
     pub alternatives: Vec<Atom<'a>>,
 }
 
+#[derive(Clone)]
 pub struct Atom<'a> {
     pub name: Word<'a>,
     pub arguments: Vec<Word<'a>>,
 }
 
-pub fn read(source: &str) -> Result<Sheet<'_>, Error> {
-    let mut reader = Reader { words: words(source)?, at: 0 };
-    let end = reader.words[reader.words.len() - 1].place;
+/// The number and the text of a file that a file includes, by both names; or what is wrong with it.
+pub type Include<'i> = dyn FnMut(&str, usize) -> Result<(usize, &'static str), String> + 'i;
+
+pub fn read<'a>(source: &'a str, include: &mut Include) -> Result<Sheet<'a>, Error> {
+    let words = words(source, 0)?;
+    let end = words[words.len() - 1].place;
     let mut sheet = Sheet { limit: None, constants: Vec::new(), predicates: Vec::new(), rules: Vec::new(), end };
-    while reader.next().kind != Kind::End {
-        reader.statement(&mut sheet)?;
-    }
+    Reader { words, at: 0 }.statements(&mut sheet, include)?;
     Ok(sheet)
 }
 
 /// One rule by itself, of which the full stop may be left out.
-pub fn read_rule(source: &str) -> Result<Rule<'_>, Error> {
-    let mut words = words(source)?;
+pub fn read_rule(source: &str) -> Result<Written<'_>, Error> {
+    let mut words = words(source, 0)?;
     let end = words.len() - 1;
     if end == 0 || words[end - 1].text != "." {
         words.insert(end, Word { kind: Kind::Sign, text: ".", place: words[end].place });
@@ -68,6 +95,11 @@ struct Reader<'a> {
 impl<'a> Reader<'a> {
     fn next(&self) -> Word<'a> {
         self.words[self.at]
+    }
+
+    /// The word after the next one.
+    fn after(&self) -> Word<'a> {
+        self.words[(self.at + 1).min(self.words.len() - 1)]
     }
 
     fn pass(&mut self) -> Word<'a> {
@@ -113,12 +145,32 @@ impl<'a> Reader<'a> {
     }
 
     /// One or more, with this sign between them.
-    fn list<T>(&mut self, sign: &str, read: fn(&mut Self) -> Result<T, Error>) -> Result<Vec<T>, Error> {
+    fn list<T>(&mut self, sign: &str, read: impl Fn(&mut Self) -> Result<T, Error>) -> Result<Vec<T>, Error> {
         let mut list = vec![read(self)?];
         while self.passes(sign) {
             list.push(read(self)?);
         }
         Ok(list)
+    }
+
+    fn statements(&mut self, sheet: &mut Sheet<'a>, include: &mut Include) -> Result<(), Error> {
+        while self.next().kind != Kind::End {
+            if self.sees("include") && self.after().kind == Kind::Quoted {
+                self.include(sheet, include)?;
+            } else {
+                self.statement(sheet)?;
+            }
+        }
+        Ok(())
+    }
+
+    /// The statements of another file, in place of this one.
+    fn include(&mut self, sheet: &mut Sheet<'a>, include: &mut Include) -> Result<(), Error> {
+        self.pass();
+        let name = self.pass();
+        self.sign(".", "'.'")?;
+        let (file, text) = include(name.text, name.place.file).map_err(|wrong| Error::at(name.place, wrong))?;
+        Reader { words: words(text, file)?, at: 0 }.statements(sheet, include)
     }
 
     fn statement(&mut self, sheet: &mut Sheet<'a>) -> Result<(), Error> {
@@ -154,12 +206,17 @@ impl<'a> Reader<'a> {
 
     fn constants(&mut self) -> Result<Constants<'a>, Error> {
         let first = self.constant()?;
+        self.range(first)
+    }
+
+    /// A constant or a variable, or a range from this constant on: of numbers, or of names that end in numbers.
+    fn range(&mut self, first: Word<'a>) -> Result<Constants<'a>, Error> {
         let is_number = matches!(first.kind, Kind::Number(_));
-        if !is_number || !self.passes("..") {
+        if !(is_number || first.kind == Kind::Name) || !self.passes("..") {
             return Ok(Constants { first, last: None });
         }
         let last = self.next();
-        self.number("a number")?;
+        if is_number { self.number("a number").map(|_| ())? } else { self.own_name("a constant").map(|_| ())? }
         Ok(Constants { first, last: Some(last) })
     }
 
@@ -183,62 +240,111 @@ impl<'a> Reader<'a> {
         match kind {
             Kind::Name if RESERVED.contains(&text) => Err(Error::at(place, format!("'{text}' is a word of the language, not {what}"))),
             Kind::Name => Ok(self.pass()),
-            Kind::Variable => Err(Error::at(place, format!("'{text}' has a variable's capital letter; {what} begins with a small one"))),
+            Kind::Variable if text != "_" => Err(Error::at(place, format!("'{text}' has a variable's capital letter; {what} begins with a small one"))),
             _ => Err(self.expected(what)),
         }
     }
 
     /// What stands before an arrow is conditions; without an arrow there are none, and all is alternatives.
-    fn rule(&mut self) -> Result<Rule<'a>, Error> {
-        let place = self.next().place;
-        let first = if self.sees("->") || self.sees("false") { Vec::new() } else { self.list("&", Self::atom)? };
-        if self.passes("->") || first.is_empty() {
-            return Ok(Rule { place, conditions: first, alternatives: self.goal()? });
+    fn rule(&mut self) -> Result<Written<'a>, Error> {
+        let mut rule = Written { place: self.next().place, conditions: Vec::new(), apart: Vec::new(), goal: Goal::Any(Vec::new()) };
+        let has_none = self.sees("->") || self.sees("false") || self.sees_count();
+        if !has_none {
+            self.condition(&mut rule)?;
+            while self.passes("&") {
+                self.condition(&mut rule)?;
+            }
         }
-        if first.len() > 1 {
+        if self.passes("->") || has_none {
+            rule.goal = self.goal()?;
+            return Ok(rule);
+        }
+        if rule.conditions.len() > 1 || !rule.apart.is_empty() {
             return Err(self.expected("'&' or '->'"));
         }
-        let mut alternatives = first;
+        let mut alternatives = std::mem::take(&mut rule.conditions);
         if self.passes("|") {
-            alternatives.extend(self.alternatives()?);
+            alternatives.extend(self.list("|", Self::atom)?);
+            self.sign(".", "'|' or '.'")?;
         } else {
             self.sign(".", "'&', '->', '|' or '.'")?;
         }
-        Ok(Rule { place, conditions: Vec::new(), alternatives })
+        rule.goal = Goal::Any(alternatives);
+        Ok(rule)
+    }
+
+    /// An atom, or two that must not be the same.
+    fn condition(&mut self, rule: &mut Written<'a>) -> Result<(), Error> {
+        if self.after().text != "!=" {
+            rule.conditions.push(self.atom()?);
+            return Ok(());
+        }
+        let first = self.argument()?;
+        self.pass();
+        let second = self.argument()?;
+        rule.apart.push([first, second]);
+        Ok(())
     }
 
     /// Alternatives up to the full stop; there may be none, for which 'false' can stand.
-    fn goal(&mut self) -> Result<Vec<Atom<'a>>, Error> {
+    fn goal(&mut self) -> Result<Goal<'a>, Error> {
         if self.passes("false") {
             self.sign(".", "'.'")?;
-            return Ok(Vec::new());
+            return Ok(Goal::Any(Vec::new()));
         }
-        if self.passes(".") { Ok(Vec::new()) } else { self.alternatives() }
+        if self.passes(".") {
+            return Ok(Goal::Any(Vec::new()));
+        }
+        if self.sees_count() { self.count() } else { self.alternatives() }
     }
 
-    fn alternatives(&mut self) -> Result<Vec<Atom<'a>>, Error> {
-        let alternatives = self.list("|", Self::atom)?;
-        self.sign(".", "'|' or '.'")?;
-        Ok(alternatives)
+    /// Atoms with one sign between them: one of them holds, or all.
+    fn alternatives(&mut self) -> Result<Goal<'a>, Error> {
+        let mut atoms = vec![self.atom()?];
+        let sign = if self.sees("&") { "&" } else { "|" };
+        while self.passes(sign) {
+            atoms.push(self.atom()?);
+        }
+        self.sign(".", if sign == "&" { "'&' or '.'" } else { "'|' or '.'" })?;
+        Ok(if sign == "&" { Goal::All(atoms) } else { Goal::Any(atoms) })
     }
 
-    fn atom(&mut self) -> Result<Atom<'a>, Error> {
+    fn sees_count(&self) -> bool {
+        (self.sees("at") && ["most", "least"].contains(&self.after().text)) || (self.sees("exactly") && matches!(self.after().kind, Kind::Number(_)))
+    }
+
+    /// How many of a set hold.
+    fn count(&mut self) -> Result<Goal<'a>, Error> {
+        let word = if self.pass().text == "at" { self.pass().text } else { "exactly" };
+        let (number, _) = self.number("a number")?;
+        self.sign("of", "'of'")?;
+        let set = self.list(",", Self::atom)?;
+        self.sign(".", "',' or '.'")?;
+        Ok(Goal::Count { least: (word != "most").then_some(number), most: (word != "least").then_some(number), set })
+    }
+
+    fn atom(&mut self) -> Result<Listed<'a>, Error> {
         if self.sees("false") {
             return Err(Error::at(self.next().place, "'false' stands alone, with no other alternative and as no condition"));
         }
         let name = self.own_name("a predicate")?;
         if !self.passes("(") {
-            return Ok(Atom { name, arguments: Vec::new() });
+            return Ok(Listed { name, arguments: Vec::new() });
         }
-        let arguments = self.list(",", Self::argument)?;
+        let arguments = self.list(",", |reader| reader.list(";", Self::item))?;
         self.sign(")", "',' or ')'")?;
-        Ok(Atom { name, arguments })
+        Ok(Listed { name, arguments })
+    }
+
+    fn item(&mut self) -> Result<Constants<'a>, Error> {
+        let first = self.argument()?;
+        self.range(first)
     }
 
     fn argument(&mut self) -> Result<Word<'a>, Error> {
         match self.next().kind {
             Kind::Name | Kind::Number(_) | Kind::Code | Kind::Variable => Ok(self.pass()),
-            Kind::Sign | Kind::End => Err(self.expected("a constant or a variable")),
+            Kind::Sign | Kind::Quoted | Kind::End => Err(self.expected("a constant or a variable")),
         }
     }
 }

@@ -2,9 +2,10 @@
 
 use super::Error;
 
-/// A line and a column, both from 1. A column counts characters.
+/// A line and a column, both from 1. A column counts characters. The files are the sheet itself, 0, and those that it includes.
 #[derive(Clone, Copy, Debug, PartialEq, Eq)]
 pub struct Place {
+    pub file: usize,
     pub line: usize,
     pub column: usize,
 }
@@ -17,6 +18,8 @@ pub enum Kind {
     Code,
     Variable,
     Sign,
+    /// between quotation marks, which are not in it
+    Quoted,
     /// the end of the sheet, once, as the last word
     End,
 }
@@ -31,7 +34,7 @@ pub struct Word<'a> {
 const MOST_LETTERS: usize = 64;
 
 /// Those that begin alike, the longer one first.
-const SIGNS: [&str; 9] = ["->", "..", ".", ",", "/", "(", ")", "&", "|"];
+const SIGNS: [&str; 11] = ["->", "..", "!=", ".", ",", ";", "/", "(", ")", "&", "|"];
 
 impl Word<'_> {
     /// The place just after it. A word stands on one line.
@@ -40,9 +43,9 @@ impl Word<'_> {
     }
 }
 
-pub fn words(source: &str) -> Result<Vec<Word<'_>>, Error> {
+pub fn words(source: &str, file: usize) -> Result<Vec<Word<'_>>, Error> {
     let unmarked = source.strip_prefix('\u{FEFF}').unwrap_or(source); // some editors mark a file so
-    let mut reader = Reader { rest: unmarked, place: Place { line: 1, column: 1 } };
+    let mut reader = Reader { rest: unmarked, place: Place { file, line: 1, column: 1 } };
     let mut words = Vec::new();
     loop {
         reader.pass_blanks();
@@ -67,7 +70,7 @@ impl<'a> Reader<'a> {
         let (taken, rest) = self.rest.split_at(len);
         for c in taken.chars() {
             self.place = match c {
-                '\n' => Place { line: self.place.line + 1, column: 1 },
+                '\n' => Place { line: self.place.line + 1, column: 1, ..self.place },
                 _ => Place { column: self.place.column + 1, ..self.place },
             };
         }
@@ -93,12 +96,29 @@ impl<'a> Reader<'a> {
             let text = self.take(|c| c.is_alphanumeric() || c == '_');
             return Ok(Word { kind: kind(text, place)?, text, place });
         }
+        if first == '_' && !self.rest[1..].starts_with(|c: char| c.is_alphanumeric() || c == '_') {
+            return Ok(Word { kind: Kind::Variable, text: self.take(|c| c == '_'), place });
+        }
+        if first == '"' {
+            return self.quoted(place);
+        }
         let Some(sign) = SIGNS.into_iter().find(|sign| self.rest.starts_with(sign)) else {
             return Err(Error::at(place, format!("no word begins with {first:?}")));
         };
         self.rest = &self.rest[sign.len()..];
         self.place.column += sign.len();
         Ok(Word { kind: Kind::Sign, text: sign, place })
+    }
+}
+
+impl<'a> Reader<'a> {
+    fn quoted(&mut self, place: Place) -> Result<Word<'a>, Error> {
+        let (_, rest) = self.rest.split_at(1);
+        let end = rest.find(['"', '\n']).filter(|end| rest[*end..].starts_with('"'));
+        let text = &rest[..end.ok_or_else(|| Error::at(place, "this quotation mark is not closed on its line"))?];
+        self.rest = &rest[text.len() + 1..];
+        self.place.column += text.chars().count() + 2;
+        Ok(Word { kind: Kind::Quoted, text, place })
     }
 }
 
