@@ -302,6 +302,107 @@ static inline unsigned lutsamik_value(uint64_t result, unsigned variable) {
  * not; 4 at most, and 0 also where the clause has none. */
 static inline uint32_t lutsamik_held(uint64_t result) { return (uint32_t)(result >> 32); }
 
+/* Words for a refusal, by its number. */
+static inline const char *lutsamik_refusal_words(unsigned refusal) {
+    switch (refusal) {
+    case LUTSAMIK_OK: return "not refused";
+    case LUTSAMIK_BAD_LINE: return "a line has no digits, an odd number, more than 70, a foreign byte, or no 0A";
+    case LUTSAMIK_BAD_KIND: return "a line's kind is unknown or out of place, or the line FF is missing or not the last";
+    case LUTSAMIK_BAD_LENGTH: return "a byte of a line is missing, or bytes are left over";
+    case LUTSAMIK_BAD_VERSION: return "the version is not 01";
+    case LUTSAMIK_BAD_COUNT: return "a count or an arity is out of range, or there is a 65th clause";
+    case LUTSAMIK_UNKNOWN: return "a predicate, a constant or an argument is unknown";
+    case LUTSAMIK_BAD_NUMBERING: return "a variable is out of the order 80, 81, 82, 83";
+    case LUTSAMIK_FREE_VARIABLE: return "a variable of an alternative stands in no condition";
+    case LUTSAMIK_TOO_MANY_ATOMS: return "there are more than 1024 atoms";
+    case LUTSAMIK_TOO_MANY_MARKS: return "the sum of conditions times constants to the power of variables passes 16384";
+    case LUTSAMIK_SHORT_BUFFER: return "a buffer is shorter than it must be";
+    case LUTSAMIK_NO_TABLE: return "the table is not what some accepted text reads to";
+    case LUTSAMIK_BAD_ANSWER: return "a byte of the answer is neither 0 nor 1";
+    case LUTSAMIK_TOO_MANY_ENTRIES: return "the session's count and the further limit together pass FFFFFFFF";
+    case LUTSAMIK_NO_SESSION: return "the session is none of the ticket's walk";
+    case LUTSAMIK_STALE_SLIP: return "the slip's number of clauses is not the ticket's";
+    case LUTSAMIK_NO_INSTANCE: return "the ticket lacks the clause, or a value of its variables";
+    default: return "no refusal has this number";
+    }
+}
+
+/* What the numbers of a ticket's atoms depend on: how many constants and predicates there are, and how many arguments
+ * each predicate has. */
+struct lutsamik_shape {
+    uint8_t constants;
+    uint8_t predicates;
+    uint8_t arities[32];
+};
+
+/* A ground atom: its predicate and its arguments, as many as the predicate has; 0 past them. */
+struct lutsamik_atom {
+    uint8_t predicate;
+    uint8_t arguments[3];
+};
+
+/* The byte of two digits of a text, 0 to 9 and A to F. */
+static inline uint8_t lutsamik_byte(const uint8_t *digits) {
+    unsigned high = (unsigned)(digits[0] <= '9' ? digits[0] - '0' : digits[0] - 'A' + 10);
+    unsigned low = (unsigned)(digits[1] <= '9' ? digits[1] - '0' : digits[1] - 'A' + 10);
+    return (uint8_t)((high << 4 | low) & 0xFF);
+}
+
+/* The shape of the ticket in a text that was accepted or written. Of any other text it is one that means nothing; no
+ * byte past the text is looked at. */
+static inline struct lutsamik_shape lutsamik_shape_of(const uint8_t *text, size_t text_len) {
+    struct lutsamik_shape shape = {0, 0, {0}};
+    /* The first line has eight bytes, the third the number of constants and the fourth that of predicates; a line of
+     * two bytes for each predicate follows, the second its arity. */
+    const size_t first = 17, line = 5;
+    unsigned i;
+    if (text_len < first) return shape;
+    shape.constants = lutsamik_byte(text + 4);
+    shape.predicates = lutsamik_byte(text + 6);
+    if (shape.predicates > 32) shape.predicates = 32;
+    for (i = 0; i < shape.predicates && first + line * (i + 1) <= text_len; i++)
+        shape.arities[i] = (uint8_t)(lutsamik_byte(text + first + line * i + 2) & 3);
+    return shape;
+}
+
+/* How many atoms a predicate has. */
+static inline uint32_t lutsamik_atoms_of(struct lutsamik_shape shape, unsigned predicate) {
+    uint32_t atoms = 1;
+    unsigned i;
+    for (i = 0; i < shape.arities[predicate & 31]; i++) atoms *= shape.constants;
+    return atoms;
+}
+
+/* The atom of a number, which is its byte's place in an answer; 1, and the atom, or 0 where there is none. */
+static inline int lutsamik_atom_of(struct lutsamik_shape shape, uint32_t number, struct lutsamik_atom *atom) {
+    unsigned i;
+    atom->predicate = 0;
+    atom->arguments[0] = atom->arguments[1] = atom->arguments[2] = 0;
+    while (atom->predicate < shape.predicates && number >= lutsamik_atoms_of(shape, atom->predicate)) {
+        number -= lutsamik_atoms_of(shape, atom->predicate);
+        atom->predicate++;
+    }
+    if (atom->predicate >= shape.predicates) return 0;
+    for (i = shape.arities[atom->predicate & 31]; i > 0 && i <= 3; i--) {
+        atom->arguments[i - 1] = (uint8_t)(number % shape.constants);
+        number /= shape.constants;
+    }
+    return 1;
+}
+
+/* The number of an atom; 1024, which no atom has, where the ticket lacks the predicate or a constant. */
+static inline uint32_t lutsamik_number_of(struct lutsamik_shape shape, struct lutsamik_atom atom) {
+    uint32_t before = 0, among = 0;
+    unsigned i;
+    if (atom.predicate >= shape.predicates) return 1024;
+    for (i = 0; i < atom.predicate; i++) before += lutsamik_atoms_of(shape, i);
+    for (i = 0; i < 3 && i < shape.arities[atom.predicate & 31]; i++) {
+        if (atom.arguments[i] >= shape.constants) return 1024;
+        among = among * shape.constants + atom.arguments[i];
+    }
+    return before + among;
+}
+
 #ifdef __cplusplus
 }
 #endif

@@ -24,7 +24,7 @@ const WORDS: [(&str, &str); 10] = [
 ];
 
 /// Of what stands for several rules.
-const SEVERAL: [(&str, &str); 14] = [
+const SEVERAL: [(&str, &str); 16] = [
     ("constants @b1..c3. predicates p/0.", "the range b1..c3 is none: both names end in a number, and are the same before it"),
     ("constants @b3..b1. predicates p/0.", "the range b3..b1 goes down"),
     ("constants 1..3. predicates p/1. p(@1..4).", "no constant '4' is declared"),
@@ -33,6 +33,8 @@ const SEVERAL: [(&str, &str); 14] = [
     ("constants a. predicates p/1. p(X) -> p(X) | p(a) @& p(a).", "expected '|' or '.', but '&' follows"),
     ("constants a. predicates p/1. p(X) & X != a@.", "expected '&' or '->', but '.' follows"),
     ("constants a. predicates p/1. p(X) & X != @b -> false.", "no constant 'b' is declared"),
+    ("constants a. predicates p/1. p(X) & X != @Y -> false.", "the variable 'Y' stands in no condition of this rule"),
+    ("constants a. predicates p/1. p(_) & @_ != a -> false.", "the variable '_' stands in no condition of this rule"),
     ("constants a. predicates p/1. p(X) -> p(@_).", "the variable '_' stands in no condition of this rule"),
     ("constants a. predicates p/1. at most 1 @p(a).", "expected 'of', but 'p' follows"),
     ("constants 1..9. predicates p/1. @at least 1 of p(1..9).", "at least 1 of 9 needs rules with 9 alternatives: a rule has at most 4"),

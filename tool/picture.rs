@@ -74,11 +74,11 @@ fn drawn_table(fitting: &Fitting, table: &Table, y: usize) -> (String, usize) {
     (drawn, x)
 }
 
-/// A cell: filled where its atom is true, faint where nobody wants it.
+/// A cell: filled where its atom is true, grey where nobody wants it.
 fn cell(fitting: &Fitting, atom: &Atom, x: usize, y: usize, width: usize) -> String {
     let (class, word) = match fitting.mark(atom) {
         (1, 1) => ("open", "true"),
-        (_, 1) => ("faint", "in the fitting, and nobody wants it"),
+        (_, 1) => ("unwanted", "in the fitting, and nobody wants it"),
         _ => ("absent", "not in the fitting"),
     };
     let title = format!("{}: {word}", fitting.accepted().atom(atom));
@@ -86,7 +86,7 @@ fn cell(fitting: &Fitting, atom: &Atom, x: usize, y: usize, width: usize) -> Str
 }
 
 fn legend(y: usize) -> Vec<Shape> {
-    let words = [("open", "true"), ("faint", "nobody wants it"), ("absent", "not in the fitting")];
+    let words = [("open", "true"), ("unwanted", "nobody wants it"), ("absent", "not in the fitting")];
     let width = width(&["not in the fitting".to_string()]);
     let shape = |(i, (class, word)): (usize, (&str, &str))| {
         Shape { class: class.to_string(), lines: vec![word.to_string()], title: word.to_string(), x: MARGIN + i * (width + PADDING), y, width }

@@ -18,7 +18,7 @@ const LETTER: usize = 75;
 pub const TOP: usize = MARGIN + 2 * LINE;
 
 const STYLE: &str = "text{font:12px monospace}rect{stroke:#333}path{fill:none;stroke:#777}.title{font-weight:bold}\
-.closed{fill:#f3c6c0}.open{fill:#bfe3c0}.split{fill:#dfe5ef}.unchecked{stroke-dasharray:4 3}.folded{fill:#f4efdc}.absent{fill:#fff;stroke:#ccc}.faint{fill:#fafafa;stroke:#ccc}\
+.closed{fill:#f3c6c0}.open{fill:#bfe3c0}.split{fill:#dfe5ef}.unchecked{stroke-dasharray:4 3}.folded{fill:#f4efdc}.absent{fill:#fff;stroke:#ccc}.unwanted{fill:#e4e4e4;stroke:#ccc}.faint{fill:#fafafa;stroke:#ccc}\
 .faint~text{fill:#999}";
 
 /// What the boxes look like.

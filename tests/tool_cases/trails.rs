@@ -87,6 +87,9 @@ fn compare(ticket: &reference::Ticket, text: &[u8], tally: &mut Met) -> Result<(
         same("entered atoms", entered, &entered_atoms(&accepted, &trail.places, i))?;
         same("depth", entered.len(), place.depth)?;
         same_found(found, &place.found)?;
+        if let wanted::Found::Closed(clause, _) = &place.found {
+            same("alternatives of what closes", 0, accepted.ticket.clauses[*clause].alternatives.len())?;
+        }
         tally.place(place);
     }
     Ok(())

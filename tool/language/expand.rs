@@ -116,6 +116,9 @@ impl<'a> Expansion<'_, 'a> {
             if variables.contains(&word.text) {
                 continue;
             }
+            if !rule.conditions.iter().any(|atom| atom.arguments.iter().any(|argument| argument.text == word.text && word.text != "_")) {
+                return Err(Error::at(word.place, format!("the variable '{}' stands in no condition of this rule", word.text)));
+            }
             if variables.len() == MOST_VARIABLES {
                 return Err(Error::at(word.place, format!("'{}' is one variable too many: a rule has at most {MOST_VARIABLES}", word.text)));
             }
@@ -169,14 +172,14 @@ fn singles(atoms: Vec<Atom>) -> Vec<Vec<Atom>> {
 /// Each way to take one of each, the first one slowest.
 fn products<T: Clone>(choices: &[Vec<T>]) -> impl Iterator<Item = Vec<T>> + '_ {
     let first = (!choices.iter().any(Vec::is_empty)).then(|| vec![0; choices.len()]);
-    let next = |at: &Vec<usize>| {
+    let next = move |at: &Vec<usize>| {
         let mut next = at.clone();
         let last = (0..next.len()).rev().find(|i| next[*i] + 1 < choices[*i].len())?;
         next[last] += 1;
         next[last + 1..].fill(0);
         Some(next)
     };
-    std::iter::successors(first, next).map(|at| at.iter().zip(choices).map(|(i, choice)| choice[*i].clone()).collect())
+    std::iter::successors(first, next).map(move |at| at.iter().zip(choices).map(|(i, choice)| choice[*i].clone()).collect())
 }
 
 /// Each way to take so many, in their order; so many ways at most.
