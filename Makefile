@@ -12,20 +12,20 @@ prefix := $(abspath $(PREFIX))
 root := $(DESTDIR)$(prefix)
 version := $(shell sed -n 's/^.define LUTSAMIK_VERSION "\(.*\)"/\1/p' include/lutsamik.h)
 
-.PHONY: archive install host tool
+.PHONY: archive install host
 
 archive:
 	@tests/archive
 
-# Any command that reads a ticket has the tool built first.
-tool:
-	@./lutsamik read crates/cases/data/K1.text >/dev/null
-
-install: tool
+# The command is compiled for itself, so that this does not meet a ./lutsamik that is being built.
+install:
 	archive=$$(tests/archive) && \
 	install -d "$(root)/include" "$(root)/lib/pkgconfig" "$(root)/bin" "$(root)/share/man/man1" && \
 	install -d "$(root)/share/bash-completion/completions" && \
-	install -m 755 target/tool/lutsamik "$(root)/bin" && \
+	made=$$(mktemp -d) && \
+	rustc --edition 2021 -O -D warnings -C "link-arg=$$archive" -o "$$made/lutsamik" tool/main.rs && \
+	install -m 755 "$$made/lutsamik" "$(root)/bin" && \
+	rm -r "$$made" && \
 	tool/man >"$(root)/share/man/man1/lutsamik.1" && \
 	install -m 644 tool/completion "$(root)/share/bash-completion/completions/lutsamik" && \
 	install -m 644 include/lutsamik.h "$(root)/include" && \

@@ -1,10 +1,12 @@
 //! The time that a command may take, by --time-limit. It is looked at between slices of a walk.
 
+use std::sync::atomic::{AtomicBool, Ordering};
 use std::sync::OnceLock;
 use std::time::{Duration, Instant};
 
 static BEGUN: OnceLock<Instant> = OnceLock::new();
 static END: OnceLock<Instant> = OnceLock::new();
+static STOPPED: AtomicBool = AtomicBool::new(false);
 
 /// From now on the time counts.
 pub fn begin(seconds: Option<u32>) {
@@ -15,9 +17,14 @@ pub fn begin(seconds: Option<u32>) {
     }
 }
 
+/// From now on the time does not count: what is left to do must be done.
+pub fn stop() {
+    STOPPED.store(true, Ordering::Relaxed);
+}
+
 /// Whether the time is over.
 pub fn is_over() -> bool {
-    END.get().is_some_and(|end| Instant::now() >= *end)
+    !STOPPED.load(Ordering::Relaxed) && END.get().is_some_and(|end| Instant::now() >= *end)
 }
 
 /// The seconds since the beginning.

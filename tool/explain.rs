@@ -45,6 +45,7 @@ fn run(arguments: &Arguments) -> Result<Ending, Failure> {
         return Ok(nothing(arguments, verdict));
     }
     let kept = kept(&accepted)?;
+    clock::stop();
     let reduced = accepted.only(&kept.iter().map(|(clause, _)| *clause).collect::<Vec<_>>())?;
     if ask(&[Engine::Relevancy, Engine::Magic], &reduced)? != Verdict::None {
         return Err(Failure::disagreement("the rules that are left have a fitting, or are spent"));
