@@ -14,5 +14,6 @@ pub mod Theorems
 pub mod Visits
 pub mod Rows
 pub mod RowLaws
+pub mod FormLaws
 pub mod VerdictLaws
 pub mod AnswerLaws

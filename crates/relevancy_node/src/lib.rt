@@ -4,6 +4,7 @@ pub mod close;
 pub mod index;
 pub mod mark;
 pub mod node;
+pub mod rows;
 pub mod sweep;
 pub mod visit;
 pub mod work;
