@@ -4,4 +4,5 @@ pub mod close;
 pub mod fact;
 pub mod index;
 pub mod node;
+pub mod plan;
 pub mod rule;
