@@ -15,5 +15,6 @@ pub mod Visits
 pub mod Rows
 pub mod RowLaws
 pub mod BoxSites
+pub mod FormLaws
 pub mod VerdictLaws
 pub mod AnswerLaws

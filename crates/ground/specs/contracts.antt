@@ -3,6 +3,7 @@ pub mod Placed
 pub mod Heading
 pub mod Matching
 pub mod Row
+pub mod Form
 pub mod Index
 pub mod Visit
 pub mod Sides

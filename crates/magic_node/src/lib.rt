@@ -4,5 +4,6 @@ pub mod close;
 pub mod fact;
 pub mod index;
 pub mod node;
+pub mod plan;
 pub mod row;
 pub mod rule;

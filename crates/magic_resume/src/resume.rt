@@ -32,7 +32,7 @@ ghost use Rattle.magic_walk.specs.contracts.Place.{magicWalker};
 // Tries the alternatives left at the split node at `depth`, and takes its facts back to the first `done` where all is closed.
 fn work_off(
     rules: &[u8],
-    index: &[u16; 1536],
+    index: &[u16; 6656],
     facts: &mut [u8],
     path: &mut [u8],
     depth: usize,
@@ -61,7 +61,7 @@ fn work_off(
 // The last node of a session's path, at `depth`: goes on from it, where a session may stand there.
 fn stand(
     rules: &[u8],
-    index: &[u16; 1536],
+    index: &[u16; 6656],
     facts: &mut [u8],
     path: &mut [u8],
     depth: usize,
@@ -103,7 +103,7 @@ fn stand(
 // Goes on with a session from the node at `depth` on: the steps from there on are entered again, each as the alternative that the walk takes there.
 fn resume(
     rules: &[u8],
-    index: &[u16; 1536],
+    index: &[u16; 6656],
     facts: &mut [u8],
     path: &mut [u8],
     atoms: &[u16],
@@ -164,7 +164,7 @@ fn resume(
 // Goes on with a session of so many steps, from the root on, which has just been found so.
 pub fn go_on(
     rules: &[u8],
-    index: &[u16; 1536],
+    index: &[u16; 6656],
     facts: &mut [u8],
     path: &mut [u8],
     atoms: &[u16],

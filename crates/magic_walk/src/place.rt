@@ -82,7 +82,7 @@ fn split_place(rules: &[u8], path: &[u8], depth: usize) -> usize
 // Finds the place at `depth`, whose facts begin with n facts, of which `done` are worked off, with instances to split watched from `from` on.
 fn find(
     rules: &[u8],
-    index: &[u16; 1536],
+    index: &[u16; 6656],
     facts: &mut [u8],
     path: &mut [u8],
     depth: usize,
@@ -113,7 +113,7 @@ fn find(
 // Makes the next place: enters atom a, the next alternative of the split node at `depth`. It is the next entry of whatever run stands there.
 pub fn enter(
     rules: &[u8],
-    index: &[u16; 1536],
+    index: &[u16; 6656],
     facts: &mut [u8],
     path: &mut [u8],
     depth: usize,
@@ -135,7 +135,7 @@ pub fn enter(
 // Makes the next place as entry `count` + 1 of a run, where the limit allows one.
 pub fn place(
     rules: &[u8],
-    index: &[u16; 1536],
+    index: &[u16; 6656],
     facts: &mut [u8],
     path: &mut [u8],
     depth: usize,
@@ -154,7 +154,7 @@ pub fn place(
 }
 
 // Makes the root, in a set without facts.
-pub fn root(rules: &[u8], index: &[u16; 1536], facts: &mut [u8], path: &mut [u8]) -> Found
+pub fn root(rules: &[u8], index: &[u16; 6656], facts: &mut [u8], path: &mut [u8]) -> Found
     requires { ⌜ Ruled (now rules) ⌝ }
     requires { ⌜ RulesIndexed (now rules) (now index) ⌝ }
     requires { ⌜ Store 2050 (now facts) 0 × Room (now path) 0 ⌝ }

@@ -20,7 +20,7 @@ ghost use Rattle.magic_walk.specs.contracts.Place.{magicWalker, OwnFacts
 // Visits the node at `depth`, which is entry `count` and found so; its facts are taken back to the first `done` where all is closed.
 pub fn visit(
     rules: &[u8],
-    index: &[u16; 1536],
+    index: &[u16; 6656],
     facts: &mut [u8],
     path: &mut [u8],
     depth: usize,
@@ -59,7 +59,7 @@ pub fn visit(
 // Tries the alternatives left at the split node at `depth`, one after another, after `count` entries.
 pub fn try_next(
     rules: &[u8],
-    index: &[u16; 1536],
+    index: &[u16; 6656],
     facts: &mut [u8],
     path: &mut [u8],
     depth: usize,
@@ -104,7 +104,7 @@ pub fn try_next(
 // The whole walk under a limit, from the root on, which has just been found so.
 pub fn from_root(
     rules: &[u8],
-    index: &[u16; 1536],
+    index: &[u16; 6656],
     facts: &mut [u8],
     path: &mut [u8],
     found: Found,
