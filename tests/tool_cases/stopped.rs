@@ -175,7 +175,7 @@ fn saved_and_resumed() {
 /// The command that is proposed goes on to where a single run ends.
 fn to_the_end() {
     let (session, whole) = (fresh("to_the_end"), fresh("whole"));
-    let first = started(tool(&["fit", "--engine", "relevancy", "--limit", MOST, "--save", &session, LONG]), &session, 100);
+    let first = started(tool(&["fit", "--engine", "relevancy", "--limit", MOST, "--save", &session, LONG]), &session, 0);
     let first = told(stop(first));
     let command = first.next.strip_prefix("to go on: ").expect("a command");
     let resumed = Command::new("bash").args(["-c", command]).output().expect("bash runs");
