@@ -53,10 +53,10 @@
  * of stack were measured:
  *
  *   entries on the path             0       64      256    1,024
- *   a first run by relevancy   37,000   62,000  160,000  553,000
- *   a first run by magic       38,000   60,000  149,000  505,000
- *   going on by relevancy      39,000   64,000  163,000  556,000
- *   going on by magic         106,000  128,000  217,000  573,000
+ *   a first run by relevancy   26,000   54,000  146,000  515,000
+ *   a first run by magic       52,000   67,000  150,000  482,000
+ *   going on by relevancy      45,000   68,000  160,000  529,000
+ *   going on by magic          72,000   88,000  174,000  518,000
  */
 #ifndef LUTSAMIK_H
 #define LUTSAMIK_H
