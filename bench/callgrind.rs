@@ -17,9 +17,14 @@ pub fn count_each(runs: &[Vec<&str>]) -> Vec<u64> {
     runs.iter().map(|run| taken.iter().find(|(other, _)| std::ptr::eq(*other, run)).expect("each has its count").1).collect()
 }
 
+/// Callgrind counts each byte of a `rep stosb` as an instruction, and each of a `rep movsb`: zeroing 64 KB would be more than all else a
+/// small ticket takes. The C library is told to use neither, and stores 32 bytes by an instruction.
+const NO_REP: &str = "glibc.cpu.x86_rep_stosb_threshold=1000000000:glibc.cpu.x86_rep_movsb_threshold=1000000000";
+
 fn count(arguments: &[&str]) -> u64 {
     let program = current_exe().expect("this program");
     let ran = Command::new("valgrind")
+        .env("GLIBC_TUNABLES", NO_REP)
         .args(["--tool=callgrind", "--toggle-collect=*timing*counted*", "--callgrind-out-file=/dev/null"])
         .arg(program)
         .args(arguments)
