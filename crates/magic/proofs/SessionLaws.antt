@@ -14,8 +14,8 @@ use Rattle.ground.specs.Verdict.{verdictOf, answerOf}
 use Rattle.rewriting.specs.Facts.{findIn}
 use Rattle.rewriting.specs.Rewrite.{rulesOver}
 use Rattle.session.specs.declared.record.Session.{Session as Record}
-use Rattle.session.specs.Calls.{deepestTold, calledIn, begunBy, verdictTold, recordLeft, answerLeft, workLeft}
-use Rattle.session.proofs.CallLaws.{screened-short, screened-invalid, screened-through, screened-first, declined-by, deepest-lent, deepest-first}
+use Rattle.session.specs.Calls.{deepestTold, calledIn, begunBy, verdictTold, answerLeft, workLeft}
+use Rattle.session.proofs.CallLaws.{screened-short, screened-invalid, screened-through, screened-first, declined-by, deepest-first}
 use Rattle.magic.specs.Engine.{rulesOutcome, magicTooShort, magicOutcome, magicResult, magicDeepest, magicRules, magicAnswer, magicWork}
 use Rattle.magic.specs.Sessions.{magicBegun, magicResumed, rulesLeft}
 use Rattle.magic.proofs.EngineLaws.{Fitted, fit-short, fit-invalid, fit-runs}
@@ -76,10 +76,6 @@ module _ (tb rules answer work : List ℕ) where
   pub begun-shows : deepestTold (magicBegun tb rules answer work) ≡ magicDeepest tb rules answer work
   unfolding magicBegun magicDeepest
   begun-shows = deepest-first (findIn bs) (limitOf ((problemIn own) .limit)) (magicTooShort tb rules answer work) (isValid own)
-
-  -- the record lent for a session that is not kept holds the longest path entered
-  pub begun-deepest : (r : Record) → r .deepest ≡ 0 → (recordLeft (magicBegun tb rules answer work) r) .deepest ≡ magicDeepest tb rules answer work
-  begun-deepest r none = deepest-lent (magicBegun tb rules answer work) r none ∙ begun-shows
 
   -- ---- going on
 

@@ -1,20 +1,21 @@
 // The magic engine's operations: a first run, and going on with a session.
+use crate::alone;
 use crate::end::conclude;
 use crate::further::run_on;
+use crate::whole::walk_whole;
+use ground::verdict::Verdict;
 use ground::verdict::limit_in;
-use magic_node::index::build;
-use magic_resume::left::root_alternatives;
-use magic_walk::place::root;
-use magic_walk::trail::from_root;
 use rewriting::rewrite::write_rules;
 use session::record::Moved;
 use session::record::Reply;
 use session::record::Session;
-use session::record::blank;
 use session::record::refused;
+use writing::lent::refusal;
 use writing::write::valid;
+ghost use mathlib.Core.Bool.{_||_};
 ghost use mathlib.Core.Path.{_≡_};
 ghost use Prim.Native.Nat.{_≤_};
+ghost use lib.Dec.{ltb};
 ghost use lib.ListN.{length, replicate};
 ghost use Rattle.search.specs.Session.{firstSession};
 ghost use Rattle.problem.specs.Problem.{limitOf};
@@ -29,19 +30,16 @@ ghost use Rattle.session.specs.Calls.{verdictTold, recordLeft, answerLeft, work
 ghost use Rattle.magic.specs.Engine.{rulesOutcome, magicOutcome, magicResult, magicDeepest, magicRules, magicAnswer, magicWork};
 ghost use Rattle.magic.specs.Sessions.{magicBegun, magicResumed, rulesLeft};
 
-// The magic walk by the rules of a buffer from the root on, under a limit, in a buffer for its facts: an empty set has its flags zero, the log may hold anything.
+// The run by the rules of a buffer under a limit, in a buffer for its facts.
 fn decide(rules: &[u8], limit: u32, answer: &mut [u8], facts: &mut [u8]) -> Moved
     requires { ⌜ Ruled (now rules) ⌝ }
     requires { ⌜ (1024 ≤ length (now answer)) × (length (now facts) ≡ 6150) ⌝ }
     ensures { λ r. ⌜ (r .verdict ≡ verdictOf (rulesOutcome (now (rules .entry)) limit)) × (r .session ≡ laid (firstSession (findIn (now (rules .entry))) limit)) × (now (answer .exit) ≡ answerOf (rulesOutcome (now (rules .entry)) limit) (now (answer .entry))) ⌝ }
 {
-    let index = build(rules);
-    lists::zero(&mut facts[..2050]);
     let mut path = [0u8; 9227];
-    let found = root(rules, &index, facts, &mut path);
-    let used = root_alternatives(rules, &path, found);
-    let walked = from_root(rules, &index, facts, &mut path, found, limit);
-    conclude(rules, facts, &path, answer, walked, limit, used)
+    let whole = walk_whole(rules, facts, &mut path, limit);
+    let walked = whole.walked;
+    conclude(rules, facts, &path, answer, walked, limit, whole.used)
 }
 
 // Rewrites a valid table, walks by the rules alone in the first part of the work buffer, and leaves it zero.
@@ -55,6 +53,19 @@ fn run(table: &[u8], rules: &mut [u8], answer: &mut [u8], work: &mut [u8]) -> Mo
     let moved = decide(rules, limit, answer, &mut work[0..6150]);
     lists::zero(work);
     moved
+}
+
+// Whether a rules, an answer or a work buffer of so many bytes is too short.
+fn too_small(rules: usize, answer: usize, work: usize) -> bool
+    ensures { λ r. ⌜ r ≡ (ltb rules 16384 || ltb answer 1024 || ltb work 65536) ⌝ }
+{
+    if rules < 16384 {
+        return true;
+    }
+    if answer < 1024 {
+        return true;
+    }
+    work < 65536
 }
 
 // Fits a lent table: the magic walk under the table's own limit, which leaves a session.
@@ -90,13 +101,19 @@ pub fn begin(
 pub fn fit(table: &[u8], rules: &mut [u8], answer: &mut [u8], work: &mut [u8]) -> Reply
     ensures { λ r. ⌜ (r .verdict ≡ magicResult (now (table .entry)) (now (rules .entry)) (now (answer .entry)) (now (work .entry))) × (r .deepest ≡ magicDeepest (now (table .entry)) (now (rules .entry)) (now (answer .entry)) (now (work .entry))) × (now (rules .exit) ≡ magicRules (now (table .entry)) (now (rules .entry)) (now (answer .entry)) (now (work .entry))) × (now (answer .exit) ≡ magicAnswer (now (table .entry)) (now (rules .entry)) (now (answer .entry)) (now (work .entry))) × (now (work .exit) ≡ magicWork (now (table .entry)) (now (rules .entry)) (now (answer .entry)) (now (work .entry))) ⌝ }
 {
-    let moved = begin(blank(), table, rules, answer, work);
-    let session = moved.session;
-    let verdict = moved.verdict;
-    Reply {
-        verdict: verdict,
-        deepest: session.deepest,
+    let e = refusal(table, too_small(rules.len(), answer.len(), work.len()));
+    if 0 < e {
+        return Reply {
+            verdict: Verdict::Refused(e),
+            deepest: 0,
+        };
     }
+    alone::run(
+        &table[..4096],
+        &mut rules[..16384],
+        answer,
+        &mut work[..65536],
+    )
 }
 
 // Goes on with a session on a lent table, under a further limit.

@@ -1,4 +1,6 @@
 // The magic engine's operations.
+pub mod alone;
 pub mod end;
 pub mod engine;
 pub mod further;
+pub mod whole;

@@ -1,81 +1,34 @@
 -- `magic::engine::decide` meets its contract.
 use Prim.Native.Nat.{ℕ}
-use mathlib.Core.List.{_++_}
-use mathlib.Core.Path.{_≡_, refl, sym, _∙_}
-use native.Mathlib.Omega.{arith}
+use mathlib.Core.Path.{refl, _∙_}
 use borrow.Author.Needs.{needs}
-use lib.ListN.{length, take, drop, replicate, length-replicate}
-use lib.Seq.{length-take-le}
-use Rattle.lists.proofs.Bytes.{zeros-at}
-use Rattle.store.proofs.Lent.{put-size}
+use lib.ListN.{length-replicate}
 use Rattle.walk.specs.contracts.Walker.{fromRoot}
-use Rattle.walk.specs.contracts.Path.{deepestAt}
-use Rattle.walk.proofs.WalkLaws.{cleared-store}
 use Rattle.magic_walk.specs.contracts.Place.{magicWalker}
 use Rattle.magic.proofs.EngineLaws.{first-run}
 use Rattle.magic.proofs.engine.decide.Statement.{statement}
 use Rattle.magic.proofs.engine.decide.Tie as tie
 
--- a blank path has no entry
-none-entered : deepestAt (replicate 9227 0) ≡ 0
-none-entered = omega (arith, zeros-at 9227 9225, zeros-at 9227 9226)
-
--- the flags come first, and they alone are lent to be made zero
-flags : (s : tie.Start) → length (take 2050 (s .args .facts .now)) ≡ 2050
-flags s = length-take-le 2050 (s .args .facts .now) (omega (arith, s .pre .1 .1))
-
-room : (z : tie.After-zero) → length (z .zero .last .0 ++ drop 2050 (z .before .before .before .before .before .before .args .facts .now)) ≡ length (z .before .before .before .before .before .before .args .facts .now)
-room z =
-    let s = z .before .before .before .before .before .before in
-    put-size 2050 (length (s .args .facts .now)) (omega (arith, s .pre .1 .1)) (s .args .facts .now) refl (z .zero .last .0) (z .zero .kept .0 ∙ flags s)
-
 pub decide-spec : {M : Type 1} → statement M
 decide-spec =
     tie.close
     (tie.spec
-    (λ c κs. search needs)  -- build-requires
-    (λ c. let s = c .before .before .before .before in omega (arith, s .pre .1 .1))  -- slice-relend-prefix-zero
-    (λ c. sym (flags (c .before .before .before .before .before)))  -- slice-aggregate-zero
-    (λ c κs. search needs)  -- zero-requires
-    (λ c. search needs)  -- slice-aggregate-root
-    (λ c κs.
-    let s = c .before .before .before .before .before .before .before .before .before .before .before in
-    let z = c .before .before .before .before .before .zero in
-    (s .pre .0, ((c .before .before .before .before .before .before .before) .build .ensures, (cleared-store 2050 (s .args .facts .now) (z .last .0) (s .pre .1 .1) (z .ensures), record { size = length-replicate {A = ℕ} 9227 0; deep = omega arith }))))  -- root-requires
-    (λ c. search needs)  -- slice-aggregate-root-alternatives
-    (λ c κs.
-    let s = c .before .before .before .before .before .before .before .before .before .before .before .before .before .before .before .before in
-    let b = c .before .before .before .before .root in
-    (s .pre .0, (b .last .1 .1 .0, b .ensures .0)))  -- root-alternatives-requires
-    (λ c. search needs)  -- slice-aggregate-from-root
-    (λ c κs.
-    let s = c .before .before .before .before .before .before .before .before .before .before .before .before .before .before .before .before .before .before .before .before in
-    let b = c .before .before .before .before .before .before .before .before .root in
-    (s .pre .0, ((c .before .before .before .before .before .before .before .before .before .before .before .before .before .before .before .before) .build .ensures, (b .ensures .0, b .ensures .1))))  -- from-root-requires
+    (λ c. search needs)  -- slice-aggregate-walk-whole
+    (λ c κs. search needs)  -- walk-whole-requires
     (λ c. search needs)  -- slice-aggregate-conclude
     (λ c κs.
-    let s = c .before .before .before .before .before .before .before .before .before .before .before .before .before .before .before .before .before .before .before .before .before .before .before .before .before .before .before in
-    let f = c .before .before .before .before .before .before .from-root in
-    let u = c .before .before .before .before .before .before .before .before .before .before .root-alternatives in
-    let b = c .before .before .before .before .before .before .before .before .before .before .before .before .before .before .before .root in
-    let z = c .before .before .before .before .before .before .before .before .before .before .before .before .before .before .before .before .before .before .before .before .before in (
+    let s = c .before .before .before .before .before .before .before .before .before .before .before .before in
+    let w = c .before .before .before .before .before .before .walk-whole in (
       s .pre .0,
       (
-        f .kept .1 .1 .1 .0 ∙ b .kept .1 .1 .1 .0 ∙ length-replicate {A = ℕ} 9227 0,
-        (
-          (s .pre .1 .0, f .kept .1 .1 .0 ∙ b .kept .1 .1 .0 ∙ room z ∙ s .pre .1 .1),
-          ((fromRoot (magicWalker (s .args .rules .now)) (deepestAt (b .last .1 .1 .1 .0)) (s .args .limit), (refl, f .ensures)), u .ensures),
-        ),
+        w .kept .1 .1 .0 ∙ length-replicate {A = ℕ} 9227 0,
+        ((s .pre .1 .0, w .kept .1 .0 ∙ s .pre .1 .1), ((fromRoot (magicWalker (s .args .rules .now)) 0 (s .args .limit), (refl, w .ensures .1)), w .ensures .0)),
       ),
     ))  -- conclude-requires
     (λ c. search needs)  -- same-length
-    (λ c. (c .before .before .before .before .before .before .before .before .before) .from-root .kept .1 .1 .0 ∙ (c .before .before .before .before .before .before .before .before .before .before .before .before .before .before .before .before .before .before) .root .kept .1 .1 .0 ∙ room (c .before .before .before .before .before .before .before .before .before .before .before .before .before .before .before .before .before .before .before .before .before .before .before .before))  -- same-length-2
+    (λ c. search needs)  -- same-length-2
     (λ c.
-    let s = c .before .before .before .before .before .before .before .before .before .before .before .before .before .before .before .before .before .before .before .before .before .before .before .before .before .before .before .before .before .before in
-    let a = s .args in
-    let b = c .before .before .before .before .before .before .before .before .before .before .before .before .before .before .before .before .before .before .root in
-    let f = c .before .before .before .before .before .before .before .before .before .from-root in
+    let a = c .before .before .before .before .before .before .before .before .before .before .before .before .before .before .before .args in
     let d = c .before .before .conclude in
-    let deepest : ℕ = deepestAt (b .last .1 .1 .1 .0) in
-    first-run (a .rules .now) deepest (a .limit) (b .ensures .2 ∙ none-entered) (a .answer .now) (d .result) (d .last .1 .1 .1 .0)
-    (d .ensures (fromRoot (magicWalker (a .rules .now)) deepest (a .limit)) refl (f .ensures))))  -- returns
+    first-run (a .rules .now) (a .limit) (a .answer .now) (d .result) (d .last .1 .1 .1 .0)
+    (d .ensures (fromRoot (magicWalker (a .rules .now)) 0 (a .limit)) refl ((c .before .before .before .before .before .before .before .before .before) .walk-whole .ensures .1))))  -- returns
