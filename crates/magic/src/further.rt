@@ -39,7 +39,8 @@ fn further_run(
     requires { ⌜ (session .length ≤ session .deepest) × (session .deepest ≤ atoms) × (atoms ≤ 1024) ⌝ }
     ensures { λ r. ⌜ (r .verdict ≡ verdictTold (calledIn (findIn (now (rules .entry))) atoms session further)) × (r .session ≡ recordLeft (calledIn (findIn (now (rules .entry))) atoms session further) session) × (now (answer .exit) ≡ answerLeft (calledIn (findIn (now (rules .entry))) atoms session further) (now (answer .entry))) ⌝ }
 {
-    let index = build(rules);
+    let mut index = [0u16; 6656];
+    build(rules, &mut index);
     let mut facts = [0u8; 6150];
     let mut path = [0u8; 9227];
     let entered = session.atoms;

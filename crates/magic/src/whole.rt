@@ -25,7 +25,8 @@ pub fn walk_whole(rules: &[u8], facts: &mut [u8], path: &mut [u8], limit: u32) -
     requires { ⌜ (length (now facts) ≡ 6150) × (now path ≡ replicate 9227 0) ⌝ }
     ensures { λ r. ⌜ (r .used ≡ length (altsFound ((magicWalker (now (rules .entry))) .find []))) × Walks (magicWalker (now (rules .entry))) (fromRoot (magicWalker (now (rules .entry))) 0 limit) (r .walked) (now (facts .exit)) (now (path .exit)) ⌝ }
 {
-    let index = build(rules);
+    let mut index = [0u16; 6656];
+    build(rules, &mut index);
     lists::zero(&mut facts[..2050]);
     let found = root(rules, &index, facts, path);
     let used = root_alternatives(rules, path, found);

@@ -22,7 +22,7 @@ kept : (s : tie.Start) → isKeptOver (s .args .atoms) (s .args .session) ≡ tr
 kept s = is-kept (s .args .atoms) (s .args .session) (s .pre .1 .1 .0 .0) (s .pre .1 .1 .0 .1) (s .pre .1 .1 .1 .0) (s .pre .1 .1 .1 .1)
 
 -- the longest path entered is the record's
-brings : (b : tie.After-root) → deepestAt (b .root .last .1 .1 .1 .0) ≡ b .before .before .before .before .before .before .before .before .before .before .before .before .before .before .before .args .session .deepest
+brings : (b : tie.After-root) → deepestAt (b .root .last .1 .1 .1 .0) ≡ b .before .before .before .before .before .before .before .before .before .before .before .before .before .before .before .before .args .session .deepest
 brings b = b .root .ensures .2 ∙ b .before .before .before .before .before .bring .ensures .0
 
 -- no work buffer is lent to it: this one is as good as any
@@ -48,24 +48,24 @@ further-run-spec =
     (λ c. search needs)  -- add-limit
     (λ c. search needs)  -- slice-aggregate-bring
     (λ c. search needs)  -- cast-bring
-    (λ c κs. let s = c .before .before .before .before .before .before .before .before .before in let figure = s .pre .1 .1 .1 in (length-replicate {A = ℕ} 9227 0, omega (arith, figure .1, figure .2)))  -- bring-requires
+    (λ c κs. let s = c .before .before .before .before .before .before .before .before .before .before in let figure = s .pre .1 .1 .1 in (length-replicate {A = ℕ} 9227 0, omega (arith, figure .1, figure .2)))  -- bring-requires
     (λ c. search needs)  -- slice-aggregate-root
     (λ c. search needs)  -- slice-aggregate-root-2
     (λ c κs.
-    let s = c .before .before .before .before .before .before .before .before .before .before .before .before .before .before in
+    let s = c .before .before .before .before .before .before .before .before .before .before .before .before .before .before .before in
     let size : length ((c .before .before .before .before) .bring .last .0) ≡ 9227 = c .before .before .before .before .bring .kept .0 ∙ length-replicate {A = ℕ} 9227 0 in
     (s .pre .0, ((c .before .before .before .before .before .before .before .before .before .before .before) .build .ensures, (blank-store 2050 (replicate 6150 0) (length-replicate {A = ℕ} 6150 0) (λ a l. zeros-at 6150 a), record { size = size; deep = omega arith }))))  -- root-requires
     (λ c. search needs)  -- slice-aggregate-root-alternatives
     (λ c κs.
-    let s = c .before .before .before .before .before .before .before .before .before .before .before .before .before .before .before .before .before .before in
+    let s = c .before .before .before .before .before .before .before .before .before .before .before .before .before .before .before .before .before .before .before in
     let b = c .before .before .before .root in
     (s .pre .0, (b .last .1 .1 .0, b .ensures .0)))  -- root-alternatives-requires
     (λ c. search needs)  -- slice-aggregate-go-on
     (λ c. search needs)  -- slice-aggregate-go-on-2
-    (λ c. sym (long-atoms (c .before .before .before .before .before .before .before .before .before .before .before .before .before .before .before .before .before .before .before .before .before .before .before)))  -- slice-aggregate-go-on-3
-    (λ c. sym (long-nexts (c .before .before .before .before .before .before .before .before .before .before .before .before .before .before .before .before .before .before .before .before .before .before .before .before)))  -- slice-aggregate-go-on-4
+    (λ c. sym (long-atoms (c .before .before .before .before .before .before .before .before .before .before .before .before .before .before .before .before .before .before .before .before .before .before .before .before)))  -- slice-aggregate-go-on-3
+    (λ c. sym (long-nexts (c .before .before .before .before .before .before .before .before .before .before .before .before .before .before .before .before .before .before .before .before .before .before .before .before .before)))  -- slice-aggregate-go-on-4
     (λ c κs.
-    let s = c .before .before .before .before .before .before .before .before .before .before .before .before .before .before .before .before .before .before .before .before .before .before .before .before in
+    let s = c .before .before .before .before .before .before .before .before .before .before .before .before .before .before .before .before .before .before .before .before .before .before .before .before .before in
     let few = s .pre .1 .1 .0 .1 in
     let b = c .before .before .before .before .before .before .before .before .before in (
       s .pre .0,
@@ -78,7 +78,7 @@ further-run-spec =
     (λ c. search needs)  -- enum-told
     (λ c κs. search needs)  -- refused-requires
     (λ c.
-    let s = c .before .before .before .before .before .before .before .before .before .before .before .before .before .before .before .before .before .before .before .before .before .before .before .before .before .before .before .before .before .before in
+    let s = c .before .before .before .before .before .before .before .before .before .before .before .before .before .before .before .before .before .before .before .before .before .before .before .before .before .before .before .before .before .before .before in
     let a = s .args in
     let b = c .before .before .before .before .before .before .before .before .before .before .before .before .before .before .before in
     let q = c .before .before .before .before .before .go-on in
@@ -89,7 +89,7 @@ further-run-spec =
     (λ c. search needs)  -- slice-aggregate-conclude
     (λ c. search needs)  -- slice-aggregate-conclude-2
     (λ c κs.
-    let s = c .before .before .before .before .before .before .before .before .before .before .before .before .before .before .before .before .before .before .before .before .before .before .before .before .before .before .before .before .before .before .before .before .before in
+    let s = c .before .before .before .before .before .before .before .before .before .before .before .before .before .before .before .before .before .before .before .before .before .before .before .before .before .before .before .before .before .before .before .before .before .before in
     let a = s .args in
     let q = c .before .before .before .before .before .before .before .before .go-on in
     let g = c .before .before .before .before .went .given in
@@ -110,7 +110,7 @@ further-run-spec =
     ))  -- conclude-requires
     (λ c. search needs)  -- same-length
     (λ c.
-    let s = c .before .before .before .before .before .before .before .before .before .before .before .before .before .before .before .before .before .before .before .before .before .before .before .before .before .before .before .before .before .before .before .before .before .before .before .before in
+    let s = c .before .before .before .before .before .before .before .before .before .before .before .before .before .before .before .before .before .before .before .before .before .before .before .before .before .before .before .before .before .before .before .before .before .before .before .before .before in
     let a = s .args in
     let b = c .before .before .before .before .before .before .before .before .before .before .before .before .before .before .before .before .before .before .before .before .before in
     let q = c .before .before .before .before .before .before .before .before .before .before .before .go-on in

@@ -24,9 +24,9 @@ none-entered s = ap deepestAt (s .pre .1 .1) ∙ omega (arith, zeros-at 9227 922
 flags : (s : tie.Start) → length (take 2050 (s .args .facts .now)) ≡ 2050
 flags s = length-take-le 2050 (s .args .facts .now) (omega (arith, s .pre .1 .0))
 
-room : (z : tie.After-zero) → length (z .zero .last .0 ++ drop 2050 (z .before .before .before .before .before .before .args .facts .now)) ≡ length (z .before .before .before .before .before .before .args .facts .now)
+room : (z : tie.After-zero) → length (z .zero .last .0 ++ drop 2050 (z .before .before .before .before .before .before .before .args .facts .now)) ≡ length (z .before .before .before .before .before .before .before .args .facts .now)
 room z =
-    let s = z .before .before .before .before .before .before in
+    let s = z .before .before .before .before .before .before .before in
     put-size 2050 (length (s .args .facts .now)) (omega (arith, s .pre .1 .0)) (s .args .facts .now) refl (z .zero .last .0) (z .zero .kept .0 ∙ flags s)
 
 pub walk-whole-spec : {M : Type 1} → statement M
@@ -34,11 +34,11 @@ walk-whole-spec =
     tie.close
     (tie.spec
     (λ c κs. search needs)  -- build-requires
-    (λ c. let s = c .before .before .before .before in omega (arith, s .pre .1 .0))  -- slice-relend-prefix-zero
-    (λ c. sym (flags (c .before .before .before .before .before)))  -- slice-aggregate-zero
+    (λ c. let s = c .before .before .before .before .before in omega (arith, s .pre .1 .0))  -- slice-relend-prefix-zero
+    (λ c. sym (flags (c .before .before .before .before .before .before)))  -- slice-aggregate-zero
     (λ c κs. search needs)  -- zero-requires
     (λ c κs.
-    let s = c .before .before .before .before .before .before .before .before .before .before .before in
+    let s = c .before .before .before .before .before .before .before .before .before .before .before .before in
     let z = c .before .before .before .before .before .zero in (
       s .pre .0,
       (
@@ -47,17 +47,17 @@ walk-whole-spec =
       ),
     ))  -- root-requires
     (λ c κs.
-    let s = c .before .before .before .before .before .before .before .before .before .before .before .before .before .before .before .before .before in
+    let s = c .before .before .before .before .before .before .before .before .before .before .before .before .before .before .before .before .before .before in
     let b = c .before .before .before .before .before .root in
     (s .pre .0, (b .last .1 .1 .0, b .ensures .0)))  -- root-alternatives-requires
     (λ c κs.
-    let s = c .before .before .before .before .before .before .before .before .before .before .before .before .before .before .before .before .before .before .before .before .before in
+    let s = c .before .before .before .before .before .before .before .before .before .before .before .before .before .before .before .before .before .before .before .before .before .before in
     let b = c .before .before .before .before .before .before .before .before .before .root in
     (s .pre .0, ((c .before .before .before .before .before .before .before .before .before .before .before .before .before .before .before .before .before) .build .ensures, (b .ensures .0, b .ensures .1))))  -- from-root-requires
     (λ c. search needs)  -- same-length
     (λ c. search needs)  -- same-length-2
     (λ c.
-    let s = c .before .before .before .before .before .before .before .before .before .before .before .before .before .before .before .before .before .before .before .before .before .before .before .before .before .before in
+    let s = c .before .before .before .before .before .before .before .before .before .before .before .before .before .before .before .before .before .before .before .before .before .before .before .before .before .before .before in
     let b = c .before .before .before .before .before .before .before .before .before .before .before .before .before .before .root in
     let w = magicWalker (s .args .rules .now) in
     let f = c .before .before .before .before .from-root in (
