@@ -71,7 +71,7 @@ module _ (tb rules answer work₁ work₂ : List ℕ) (taken : BothTaken tb rule
       places
       same
 
-  outcomes : outcome (findIn bs) (limitLent tb) ≡ outcome (findR p) (limitLent tb)
+  pub outcomes : outcome (findIn bs) (limitLent tb) ≡ outcome (findR p) (limitLent tb)
   outcomes = ap (λ (f : List ℕ → Found Instance). outcome f (limitLent tb)) find-is ∙ one .outcomes
 
   -- a first run by either engine
@@ -89,7 +89,7 @@ module _ (tb rules answer work₁ work₂ : List ℕ) (taken : BothTaken tb rule
       ∙ ap (λ (f : List ℕ → Found Instance). (firstSession f (limitLent tb)) .deepest) find-is
       ∙ ap (λ (s : Session). s .deepest) (first-run true .session-is)
 
-  demand-3 : OneWalk tb rules answer work₁ work₂ bs
+  pub demand-3 : OneWalk tb rules answer work₁ work₂ bs
   demand-3 =
       let verdict₁ = relevancy.verdict-is tb answer work₁ (taken .by-relevancy) in
       let answer₁ = relevancy.answer-is tb answer work₁ (taken .by-relevancy) in

@@ -1,5 +1,6 @@
 pub mod Narrow
 pub mod CallLaws
+pub mod AssumeLaws
 pub mod Theorems
 pub mod LocalLaws
 pub mod SessionLaws

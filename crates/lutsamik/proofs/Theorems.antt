@@ -37,6 +37,7 @@ use Rattle.magic.specs.Sessions.{magicBegun, magicResumed}
 use Rattle.magic.proofs.Theorems.{theorems as magic}
 use Rattle.lutsamik.specs.Pack.{packed, packReading, packWriting, packOffering, packJudging, packHolding, withDeepest, packVerdict, packRewriting, unpacked, asReading, asWriting, asOffering, violatedBy, asJudging, asHolding, verdictBy, asVerdict, asRewriting}
 use Rattle.lutsamik.specs.Claims.{Narrow, VerdictBack, Theorems}
+use Rattle.lutsamik.proofs.AssumeLaws.{relevancy-assumed-back, magic-assumed-back}
 use Rattle.lutsamik.proofs.Narrow.{NarrowReading, NarrowWriting, NarrowOffering, NarrowJudging, NarrowHolding, NarrowCall, NarrowRewriting, narrow-reading, narrow-writing, narrow-offer, narrow-set, narrow-judging, narrow-holding, narrow-begun, narrow-resumed, narrow-magic-begun, narrow-magic-resumed, narrow-rewriting}
 
 -- a part of a number, between what stands above it and what stands below
@@ -131,4 +132,6 @@ theorems =
           (call-back (magicBegun tb rules answer work) (narrow-magic-begun tb answer work rules));
       relevancy-resumed-back = λ r further tb answer work. call-back (resumed r further tb answer work) (narrow-resumed tb answer work r further);
       magic-resumed-back = λ r further tb rules answer work. call-back (magicResumed r further tb rules answer work) (narrow-magic-resumed tb answer work rules r further);
+      relevancy-assumed-back = relevancy-assumed-back;
+      magic-assumed-back = magic-assumed-back;
     }

@@ -16,7 +16,9 @@ use Rattle.relevancy.specs.Engine.{fitResult, fitDeepest}
 use Rattle.relevancy.specs.Sessions.{resumed}
 use Rattle.magic.specs.Engine.{magicResult, magicDeepest}
 use Rattle.magic.specs.Sessions.{magicResumed}
-use Rattle.lutsamik.specs.Pack.{packed, packReading, packWriting, packOffering, packJudging, packHolding, packVerdict, packRewriting, unpacked, deepestOf, asReading, asWriting, asOffering, asJudging, asHolding, asVerdict, asRewriting}
+use Rattle.assuming.specs.Assume.{assumedOf}
+use Rattle.assuming.specs.Engines.{relevancyRuns, magicRuns}
+use Rattle.lutsamik.specs.Pack.{packed, packReading, packWriting, packOffering, packJudging, packHolding, packVerdict, packRewriting, packAssumed, unpacked, deepestOf, asReading, asWriting, asOffering, asJudging, asHolding, asVerdict, asRewriting, asAssumed}
 
 -- numbers that have room in their bits
 pub record Narrow (a : Numbers) : Type 0 where
@@ -47,3 +49,7 @@ pub record Theorems : Type 0 where
       → VerdictBack (verdictTold (resumed r further tb answer work)) (deepestTold (resumed r further tb answer work))
   pub magic-resumed-back : (r : Record) (further : ℕ) (tb rules answer work : List ℕ)
       → VerdictBack (verdictTold (magicResumed r further tb rules answer work)) (deepestTold (magicResumed r further tb rules answer work))
+  -- the calls with assumptions
+  pub relevancy-assumed-back : (tb facts answer work : List ℕ) → asAssumed (unpacked (packAssumed (assumedOf (relevancyRuns tb facts answer work)))) ≡ assumedOf (relevancyRuns tb facts answer work)
+  pub magic-assumed-back : (tb facts rules answer work : List ℕ)
+      → asAssumed (unpacked (packAssumed (assumedOf (magicRuns tb facts rules answer work)))) ≡ assumedOf (magicRuns tb facts rules answer work)

@@ -28,6 +28,9 @@ use Rattle.rewriting.specs.Rewrite.{rewritingNumbers}
 use Rattle.ground.specs.declared.verdict.Verdict.{Verdict}
 use Rattle.ground.specs.declared.verdict.Verdict.the-variants as verdict
 use Rattle.ground.specs.Verdict.{verdictNumbers}
+use Rattle.assuming.specs.declared.assume.Assumed.{Assumed}
+use Rattle.assuming.specs.declared.assume.Assumed.the-variants as assumed
+use Rattle.assuming.specs.Assume.{assumedNumbers}
 
 abbrev pub packed : Numbers → ℕ
 packed a = a .refusal + 256 * a .number + 16777216 * a .clause + 4294967296 * a .value
@@ -59,6 +62,9 @@ packVerdict (verdict.Exhausted n) d = withDeepest (verdictNumbers (verdict.Exhau
 
 abbrev pub packRewriting : Rewriting → ℕ
 packRewriting r = packed (rewritingNumbers r)
+
+abbrev pub packAssumed : Assumed → ℕ
+packAssumed a = packed (assumedNumbers a)
 
 -- The parts of a number, as a host takes them out, and what they say
 abbrev pub unpacked : ℕ → Numbers
@@ -100,3 +106,12 @@ asVerdict a = cond (eqb (a .refusal) 0) (verdictBy (a .number) (a .value)) (verd
 
 abbrev pub asRewriting : Numbers → Rewriting
 asRewriting a = cond (eqb (a .refusal) 0) (rewriting.Rewritten (a .value)) (rewriting.Refused (a .refusal))
+
+abbrev pub assumedBy : ℕ → Assumed
+assumedBy zero = assumed.Always
+assumedBy (suc zero) = assumed.Never
+assumedBy (suc (suc zero)) = assumed.Exhausted
+assumedBy (suc (suc (suc k))) = assumed.Sometimes
+
+abbrev pub asAssumed : Numbers → Assumed
+asAssumed a = cond (eqb (a .refusal) 0) (assumedBy (a .number)) (assumed.Refused (a .refusal))

@@ -1,4 +1,5 @@
 // The operations, for a host in C: numbers and byte slices go in, and one number comes back.
+pub mod assume;
 pub mod calls;
 
 use ground::verdict::Verdict;
