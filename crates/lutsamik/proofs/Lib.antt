@@ -4,3 +4,4 @@ pub mod AssumeLaws
 pub mod Theorems
 pub mod LocalLaws
 pub mod SessionLaws
+pub mod PartsLaws

@@ -38,6 +38,7 @@ use Rattle.magic.proofs.Theorems.{theorems as magic}
 use Rattle.lutsamik.specs.Pack.{packed, packReading, packWriting, packOffering, packJudging, packHolding, withDeepest, packVerdict, packRewriting, unpacked, asReading, asWriting, asOffering, violatedBy, asJudging, asHolding, verdictBy, asVerdict, asRewriting}
 use Rattle.lutsamik.specs.Claims.{Narrow, VerdictBack, Theorems}
 use Rattle.lutsamik.proofs.AssumeLaws.{relevancy-assumed-back, magic-assumed-back}
+use Rattle.lutsamik.proofs.PartsLaws.{parted-back}
 use Rattle.lutsamik.proofs.Narrow.{NarrowReading, NarrowWriting, NarrowOffering, NarrowJudging, NarrowHolding, NarrowCall, NarrowRewriting, narrow-reading, narrow-writing, narrow-offer, narrow-set, narrow-judging, narrow-holding, narrow-begun, narrow-resumed, narrow-magic-begun, narrow-magic-resumed, narrow-rewriting}
 
 -- a part of a number, between what stands above it and what stands below
@@ -134,4 +135,5 @@ theorems =
       magic-resumed-back = λ r further tb rules answer work. call-back (magicResumed r further tb rules answer work) (narrow-magic-resumed tb answer work rules r further);
       relevancy-assumed-back = relevancy-assumed-back;
       magic-assumed-back = magic-assumed-back;
+      parted-back = parted-back;
     }

@@ -1,5 +1,6 @@
 -- Packing loses nothing: the number that an operation gives back, taken apart, is its answer. `proofs/Theorems.antt` proves `Theorems`.
 use Prim.Native.Nat.{ℕ, _<_}
+use mathlib.Core.Bool.{Bool}
 use mathlib.Core.List.{List}
 use mathlib.Core.Path.{_≡_}
 use Rattle.problem.specs.Numbers.{Numbers}
@@ -18,7 +19,8 @@ use Rattle.magic.specs.Engine.{magicResult, magicDeepest}
 use Rattle.magic.specs.Sessions.{magicResumed}
 use Rattle.assuming.specs.Assume.{assumedOf}
 use Rattle.assuming.specs.Engines.{relevancyRuns, magicRuns}
-use Rattle.lutsamik.specs.Pack.{packed, packReading, packWriting, packOffering, packJudging, packHolding, packVerdict, packRewriting, packAssumed, unpacked, deepestOf, asReading, asWriting, asOffering, asJudging, asHolding, asVerdict, asRewriting, asAssumed}
+use Rattle.parting.specs.Runs.{partsResult}
+use Rattle.lutsamik.specs.Pack.{packed, packReading, packWriting, packOffering, packJudging, packHolding, packVerdict, packRewriting, packAssumed, packParting, unpacked, deepestOf, asReading, asWriting, asOffering, asJudging, asHolding, asVerdict, asRewriting, asAssumed, asParting}
 
 -- numbers that have room in their bits
 pub record Narrow (a : Numbers) : Type 0 where
@@ -53,3 +55,5 @@ pub record Theorems : Type 0 where
   pub relevancy-assumed-back : (tb facts answer work : List ℕ) → asAssumed (unpacked (packAssumed (assumedOf (relevancyRuns tb facts answer work)))) ≡ assumedOf (relevancyRuns tb facts answer work)
   pub magic-assumed-back : (tb facts rules answer work : List ℕ)
       → asAssumed (unpacked (packAssumed (assumedOf (magicRuns tb facts rules answer work)))) ≡ assumedOf (magicRuns tb facts rules answer work)
+  -- the calls by parts, of either engine, whether or not a lent buffer is too short
+  pub parted-back : (magic short : Bool) (tb : List ℕ) → asParting (unpacked (packParting (partsResult magic short tb))) ≡ partsResult magic short tb

@@ -31,6 +31,9 @@ use Rattle.ground.specs.Verdict.{verdictNumbers}
 use Rattle.assuming.specs.declared.assume.Assumed.{Assumed}
 use Rattle.assuming.specs.declared.assume.Assumed.the-variants as assumed
 use Rattle.assuming.specs.Assume.{assumedNumbers}
+use Rattle.parting.specs.declared.parts.Parting.{Parting}
+use Rattle.parting.specs.declared.parts.Parting.the-variants as parting
+use Rattle.parting.specs.Runs.{partingNumbers}
 
 abbrev pub packed : Numbers → ℕ
 packed a = a .refusal + 256 * a .number + 16777216 * a .clause + 4294967296 * a .value
@@ -65,6 +68,10 @@ packRewriting r = packed (rewritingNumbers r)
 
 abbrev pub packAssumed : Assumed → ℕ
 packAssumed a = packed (assumedNumbers a)
+
+-- of the calls by parts; the sum of the counts goes into a lent number
+abbrev pub packParting : Parting → ℕ
+packParting p = packed (partingNumbers p)
 
 -- The parts of a number, as a host takes them out, and what they say
 abbrev pub unpacked : ℕ → Numbers
@@ -115,3 +122,11 @@ assumedBy (suc (suc (suc k))) = assumed.Sometimes
 
 abbrev pub asAssumed : Numbers → Assumed
 asAssumed a = cond (eqb (a .refusal) 0) (assumedBy (a .number)) (assumed.Refused (a .refusal))
+
+abbrev pub partingBy : ℕ → Parting
+partingBy zero = parting.Refuted
+partingBy (suc zero) = parting.Satisfied
+partingBy (suc (suc k)) = parting.Exhausted
+
+abbrev pub asParting : Numbers → Parting
+asParting a = cond (eqb (a .refusal) 0) (partingBy (a .number)) (parting.Refused (a .refusal))

@@ -1,6 +1,7 @@
 // The operations, for a host in C: numbers and byte slices go in, and one number comes back.
 pub mod assume;
 pub mod calls;
+pub mod parts;
 
 use ground::verdict::Verdict;
 use ground::verdict::number_of;

@@ -1,0 +1,5 @@
+pub mod Parts
+pub mod Runs
+pub mod Claims
+pub mod contracts
+pub mod Listed
