@@ -45,7 +45,8 @@ fn further_run(
     bring(&mut path, session.deepest as usize);
     let found = root(table, &conds, &alts, &mut facts, &mut path);
     let used = root_alternatives(table, &path, found);
-    let new = relevancy_node::sweep::build(table, &facts, 0 < used);
+    let mut new = [0u16; 1409];
+    relevancy_node::sweep::build(table, &facts, 0 < used, &mut new);
     let on = Onward {
         standing: session.verdict,
         next: session.next,

@@ -30,7 +30,8 @@ pub fn walk_whole(table: &[u8], facts: &mut [u8], path: &mut [u8], limit: u32) -
     lists::zero(&mut facts[..2050]);
     let found = root(table, &conds, &alts, facts, path);
     let used = root_alternatives(table, path, found);
-    let new = relevancy_node::sweep::build(table, facts, 0 < used);
+    let mut new = [0u16; 1409];
+    relevancy_node::sweep::build(table, facts, 0 < used, &mut new);
     let walked = from_root(table, &conds, &alts, &new, facts, path, found, limit);
     Whole {
         walked: walked,

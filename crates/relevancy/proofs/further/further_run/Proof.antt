@@ -69,30 +69,31 @@ further-run-spec =
     (λ c. search needs)  -- slice-aggregate-root-alternatives
     (λ c κs. let s = c .before .before .before .before .before .before .before .before .before .before .before .before .before .before .before .before .before .before .before .before .before in let b = c .before .before .before .root in (s .pre .0, (b .last .1 .1 .1 .0, b .ensures .0)))  -- root-alternatives-requires
     (λ c. search needs)  -- slice-aggregate-build
+    (λ c. search needs)  -- slice-aggregate-build-2
     (λ c κs.
-    let s = c .before .before .before .before .before .before .before .before .before .before .before .before .before .before .before .before .before .before .before .before .before .before .before in
-    let b = c .before .before .before .before .before .root in
-    (s .pre .0, (zeros-long (b .last .1 .1 .1 .0) 6150 (b .kept .1 .1 .1 .0), root-flags (s .args .table .now) (s .pre .0) _ (b .last .1 .1 .1 .0) (b .last .1 .1 .1 .1 .0) (b .ensures .0))))  -- build-requires-3
+    let s = c .before .before .before .before .before .before .before .before .before .before .before .before .before .before .before .before .before .before .before .before .before .before .before .before in
+    let b = c .before .before .before .before .before .before .root in
+    (s .pre .0, ((zeros-long (b .last .1 .1 .1 .0) 6150 (b .kept .1 .1 .1 .0), root-flags (s .args .table .now) (s .pre .0) _ (b .last .1 .1 .1 .0) (b .last .1 .1 .1 .1 .0) (b .ensures .0)), refl)))  -- build-requires-3
     (λ c. search needs)  -- slice-aggregate-go-on
     (λ c. search needs)  -- slice-aggregate-go-on-2
-    (λ c. sym (long-atoms (c .before .before .before .before .before .before .before .before .before .before .before .before .before .before .before .before .before .before .before .before .before .before .before .before .before .before .before .before .before .before)))  -- slice-aggregate-go-on-3
-    (λ c. sym (long-nexts (c .before .before .before .before .before .before .before .before .before .before .before .before .before .before .before .before .before .before .before .before .before .before .before .before .before .before .before .before .before .before .before)))  -- slice-aggregate-go-on-4
+    (λ c. sym (long-atoms (c .before .before .before .before .before .before .before .before .before .before .before .before .before .before .before .before .before .before .before .before .before .before .before .before .before .before .before .before .before .before .before .before)))  -- slice-aggregate-go-on-3
+    (λ c. sym (long-nexts (c .before .before .before .before .before .before .before .before .before .before .before .before .before .before .before .before .before .before .before .before .before .before .before .before .before .before .before .before .before .before .before .before .before)))  -- slice-aggregate-go-on-4
     (λ c κs.
-    let s = c .before .before .before .before .before .before .before .before .before .before .before .before .before .before .before .before .before .before .before .before .before .before .before .before .before .before .before .before .before .before .before in
+    let s = c .before .before .before .before .before .before .before .before .before .before .before .before .before .before .before .before .before .before .before .before .before .before .before .before .before .before .before .before .before .before .before .before .before in
     let few = s .pre .1 .1 .0 in (
       s .pre .0,
       (
-        ((c .before .before .before .before .before .before .before .before .before .before .before .before .before .before .before .before .before .before .before .before .before .before .before .before .before .before .before) .build .ensures, (c .before .before .before .before .before .before .before .before .before .before .before .before .before .before .before .before .before .before .before .before .before .before .before .before .before .before) .build2 .ensures, (c .before .before .before .before .before .before .before) .build3 .ensures),
-        ((c .before .before .before .before .before .before .before .before .before .before .before .before .before) .root .ensures .0, ((omega (arith, few .1, long-atoms s), omega (arith, few .1, long-nexts s)), (omega (arith, s .pre .1 .1 .1 .0, brings (c .before .before .before .before .before .before .before .before .before .before .before .before .before)), omega arith))),
+        ((c .before .before .before .before .before .before .before .before .before .before .before .before .before .before .before .before .before .before .before .before .before .before .before .before .before .before .before .before .before) .build .ensures, (c .before .before .before .before .before .before .before .before .before .before .before .before .before .before .before .before .before .before .before .before .before .before .before .before .before .before .before .before) .build2 .ensures, (c .before .before .before .before .before .before .before .before) .build3 .ensures),
+        ((c .before .before .before .before .before .before .before .before .before .before .before .before .before .before .before) .root .ensures .0, ((omega (arith, few .1, long-atoms s), omega (arith, few .1, long-nexts s)), (omega (arith, s .pre .1 .1 .1 .0, brings (c .before .before .before .before .before .before .before .before .before .before .before .before .before .before .before)), omega arith))),
       ),
     ))  -- go-on-requires
     (λ c. search needs)  -- enum-known-went
     (λ c. search needs)  -- enum-told
     (λ c κs. search needs)  -- refused-requires
     (λ c.
-    let s = c .before .before .before .before .before .before .before .before .before .before .before .before .before .before .before .before .before .before .before .before .before .before .before .before .before .before .before .before .before .before .before .before .before .before .before .before .before in
+    let s = c .before .before .before .before .before .before .before .before .before .before .before .before .before .before .before .before .before .before .before .before .before .before .before .before .before .before .before .before .before .before .before .before .before .before .before .before .before .before .before in
     let a = s .args in
-    let b = c .before .before .before .before .before .before .before .before .before .before .before .before .before .before .before .before .before .before .before in
+    let b = c .before .before .before .before .before .before .before .before .before .before .before .before .before .before .before .before .before .before .before .before .before in
     let q = c .before .before .before .before .before .go-on in
     left-refused (called s) (a .session) (a .answer .now) (a .work .now) 42
     (further-nowhere (relevancyWalker (a .table .now)) (atoms s) (a .session) (a .further) (kept s) (s .pre .1 .1 .0 .2) (deepestAt (b .root .last .1 .1 .1 .1 .0)) (brings b) (a .session .count + a .further)
@@ -102,16 +103,16 @@ further-run-spec =
     (λ c. search needs)  -- slice-aggregate-conclude
     (λ c. search needs)  -- slice-aggregate-conclude-2
     (λ c κs.
-    let s = c .before .before .before .before .before .before .before .before .before .before .before .before .before .before .before .before .before .before .before .before .before .before .before .before .before .before .before .before .before .before .before .before .before .before .before .before .before .before .before .before .before .before .before .before in
+    let s = c .before .before .before .before .before .before .before .before .before .before .before .before .before .before .before .before .before .before .before .before .before .before .before .before .before .before .before .before .before .before .before .before .before .before .before .before .before .before .before .before .before .before .before .before .before .before in
     let a = s .args in
-    let b = c .before .before .before .before .before .before .before .before .before .before .before .before .before .before .before .before .before .before .before .before .before .before .before .before .before .before in
+    let b = c .before .before .before .before .before .before .before .before .before .before .before .before .before .before .before .before .before .before .before .before .before .before .before .before .before .before .before .before in
     let q = c .before .before .before .before .before .before .before .before .before .before .before .before .go-on in
     let g = c .before .before .before .before .before .before .before .before .went .given in (
       s .pre .0,
       (
-        zeros-long (q .last .1 .1 .1 .1 .1 .0) 9227 (q .kept .1 .1 .1 .1 .1 .0 ∙ b .root .kept .1 .1 .1 .1 .0 ∙ (c .before .before .before .before .before .before .before .before .before .before .before .before .before .before .before .before .before .before .before .before .before .before .before .before .before .before .before .before .before .before .before .before) .bring .kept .0),
+        zeros-long (q .last .1 .1 .1 .1 .1 .0) 9227 (q .kept .1 .1 .1 .1 .1 .0 ∙ b .root .kept .1 .1 .1 .1 .0 ∙ (c .before .before .before .before .before .before .before .before .before .before .before .before .before .before .before .before .before .before .before .before .before .before .before .before .before .before .before .before .before .before .before .before .before .before) .bring .kept .0),
         (
-          (c .before .before .before .before .before .before .before .before .before .before .before .before .before .before .before .before .before .before .before .before .before .before) .root-alternatives .ensures,
+          (c .before .before .before .before .before .before .before .before .before .before .before .before .before .before .before .before .before .before .before .before .before .before .before .before) .root-alternatives .ensures,
           (
             (s .pre .1 .0 .0, zeros-long (q .last .1 .1 .1 .1 .0) 6150 (q .kept .1 .1 .1 .1 .0 ∙ b .root .kept .1 .1 .1 .0)),
             further-walks (relevancyWalker (a .table .now)) (atoms s) (a .session) (a .further) (kept s) (s .pre .1 .1 .0 .2) (deepestAt (b .root .last .1 .1 .1 .1 .0)) (brings b) (a .session .count + a .further)
@@ -123,9 +124,9 @@ further-run-spec =
     (λ c. search needs)  -- same-length
     (λ c. search needs)  -- same-length-2
     (λ c.
-    let s = c .before .before .before .before .before .before .before .before .before .before .before .before .before .before .before .before .before .before .before .before .before .before .before .before .before .before .before .before .before .before .before .before .before .before .before .before .before .before .before .before .before .before .before .before .before .before .before in
+    let s = c .before .before .before .before .before .before .before .before .before .before .before .before .before .before .before .before .before .before .before .before .before .before .before .before .before .before .before .before .before .before .before .before .before .before .before .before .before .before .before .before .before .before .before .before .before .before .before .before .before in
     let a = s .args in
-    let b = c .before .before .before .before .before .before .before .before .before .before .before .before .before .before .before .before .before .before .before .before .before .before .before .before .before .before .before .before .before in
+    let b = c .before .before .before .before .before .before .before .before .before .before .before .before .before .before .before .before .before .before .before .before .before .before .before .before .before .before .before .before .before .before .before in
     let q = c .before .before .before .before .before .before .before .before .before .before .before .before .before .before .before .go-on in
     let g = c .before .before .before .before .before .before .before .before .before .before .before .went .given in
     let z = c .before .before .before .before .before .before .before .before .zero in

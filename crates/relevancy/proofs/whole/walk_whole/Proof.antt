@@ -49,17 +49,18 @@ walk-whole-spec =
       ),
     ))  -- root-requires
     (λ c κs. let s = c .before .before .before .before .before .before .before .before .before .before .before .before .before .before .before .before .before .before .before in let b = c .before .before .before .before .before .root in (s .pre .0, (b .last .1 .1 .1 .0, b .ensures .0)))  -- root-alternatives-requires
+    (λ c. search needs)  -- slice-aggregate-build
     (λ c κs.
-    let s = c .before .before .before .before .before .before .before .before .before .before .before .before .before .before .before .before .before .before .before .before .before in
-    let b = c .before .before .before .before .before .before .before .root in
-    (s .pre .0, (b .kept .1 .1 .1 .0 ∙ room (c .before .before .before .before .before .before .before .before .before .before .before .before .before .before) ∙ s .pre .1 .0, root-flags (s .args .table .now) (s .pre .0) _ (b .last .1 .1 .1 .0) (b .last .1 .1 .1 .1 .0) (b .ensures .0))))  -- build-requires-3
-    (λ c κs. let s = c .before .before .before .before .before .before .before .before .before .before .before .before .before .before .before .before .before .before .before .before .before .before .before .before .before .before .before in (s .pre .0, (((c .before .before .before .before .before .before .before .before .before .before .before .before .before .before .before .before .before .before .before .before .before .before .before) .build .ensures, (c .before .before .before .before .before .before .before .before .before .before .before .before .before .before .before .before .before .before .before .before .before .before) .build2 .ensures, (c .before .before .before .before .before) .build3 .ensures), (c .before .before .before .before .before .before .before .before .before .before .before .before .before) .root .ensures .0)))  -- from-root-requires
-    (λ c. search needs)  -- same-length
-    (λ c. search needs)  -- same-length-2
+    let s = c .before .before .before .before .before .before .before .before .before .before .before .before .before .before .before .before .before .before .before .before .before .before in
+    let b = c .before .before .before .before .before .before .before .before .root in
+    (s .pre .0, ((b .kept .1 .1 .1 .0 ∙ room (c .before .before .before .before .before .before .before .before .before .before .before .before .before .before .before) ∙ s .pre .1 .0, root-flags (s .args .table .now) (s .pre .0) _ (b .last .1 .1 .1 .0) (b .last .1 .1 .1 .1 .0) (b .ensures .0)), refl)))  -- build-requires-3
+    (λ c κs. let s = c .before .before .before .before .before .before .before .before .before .before .before .before .before .before .before .before .before .before .before .before .before .before .before .before .before .before .before .before .before in (s .pre .0, (((c .before .before .before .before .before .before .before .before .before .before .before .before .before .before .before .before .before .before .before .before .before .before .before .before .before) .build .ensures, (c .before .before .before .before .before .before .before .before .before .before .before .before .before .before .before .before .before .before .before .before .before .before .before .before) .build2 .ensures, (c .before .before .before .before .before .before) .build3 .ensures), (c .before .before .before .before .before .before .before .before .before .before .before .before .before .before .before) .root .ensures .0)))  -- from-root-requires
+    (λ c. (c .before .before .before .before) .from-root .kept .1 .1 .1 .1 .0 ∙ (c .before .before .before .before .before .before .before .before .before .before .before .before .before .before .before .before .before .before .before .before) .root .kept .1 .1 .1 .0 ∙ room (c .before .before .before .before .before .before .before .before .before .before .before .before .before .before .before .before .before .before .before .before .before .before .before .before .before .before .before))  -- same-length
+    (λ c. (c .before .before .before .before) .from-root .kept .1 .1 .1 .1 .1 .0 ∙ (c .before .before .before .before .before .before .before .before .before .before .before .before .before .before .before .before .before .before .before .before) .root .kept .1 .1 .1 .1 .0)  -- same-length-2
     (λ c.
-    let s = c .before .before .before .before .before .before .before .before .before .before .before .before .before .before .before .before .before .before .before .before .before .before .before .before .before .before .before .before .before .before .before .before in
+    let s = c .before .before .before .before .before .before .before .before .before .before .before .before .before .before .before .before .before .before .before .before .before .before .before .before .before .before .before .before .before .before .before .before .before .before in
     let w = relevancyWalker (s .args .table .now) in
     let f = c .before .before .before .before .from-root in (
-      (c .before .before .before .before .before .before .before .before .before .before .before .before) .root-alternatives .ensures,
-      subst (λ (d : ℕ). Walks w (fromRoot w d (s .args .limit)) (f .result) (f .last .1 .1 .1 .1 .0) (f .last .1 .1 .1 .1 .1 .0)) ((c .before .before .before .before .before .before .before .before .before .before .before .before .before .before .before .before .before .before) .root .ensures .1 ∙ none-entered s) (f .ensures),
+      (c .before .before .before .before .before .before .before .before .before .before .before .before .before .before) .root-alternatives .ensures,
+      subst (λ (d : ℕ). Walks w (fromRoot w d (s .args .limit)) (f .result) (f .last .1 .1 .1 .1 .0) (f .last .1 .1 .1 .1 .1 .0)) ((c .before .before .before .before .before .before .before .before .before .before .before .before .before .before .before .before .before .before .before .before) .root .ensures .1 ∙ none-entered s) (f .ensures),
     )))  -- returns
