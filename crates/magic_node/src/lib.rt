@@ -7,3 +7,4 @@ pub mod node;
 pub mod plan;
 pub mod row;
 pub mod rule;
+pub mod simple;
