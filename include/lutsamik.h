@@ -1,5 +1,5 @@
-/* Lutsamik: reads and writes tickets, adds rules to them, fits them by two engines, in one go or in slices, rewrites
- * them, and judges answers to them.
+/* Lutsamik: reads and writes tickets, adds rules to them, fits them by two engines, in one go, in slices, by parts, or
+ * where facts are not yet known, rewrites them, and judges answers to them.
  *
  * Link with liblutsamik.a, for x86-64: `make install` puts it, this header and a pkg-config file in place.
  * The library keeps no state, takes no memory and calls nothing but memcpy and memset: an operation works on the
@@ -9,11 +9,14 @@
  * A byte slice is a pointer and then a length. All its bytes must be readable, and writable where the pointer is
  * not to const. The pointer must not be null, not even where the length is 0. A slice that is not const must not
  * overlap another one of the call. A session is lent by its address: it must be a whole struct lutsamik_session,
- * writable, and overlap nothing else of the call. Nothing checks this. All else is checked: no operation relies on
- * what the bytes are, and a buffer that is too short is refused.
+ * writable, and overlap nothing else of the call. Open facts are a slice of numbers: its length counts numbers and not
+ * bytes, it is aligned as they are, and its pointer must not be null either, not even for no fact. A number that is
+ * written to is lent by its address: it must be writable, aligned, and overlap nothing else of the call, so first and
+ * second are two. Nothing checks this. All else is checked: no operation relies on what the bytes or numbers are, and
+ * a buffer that is too short is refused.
  *
  * Each operation gives back one number, its result, which the functions at the end take apart. Look for a refusal
- * first. After a refusal each buffer, and the session too, holds what it held before the call. Otherwise:
+ * first. After a refusal each buffer, and each session or number lent, holds what it held before the call. Otherwise:
  *
  *   operation                 is lent                      refuses by     leaves
  *   lutsamik_read             text; writes table           11, 1 to 10    table: its 4,096 bytes, 0 where unused
@@ -39,6 +42,15 @@
  *                             session, answer, work
  *   lutsamik_resume_magic     table, session; writes       11, 31, 41, 42 as lutsamik_begin_magic does
  *                             session, rules, answer, work
+ *   lutsamik_assume_relevancy table, facts, answer;        11, 31, 5, 45  first, second: the count of each run;
+ *                             writes first, second, work                  work: 65,536 times 0
+ *   lutsamik_assume_magic     table, facts, answer;        11, 31, 5, 45  rules: as lutsamik_rewrite does, of the
+ *                             writes first, second,                       last run's ticket; the rest: as
+ *                             rules, work                                 lutsamik_assume_relevancy does
+ *   lutsamik_parts_relevancy  table; writes count, answer, 11, 31         count: the sum of the parts' counts;
+ *                             work                                        answer, work: as lutsamik_fit_relevancy
+ *   lutsamik_parts_magic      table; writes count, rules,  11, 31         rules: as lutsamik_rewrite does; the rest:
+ *                             answer, work                                as lutsamik_parts_relevancy does
  *
  * Refusals are looked for in the order given, but 1 to 10 as reading meets them in a line: 1, 2, byte by byte 3 to
  * 7, then 3 for bytes left over, then 8, 9, 10; a 65th clause is 5 right after 2. A rule that is offered or set is
@@ -57,6 +69,9 @@
  *   a first run by magic       52,000   67,000  150,000  482,000
  *   going on by relevancy      45,000   68,000  160,000  529,000
  *   going on by magic          72,000   88,000  174,000  518,000
+ *
+ * With open facts a call needs up to 16,000 more than a first run on a path of that length, and by parts up to 40,000
+ * more.
  */
 #ifndef LUTSAMIK_H
 #define LUTSAMIK_H
@@ -78,8 +93,8 @@ extern "C" {
 #define LUTSAMIK_ANSWER_BYTES 1024
 #define LUTSAMIK_WORK_BYTES 65536
 
-/* Refusals. 1 to 10 come from reading, and 2, 3, 5 to 8 and 10 from offering and setting a rule too; only reading's
- * 1 to 10 name a line of the text. */
+/* Refusals. 1 to 10 come from reading, and 2, 3, 5 to 8 and 10 from offering and setting a rule too, 5 also where open
+ * facts are lent; only reading's 1 to 10 name a line of the text. */
 enum {
     LUTSAMIK_OK = 0,                /* not refused */
     LUTSAMIK_BAD_LINE = 1,          /* no digits, an odd number, more than 70, a foreign byte, no 0A */
@@ -98,7 +113,8 @@ enum {
     LUTSAMIK_TOO_MANY_ENTRIES = 41, /* the session's count and the further limit together pass FFFFFFFF */
     LUTSAMIK_NO_SESSION = 42,       /* the session is none of the ticket's walk, by where it stands or by its figures */
     LUTSAMIK_STALE_SLIP = 43,       /* the slip's number of clauses is not the ticket's */
-    LUTSAMIK_NO_INSTANCE = 44       /* the ticket lacks the clause, or a value of its variables */
+    LUTSAMIK_NO_INSTANCE = 44,      /* the ticket lacks the clause, or a value of its variables */
+    LUTSAMIK_BAD_FACTS = 45         /* more than 16 open facts, an atom number of A or more, one repeated */
 };
 
 /* What an engine says of a ticket, its verdict. */
@@ -106,6 +122,14 @@ enum {
     LUTSAMIK_NONE = 0,  /* no set of atoms is a fitting */
     LUTSAMIK_FITS = 1,  /* the answer has a fitting */
     LUTSAMIK_SPENT = 2  /* the walk would make more entries than the limit allows */
+};
+
+/* What an engine says of a ticket with open facts, besides LUTSAMIK_SPENT: for which choices of the facts to add there
+ * is no fitting, whatever the limit. To add no fact is a choice, and to add all of them is one. */
+enum {
+    LUTSAMIK_NONE_ALWAYS = 0,   /* for each choice: no fitting exists, whichever facts are added */
+    LUTSAMIK_NONE_NEVER = 1,    /* for no choice: a fitting exists, whichever facts are added */
+    LUTSAMIK_NONE_WITH_SOME = 3 /* for some and not for all: a fitting exists without the facts, and none with all */
 };
 
 /* What judging says of an answer. */
@@ -261,6 +285,52 @@ uint64_t lutsamik_resume_magic(struct lutsamik_session *session, uint32_t furthe
                                size_t table_len, uint8_t *rules, size_t rules_len, uint8_t *answer, size_t answer_len,
                                uint8_t *work, size_t work_len);
 
+/* Says, by the relevancy engine, whether the ticket in a table has a fitting where some facts are not yet known. These
+ * open facts are numbers of atoms, as lutsamik_judge numbers them: 16 at most, in any order, each below A and none
+ * twice; there may be none.
+ *
+ * The ticket by itself is run first, then with all the facts, each as a clause without conditions after the ticket's
+ * own, in the order lent; both under the ticket's limit. Where the first run ends in none, the second is not made.
+ * lutsamik_assumed says LUTSAMIK_NONE_ALWAYS where the first run ends in none, LUTSAMIK_NONE_WITH_SOME where the first
+ * fits and the second ends in none, LUTSAMIK_NONE_NEVER where both fit, and LUTSAMIK_SPENT where a run is spent that is
+ * made, whatever the other says. The first three are right for all choices of the facts to add, though two of them are
+ * tried. first is left the number of entries that the first run made, and second that of the second run, 0 where it is
+ * not made. The answer is lent as to a first run and is not written to: no fitting is left.
+ *
+ * LUTSAMIK_BAD_COUNT is for a ticket whose clauses and the facts are more than 64 together, and comes before
+ * LUTSAMIK_BAD_FACTS, which is for more than 16 facts, a number of A or more, and a number that stands there twice. */
+uint64_t lutsamik_assume_relevancy(const uint8_t *table, size_t table_len, const uint32_t *facts, size_t facts_len,
+                                   uint32_t *first, uint32_t *second, const uint8_t *answer, size_t answer_len,
+                                   uint8_t *work, size_t work_len);
+
+/* The same by the magic engine. Refusal, what is said and both counts are those of lutsamik_assume_relevancy; the rules
+ * are those that lutsamik_rewrite writes for the ticket of the last run that is made, so with a clause for each fact
+ * unless the ticket by itself ends in none. */
+uint64_t lutsamik_assume_magic(const uint8_t *table, size_t table_len, const uint32_t *facts, size_t facts_len,
+                               uint32_t *first, uint32_t *second, uint8_t *rules, size_t rules_len,
+                               const uint8_t *answer, size_t answer_len, uint8_t *work, size_t work_len);
+
+/* Fits the ticket in a table part by part, by the relevancy engine, so that unrelated families of rules are not
+ * searched as one.
+ *
+ * Two clauses belong together if they share a predicate, directly or through other clauses; a part is the clauses that
+ * belong together, a clause without atoms is a part of its own, and so is a predicate in no clause, which fits. Parts
+ * run one after another: clauses without atoms first, then by their lowest predicate. Each has all constants and atoms
+ * of the ticket, and the full limit. The first part that ends in none ends the call, and lutsamik_verdict says
+ * LUTSAMIK_NONE; failing that it says LUTSAMIK_SPENT where a part is spent, after the parts behind it were run too,
+ * and else LUTSAMIK_FITS. Then the answer has each atom as the fitting of its predicate's part has it, and that is a
+ * fitting of the whole ticket; LUTSAMIK_NONE is right for the whole ticket too. The other two leave the answer as it
+ * was, though parts before may have fitted. count is left the sum of the entries that the runs made: it may pass what
+ * lutsamik_count holds, which is 0 here, as is lutsamik_deepest. A ticket that is spent as a whole may fit or end in
+ * none by parts. */
+uint64_t lutsamik_parts_relevancy(const uint8_t *table, size_t table_len, uint64_t *count, uint8_t *answer,
+                                  size_t answer_len, uint8_t *work, size_t work_len);
+
+/* The same by the magic engine. Refusal, verdict, count and answer are those of lutsamik_parts_relevancy; the rules are
+ * those that lutsamik_rewrite writes for the whole ticket, whatever the verdict. */
+uint64_t lutsamik_parts_magic(const uint8_t *table, size_t table_len, uint64_t *count, uint8_t *rules, size_t rules_len,
+                              uint8_t *answer, size_t answer_len, uint8_t *work, size_t work_len);
+
 /* A result taken apart. Bits 0 to 7: the refusal, or LUTSAMIK_OK. Ask for it first: what the other functions say of
  * a refused result, but for lutsamik_line, means nothing (lutsamik_verdict would say LUTSAMIK_NONE). */
 static inline unsigned lutsamik_refusal(uint64_t result) { return (unsigned)(result & 0xFF); }
@@ -275,7 +345,7 @@ static inline uint32_t lutsamik_written(uint64_t result) { return (uint32_t)(res
 /* Bits 32 to 63 of a rewriting: the number of rules. */
 static inline uint32_t lutsamik_rules(uint64_t result) { return (uint32_t)(result >> 32); }
 
-/* Bits 8 to 15 of an engine's result: LUTSAMIK_NONE, LUTSAMIK_FITS or LUTSAMIK_SPENT. */
+/* Bits 8 to 15 of an engine's result, by parts too: LUTSAMIK_NONE, LUTSAMIK_FITS or LUTSAMIK_SPENT. */
 static inline unsigned lutsamik_verdict(uint64_t result) { return (unsigned)(result >> 8 & 0xFF); }
 
 /* Bits 16 to 31 of an engine's result: how many entries the longest path had that was entered, A at most; with a
@@ -285,6 +355,10 @@ static inline uint32_t lutsamik_deepest(uint64_t result) { return (uint32_t)(res
 /* Bits 32 to 63 of an engine's result: the number of search entries made, the root not among them; with a session, in
  * all calls since the first run. */
 static inline uint32_t lutsamik_count(uint64_t result) { return (uint32_t)(result >> 32); }
+
+/* Bits 8 to 15 of a result with open facts: LUTSAMIK_NONE_ALWAYS, LUTSAMIK_NONE_WITH_SOME, LUTSAMIK_NONE_NEVER or
+ * LUTSAMIK_SPENT. There is nothing above them. */
+static inline unsigned lutsamik_assumed(uint64_t result) { return (unsigned)(result >> 8 & 0xFF); }
 
 /* Bits 8 to 15 of a judging: LUTSAMIK_FITTING or LUTSAMIK_VIOLATED. */
 static inline unsigned lutsamik_judged(uint64_t result) { return (unsigned)(result >> 8 & 0xFF); }

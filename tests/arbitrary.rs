@@ -169,6 +169,36 @@ fn number(random: &mut Random, many: usize) -> u32 {
     if random.below(8) > 0 { below } else { random.pick(&[many, many + 1, many + 31, 255, 256, 256 + below, 0x1_0000 + below, 0x8000_0000, u32::MAX]) }
 }
 
+/// Open facts for this ticket, mostly a few atoms of it, each once: in one of four cases with a number too many, of no atom, or again, or with many more.
+pub fn facts(random: &mut Random, ticket: Option<&Ticket>) -> Vec<u32> {
+    let (atoms, clauses) = ticket.map_or((6, 8), |ticket| (ticket.atoms() as usize, ticket.clauses.len()));
+    let mut facts: Vec<u32> = Vec::new();
+    for _ in 0..random.pick(&[0, 1, 1, 2, 2, 3, 3, 4, 6, 16, 24]).min(atoms) {
+        let fact = random.below(atoms) as u32;
+        if facts.len() < 16 && !facts.contains(&fact) {
+            facts.push(fact);
+        }
+    }
+    if random.below(4) > 0 {
+        return facts;
+    }
+    let at = random.below(facts.len() + 1);
+    let no_atom = number_from(random, atoms);
+    match random.below(5) {
+        0 | 1 => facts.insert(at, no_atom),
+        2 if !facts.is_empty() => facts.insert(at, facts[random.below(facts.len())]),
+        3 => facts.resize_with(17, || random.below(atoms.max(1)) as u32),
+        _ => facts.resize_with((65 - clauses.min(64) + random.below(20)).max(17), || random.below(atoms.max(1)) as u32),
+    }
+    facts
+}
+
+/// A number from `many` on; of some the last byte or two are below it.
+fn number_from(random: &mut Random, many: usize) -> u32 {
+    let (below, many) = (random.below(many.max(1)) as u32, many as u32);
+    random.pick(&[many, many, many, many + 1, many + 100, 0x1_0000 + below, 0x0100_0000 + below, 0x8000_0000 + below, u32::MAX])
+}
+
 /// All the same, or all at random.
 pub fn bytes(random: &mut Random, len: usize) -> Vec<u8> {
     let mut bytes = vec![random.pick(&[0x00, 0x01, 0x0A, 0xFF]); len];

@@ -3,6 +3,7 @@
 //! written from documents 01 and 02 has it. Usage: fuzz [SECONDS [SEED]]. A day is drawn by its seed, the next day by the next one; where no seed
 //! is given, the clock gives the first. A failure names its day's seed, with which `fuzz 5 SEED` begins.
 mod arbitrary;
+mod assume;
 mod library;
 mod logic;
 mod magic;
@@ -10,6 +11,7 @@ mod mangle;
 mod memory;
 mod operations;
 mod oracle;
+mod parts;
 mod random;
 mod reference;
 mod report;
@@ -25,9 +27,9 @@ use library::SESSION;
 use memory::Memory;
 use operations::Buffer::{self, *};
 use operations::Operation::{self, *};
-use operations::{Lent, BUFFERS, OPERATIONS};
+use operations::{Lent, BUFFERS, NUMBER, OPERATIONS};
 use random::Random;
-use reference::TABLE;
+use reference::{Ticket, TABLE};
 use report::Report;
 use std::collections::BTreeMap;
 use std::time::{Duration, Instant, SystemTime, UNIX_EPOCH};
@@ -90,11 +92,11 @@ fn days(first: u64, end: Instant) -> Result<Met, Report> {
     Ok(met)
 }
 
-/// What a host's buffers hold, from call to call: each as much as is required, text and frame as much as they have, and MORE bytes. What is
-/// past a session is not lent.
+/// What a host's buffers hold, from call to call: each as much as is required, text, frame and facts as much as they have, and MORE bytes. What is
+/// past a session, facts or a count is not lent.
 struct Day {
     random: Random,
-    held: [Vec<u8>; 9],
+    held: [Vec<u8>; 13],
 }
 
 impl Day {
@@ -104,8 +106,8 @@ impl Day {
         Day { random, held }
     }
 
-    /// Each call goes by what the calls before have left, but a reading by another text, an offer mostly by another frame, and a setting by another
-    /// slip at times, as going on by another session; now and then something else is in a buffer.
+    /// Each call goes by what the calls before have left, but a reading by another text, an offer mostly by another frame, open facts mostly by others, and a
+    /// setting by another slip at times, as going on by another session; now and then something else is in a buffer.
     fn spend(&mut self, met: &mut Met) -> Result<(), Report> {
         for i in 0..CALLS_A_DAY {
             let operation = if i == 0 { Read } else { self.random.pick(&OPERATIONS) };
@@ -114,6 +116,7 @@ impl Day {
                 Offer if self.random.below(4) > 0 => self.put(Frame),
                 Set if self.random.once_in(2) => self.put(Slip),
                 ResumeRelevancy | ResumeMagic if self.random.once_in(2) => self.put(Session),
+                AssumeRelevancy | AssumeMagic if self.random.below(4) > 0 => self.put(Facts),
                 _ if self.random.once_in(3) => {
                     let buffer = self.random.pick(operation.buffers());
                     self.put(buffer);
@@ -127,7 +130,7 @@ impl Day {
 
     /// Something else in a buffer, and any bytes past what is required, or past the text or the frame.
     fn put(&mut self, buffer: Buffer) {
-        let ticket = if matches!(buffer, Frame | Slip | Session) { reference::ticket_in(&self.held[Table as usize][..TABLE]) } else { None };
+        let ticket = if matches!(buffer, Frame | Slip | Session | Facts) { reference::ticket_in(&self.held[Table as usize][..TABLE]) } else { None };
         let (random, held) = (&mut self.random, &mut self.held[buffer as usize]);
         held.truncate(held.len() - MORE);
         *held = match buffer {
@@ -137,6 +140,7 @@ impl Day {
             Answer => arbitrary::answer(random, held),
             Frame => arbitrary::frame(random, ticket.as_ref()),
             Slip => arbitrary::slip(random, held, ticket.as_ref()),
+            Facts => bytes_of(&arbitrary::facts(random, ticket.as_ref())),
             Session => tamper::any(random, held, ticket.map_or(FEW_ATOMS, |ticket| ticket.atoms() as u32)),
             _ => arbitrary::bytes(random, held.len()),
         };
@@ -145,7 +149,7 @@ impl Day {
 
     /// One call by the library, and what it must answer and leave.
     fn call(&mut self, operation: Operation, met: &mut Met) -> Result<(), Report> {
-        if matches!(operation, FitRelevancy | FitMagic | BeginRelevancy | BeginMagic) {
+        if matches!(operation, FitRelevancy | FitMagic | BeginRelevancy | BeginMagic | AssumeRelevancy | AssumeMagic | PartsRelevancy | PartsMagic) {
             self.cut_long_walk();
         }
         let lent = self.lend(operation, met);
@@ -159,11 +163,18 @@ impl Day {
         Ok(())
     }
 
-    /// Gives the ticket in the table, if there is one, a limit that stops a long walk.
+    /// Gives the ticket in the table, if there is one, a limit that stops a long walk, also where the facts are added, and of each part.
     fn cut_long_walk(&mut self) {
+        let held = &self.held[Facts as usize];
+        let facts: Vec<u32> = held[..held.len() - MORE].chunks(NUMBER).map(|bytes| u32::from_le_bytes(bytes.try_into().unwrap())).collect();
         let table = &mut self.held[Table as usize];
         if let Some(ticket) = reference::ticket_in(&table[..Table.required()]) {
-            table[4..8].copy_from_slice(&arbitrary::quick_limit(&ticket, LONG).to_be_bytes());
+            let added = if assume::refused(&ticket, &facts).is_none() { &facts[..] } else { &[] };
+            let mut tickets = vec![assume::with_facts(&ticket, added)];
+            tickets.extend(parts::parts(&ticket).into_iter().map(|part| part.ticket));
+            let quick = |ticket: &Ticket| arbitrary::quick_limit(ticket, LONG);
+            let limit = tickets.iter().map(quick).fold(quick(&ticket), u32::min);
+            table[4..8].copy_from_slice(&limit.to_be_bytes());
         }
     }
 
@@ -190,6 +201,11 @@ impl Day {
     }
 }
 
+/// The bytes of numbers.
+fn bytes_of(numbers: &[u32]) -> Vec<u8> {
+    numbers.iter().flat_map(|number| number.to_le_bytes()).collect()
+}
+
 /// The lengths near a required one.
 const LENGTHS: [&str; 6] = ["no byte", "one byte", "one byte less", "as required", "one byte more", "more"];
 const AS_REQUIRED: usize = 3;
@@ -201,7 +217,7 @@ fn length(required: usize, which: usize) -> usize {
 /// Which of them: any, or one that is enough.
 fn any_length(random: &mut Random, buffer: Buffer, near: bool) -> usize {
     match buffer {
-        Session => AS_REQUIRED,
+        _ if buffer.is_of_numbers() => AS_REQUIRED,
         _ if near => random.below(LENGTHS.len()),
         Text | Frame => AS_REQUIRED,
         _ => random.within(AS_REQUIRED, LENGTHS.len() - 1),
@@ -248,7 +264,7 @@ impl Met {
             let answers = names.chain(refusals_of(operation).iter().map(|refusal| named(*refusal)));
             let never = answers.filter(|name| !self.answers.contains_key(&(operation, name.clone())));
             missing.extend(never.map(|name| format!("{operation:?}: {name}")));
-            for buffer in operation.buffers().iter().filter(|buffer| **buffer != Session) {
+            for buffer in operation.buffers().iter().filter(|buffer| !buffer.is_of_numbers()) {
                 let never = (0..LENGTHS.len()).filter(|which| !self.lengths.contains_key(&(operation, *buffer, *which)));
                 missing.extend(never.map(|which| format!("{operation:?} with {buffer:?}: {}", LENGTHS[which])));
             }
@@ -260,8 +276,9 @@ impl Met {
 /// The answers that are no refusals, by their bits 8 to 15.
 fn said_by(operation: Operation) -> &'static [&'static str] {
     match operation {
-        FitRelevancy | FitMagic | BeginRelevancy | BeginMagic | ResumeRelevancy | ResumeMagic => &["none", "fits", "spent"],
+        FitRelevancy | FitMagic | BeginRelevancy | BeginMagic | ResumeRelevancy | ResumeMagic | PartsRelevancy | PartsMagic => &["none", "fits", "spent"],
         Judge => &["", "fitting", "violated"],
+        AssumeRelevancy | AssumeMagic => &["none always", "none never", "spent", "none with some"],
         _ => &["done"],
     }
 }
@@ -279,6 +296,7 @@ fn refusals_of(operation: Operation) -> &'static [u8] {
         Judge => &[11, 31, 32],
         Holding => &[11, 31, 32, 44],
         ResumeRelevancy | ResumeMagic => &[11, 31, 41, 42],
+        AssumeRelevancy | AssumeMagic => &[5, 11, 31, 45],
         _ => &[11, 31],
     }
 }

@@ -13,10 +13,21 @@ pub struct Host {
     pub work: Vec<u8>,
     pub slip: Vec<u8>,
     pub session: Session,
+    /// open facts, and the two counts that a call with them leaves
+    pub facts: Vec<u32>,
+    pub counts: [u32; 2],
+    /// what a call by parts leaves
+    pub count: u64,
 }
 
 /// The engines by name.
 pub const ENGINES: [(&str, fn(&mut Host) -> u64); 2] = [("relevancy", Host::fit_relevancy), ("magic", Host::fit_magic)];
+
+/// Their calls with open facts.
+pub const WITH_FACTS: [(&str, fn(&mut Host) -> u64); 2] = [("relevancy", Host::assume_relevancy), ("magic", Host::assume_magic)];
+
+/// Their calls by parts.
+pub const BY_PARTS: [(&str, fn(&mut Host) -> u64); 2] = [("relevancy", Host::parts_relevancy), ("magic", Host::parts_magic)];
 
 /// Their calls with a session: a first run, and going on with a further limit.
 pub type Begin = fn(&mut Host) -> u64;
@@ -28,7 +39,8 @@ impl Host {
     pub fn new() -> Host {
         let buffer = |len: usize| vec![0xEE; len];
         let (table, out, rules) = (buffer(TABLE), buffer(TEXT_OUT), buffer(RULES));
-        Host { table, out, rules, answer: buffer(ANSWER), work: buffer(WORK), slip: buffer(SLIP), session: Session::EMPTY }
+        let (answer, work, slip) = (buffer(ANSWER), buffer(WORK), buffer(SLIP));
+        Host { table, out, rules, answer, work, slip, session: Session::EMPTY, facts: Vec::new(), counts: [0xEEEE; 2], count: 0xEEEE }
     }
 
     pub fn read(&mut self, text: &[u8]) -> u64 {
@@ -73,6 +85,22 @@ impl Host {
 
     pub fn resume_magic(&mut self, further: u32) -> u64 {
         library::resume_magic(&mut self.session, further, &self.table, &mut self.rules, &mut self.answer, &mut self.work)
+    }
+
+    pub fn assume_relevancy(&mut self) -> u64 {
+        library::assume_relevancy(&self.table, &self.facts, self.counts.each_mut(), &self.answer, &mut self.work)
+    }
+
+    pub fn assume_magic(&mut self) -> u64 {
+        library::assume_magic(&self.table, &self.facts, self.counts.each_mut(), &mut self.rules, &self.answer, &mut self.work)
+    }
+
+    pub fn parts_relevancy(&mut self) -> u64 {
+        library::parts_relevancy(&self.table, &mut self.count, &mut self.answer, &mut self.work)
+    }
+
+    pub fn parts_magic(&mut self) -> u64 {
+        library::parts_magic(&self.table, &mut self.count, &mut self.rules, &mut self.answer, &mut self.work)
     }
 
     pub fn judge(&mut self) -> u64 {

@@ -41,7 +41,14 @@ static const struct known tickets[] = {
 /* The result with this in bits 8 to 15 and that in bits 32 to 63. */
 static uint64_t packed(unsigned low, size_t high) { return (uint64_t)low << 8 | (uint64_t)high << 32; }
 
-/* Each operation's result; judging and holding are asked for a fitting. */
+/* Without a fact: where the first run fits or is spent, the second is the same run again. */
+static unsigned assumed_of(const struct known *known) {
+    return known->verdict == LUTSAMIK_FITS   ? LUTSAMIK_NONE_NEVER
+           : known->verdict == LUTSAMIK_NONE ? LUTSAMIK_NONE_ALWAYS
+                                             : LUTSAMIK_SPENT;
+}
+
+/* Each operation's result; judging and holding are asked for a fitting, and no facts are open. */
 static uint64_t expected(enum operation operation, const struct lent *lent, const struct known *known) {
     switch (operation) {
     case READ:
@@ -56,6 +63,12 @@ static uint64_t expected(enum operation operation, const struct lent *lent, cons
         return lent->clause < known->clauses ? packed(0, known->hold) : LUTSAMIK_NO_INSTANCE;
     case REWRITE:
         return packed(0, known->rules);
+    case ASSUME_RELEVANCY:
+    case ASSUME_MAGIC:
+        return packed(assumed_of(known), 0);
+    case PARTS_RELEVANCY:
+    case PARTS_MAGIC:
+        return packed(known->verdict, 0);
     default:
         return packed(known->verdict, known->count) | known->deepest << 16;
     }
@@ -149,6 +162,42 @@ static void begins_and_resumes(struct lent *lent, const struct known *known) {
     check(as_kept(session), "the session stays", RESUME_MAGIC, lent, 0);
 }
 
+/* With no fact, or with these: what is said, and both counts. The answer stays, and work is zero. */
+static void assumes(enum operation engine, struct lent *lent, unsigned said, uint32_t first, uint32_t second) {
+    struct buffer *answer = &lent->of[ANSWER], *work = &lent->of[WORK];
+    memset(answer->bytes, FILL, answer->len);
+    memset(work->bytes, FILL, work->len);
+    forget(&lent->of[FIRST]);
+    forget(&lent->of[SECOND]);
+    keep(&lent->of[FACTS]);
+    uint64_t result = call(engine, lent);
+    check_result(packed(said, 0), engine, lent, result);
+    check(number_of(lent, FIRST) == first, "the first run has this count", engine, lent, result);
+    check(number_of(lent, SECOND) == second, "the second run has this count", engine, lent, result);
+    check(all(answer, 0, answer->len, FILL), "the answer stays", engine, lent, result);
+    check(all(work, 0, work->len, 0), "work is zero", engine, lent, result);
+    check(as_kept(&lent->of[TABLE]) && as_kept(&lent->of[FACTS]), "table and facts stay", engine, lent, result);
+}
+
+/* With no fact the rules are those of the ticket, which are kept, over the same filling. */
+static void assumes_nothing(struct lent *lent, const struct known *known) {
+    uint32_t second = known->verdict == LUTSAMIK_NONE ? 0 : known->count;
+    assumes(ASSUME_RELEVANCY, lent, assumed_of(known), known->count, second);
+    memset(lent->of[RULES].bytes, FILL, required[RULES]);
+    assumes(ASSUME_MAGIC, lent, assumed_of(known), known->count, second);
+    check(as_kept(&lent->of[RULES]), "the rules are those of rewriting", ASSUME_MAGIC, lent, 0);
+}
+
+/* By parts: the sum is the known count, which is the whole walk's where one part at most makes entries. */
+static void fits_by_parts(struct lent *lent, const struct known *known) {
+    forget(&lent->of[COUNT]);
+    fits(PARTS_RELEVANCY, lent, known);
+    check(sum_of(lent) == known->count, "the sum has the entries of all parts", PARTS_RELEVANCY, lent, 0);
+    forget(&lent->of[COUNT]);
+    fits_by_rules(PARTS_MAGIC, lent, known);
+    check(sum_of(lent) == known->count, "the sum has the entries of all parts", PARTS_MAGIC, lent, 0);
+}
+
 static void judges(enum operation operation, struct lent *lent, const struct known *known) {
     keep(&lent->of[ANSWER]);
     uint64_t result = answered(operation, lent, known);
@@ -225,6 +274,8 @@ static void goes_round(struct lent *lent, const struct known *known) {
     rewrites(lent, known);
     fits(RELEVANCY, lent, known);
     fits_by_rules(MAGIC, lent, known);
+    assumes_nothing(lent, known);
+    fits_by_parts(lent, known);
     begins_and_resumes(lent, known);
     if (known->verdict == LUTSAMIK_FITS) {
         judges(JUDGE, lent, known);
@@ -249,14 +300,94 @@ static void tries(const struct known *known) {
     goes_unwritten(WRITE, &lent, known);
     goes_unwritten(REWRITE, &lent, known);
     goes_unwritten(MAGIC, &lent, known);
-    goes_unwritten(RELEVANCY, &lent, known);
-    for (enum operation operation = BEGIN_RELEVANCY; operation <= RESUME_MAGIC; operation++)
+    for (enum operation operation = BEGIN_RELEVANCY; operation < OPERATIONS; operation++)
         goes_unwritten(operation, &lent, known);
+    goes_unwritten(RELEVANCY, &lent, known);
     if (known->verdict == LUTSAMIK_FITS) {
         goes_unwritten(JUDGE, &lent, known);
         goes_unwritten(HOLDING, &lent, known);
     }
     adds(&lent, known);
+    take_back(&lent);
+}
+
+/* Facts of K6, whose atoms 0 to 5 are 00 to 21, as predicate and argument; their rules, by digits, in the order lent. 01
+ * closes what 20 opens, 10 is denied, 20 leaves no split, and 00 is a fact already. */
+static const struct {
+    uint32_t facts[4];
+    size_t count;
+    unsigned said;
+    uint32_t second;
+    const char *rules[4];
+} open[] = {
+    {{1}, 1, LUTSAMIK_NONE_WITH_SOME, 2, {"0300010001"}},
+    {{2}, 1, LUTSAMIK_NONE_WITH_SOME, 0, {"0300010100"}},
+    {{4}, 1, LUTSAMIK_NONE_NEVER, 0, {"0300010200"}},
+    {{5, 0, 3, 4}, 4, LUTSAMIK_NONE_NEVER, 0, {"0300010201", "0300010000", "0300010101", "0300010200"}},
+    {{3, 0}, 2, LUTSAMIK_NONE_NEVER, 2, {"0300010101", "0300010000"}},
+};
+
+/* The rules are those that rewriting leaves for the ticket with the facts set one by one, over the same filling. */
+static void assumes_facts(void) {
+    static const struct known known = {.ticket = "K6"};
+    uint8_t before[LUTSAMIK_TABLE_BYTES];
+    struct lent lent;
+    lend(&lent, known.ticket);
+    read_ticket(&lent);
+    memcpy(before, lent.of[TABLE].bytes, sizeof before);
+    for (size_t i = 0; i < sizeof open / sizeof *open; i++) {
+        for (size_t rule = 0; rule < open[i].count; rule++) {
+            put_digits(&lent.of[FRAME], open[i].rules[rule]);
+            answered(OFFER, &lent, &known);
+            answered(SET, &lent, &known);
+        }
+        memset(lent.of[RULES].bytes, FILL, required[RULES]);
+        check(call(REWRITE, &lent) == packed(0, 8 + open[i].count), "there is a rule for each fact", REWRITE, &lent, 0);
+        keep(&lent.of[RULES]);
+        memcpy(lent.of[TABLE].bytes, before, sizeof before);
+        keep(&lent.of[TABLE]);
+        put_facts(&lent, open[i].facts, open[i].count);
+        assumes(ASSUME_RELEVANCY, &lent, open[i].said, 2, open[i].second);
+        memset(lent.of[RULES].bytes, FILL, required[RULES]);
+        assumes(ASSUME_MAGIC, &lent, open[i].said, 2, open[i].second);
+        check(as_kept(&lent.of[RULES]), "the rules are those of the ticket with the facts", ASSUME_MAGIC, &lent, 0);
+    }
+    take_back(&lent);
+}
+
+/* Tickets of two families, each over two of the four atoms, which have no arguments; K7 is made into them. A family is a
+ * split over its atoms: of the first the first atom is denied, of the second the first one or both. */
+#define FOUR "0200\n0200\n0200\n0200\n"
+#define FIRST_FAMILY "0300020003\n03010000\n0302000300\n"
+static const struct {
+    const char *text;
+    unsigned verdict;
+    uint32_t sum;
+    const char *marks;
+} parted[] = {
+    {"0101000400000002\n" FOUR FIRST_FAMILY "0300020102\n03010001\n0302000201\nFF06\n", LUTSAMIK_FITS, 4, "0011"},
+    {"0101000400000002\n" FOUR FIRST_FAMILY "0300020102\n03010001\n03010002\nFF06\n", LUTSAMIK_NONE, 4, ""},
+    {"0101000400000001\n" FOUR FIRST_FAMILY "03000102\nFF04\n", LUTSAMIK_SPENT, 1, ""},
+    {"0101000400000001\n" FOUR FIRST_FAMILY "03000102\n03010002\nFF05\n", LUTSAMIK_NONE, 1, ""},
+};
+
+static void fits_in_parts(void) {
+    struct lent lent;
+    lend(&lent, "K7");
+    for (size_t i = 0; i < sizeof parted / sizeof *parted; i++) {
+        struct known known = {
+            .verdict = parted[i].verdict, .count = parted[i].sum, .atoms = 4, .marks = parted[i].marks};
+        resize(&lent.of[TEXT], strlen(parted[i].text));
+        memcpy(lent.of[TEXT].bytes, parted[i].text, lent.of[TEXT].len);
+        read_ticket(&lent);
+        keep(&lent.of[TABLE]);
+        memset(lent.of[RULES].bytes, FILL, required[RULES]);
+        call(REWRITE, &lent);
+        keep(&lent.of[RULES]);
+        fits_by_parts(&lent, &known);
+        if (known.verdict == LUTSAMIK_FITS)
+            judges(JUDGE, &lent, &known);
+    }
     take_back(&lent);
 }
 
@@ -279,6 +410,8 @@ int main(void) {
     for (size_t i = 0; i < count; i++)
         tries(&tickets[i]);
     adds_longest();
+    assumes_facts();
+    fits_in_parts();
     printf("host_exact: %zu tickets, in buffers of exactly the required sizes\n", count);
     return 0;
 }

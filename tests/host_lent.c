@@ -6,13 +6,17 @@
 
 const size_t required[KINDS] = {0,
                                 0,
+                                0,
                                 LUTSAMIK_TABLE_BYTES,
                                 sizeof(struct lutsamik_session),
                                 LUTSAMIK_TEXT_BYTES,
                                 LUTSAMIK_SLIP_BYTES,
                                 LUTSAMIK_RULES_BYTES,
                                 LUTSAMIK_ANSWER_BYTES,
-                                LUTSAMIK_WORK_BYTES};
+                                LUTSAMIK_WORK_BYTES,
+                                sizeof(uint32_t),
+                                sizeof(uint32_t),
+                                sizeof(uint64_t)};
 
 static const struct {
     const char *name;
@@ -30,10 +34,32 @@ static const struct {
     {"a first run of the relevancy engine", 1 << TABLE | 1 << SESSION | 1 << ANSWER | 1 << WORK},
     {"a first run of the magic engine", 1 << TABLE | 1 << SESSION | 1 << RULES | 1 << ANSWER | 1 << WORK},
     {"the relevancy engine with a session", 1 << TABLE | 1 << SESSION | 1 << ANSWER | 1 << WORK},
-    {"the magic engine with a session", 1 << TABLE | 1 << SESSION | 1 << RULES | 1 << ANSWER | 1 << WORK}};
+    {"the magic engine with a session", 1 << TABLE | 1 << SESSION | 1 << RULES | 1 << ANSWER | 1 << WORK},
+    {"the relevancy engine with open facts",
+     1 << TABLE | 1 << FACTS | 1 << FIRST | 1 << SECOND | 1 << ANSWER | 1 << WORK},
+    {"the magic engine with open facts",
+     1 << TABLE | 1 << FACTS | 1 << FIRST | 1 << SECOND | 1 << RULES | 1 << ANSWER | 1 << WORK},
+    {"the relevancy engine by parts", 1 << TABLE | 1 << COUNT | 1 << ANSWER | 1 << WORK},
+    {"the magic engine by parts", 1 << TABLE | 1 << COUNT | 1 << RULES | 1 << ANSWER | 1 << WORK}};
 
 struct lutsamik_session *session_of(const struct lent *lent) {
     return (struct lutsamik_session *)(void *)lent->of[SESSION].bytes;
+}
+
+uint32_t number_of(const struct lent *lent, enum kind kind) {
+    uint32_t number;
+    memcpy(&number, lent->of[kind].bytes, sizeof number);
+    return number;
+}
+
+uint64_t sum_of(const struct lent *lent) {
+    uint64_t sum;
+    memcpy(&sum, lent->of[COUNT].bytes, sizeof sum);
+    return sum;
+}
+
+int can_be_short(enum kind kind) {
+    return required[kind] > 0 && kind != SESSION && kind < FIRST;
 }
 
 int uses(enum operation operation, enum kind kind) { return operations[operation].kinds >> kind & 1; }
@@ -70,6 +96,7 @@ void lend(struct lent *lent, const char *ticket) {
     lent->ticket = ticket;
     load(&lent->of[TEXT], ticket);
     put_digits(&lent->of[FRAME], "030000");
+    put_facts(lent, NULL, 0);
     for (int kind = TABLE; kind < KINDS; kind++)
         resize(&lent->of[kind], required[kind]);
 }
@@ -100,6 +127,15 @@ void put_digits(struct buffer *buffer, const char *digits) {
         buffer->bytes[i] = (uint8_t)(digit(digits[2 * i]) << 4 | digit(digits[2 * i + 1]));
 }
 
+void put_facts(struct lent *lent, const uint32_t *facts, size_t count) {
+    resize(&lent->of[FACTS], count * sizeof *facts);
+    if (count > 0)
+        memcpy(lent->of[FACTS].bytes, facts, count * sizeof *facts);
+}
+
+/* A block as the numbers that it holds. */
+static uint32_t *numbers(const struct buffer *buffer) { return (uint32_t *)(void *)buffer->bytes; }
+
 void forget(struct buffer *buffer) {
     free(buffer->bytes);
     buffer->bytes = block(buffer->len);
@@ -127,6 +163,9 @@ uint64_t call(enum operation operation, const struct lent *lent) {
     const struct buffer *text = &lent->of[TEXT], *table = &lent->of[TABLE], *out = &lent->of[OUT];
     const struct buffer *frame = &lent->of[FRAME], *slip = &lent->of[SLIP];
     const struct buffer *rules = &lent->of[RULES], *answer = &lent->of[ANSWER], *work = &lent->of[WORK];
+    const struct buffer *facts = &lent->of[FACTS];
+    uint32_t *first = numbers(&lent->of[FIRST]), *second = numbers(&lent->of[SECOND]);
+    uint64_t *count = (uint64_t *)(void *)lent->of[COUNT].bytes;
     switch (operation) {
     case READ:
         return lutsamik_read(text->bytes, text->len, table->bytes, table->len);
@@ -157,9 +196,22 @@ uint64_t call(enum operation operation, const struct lent *lent) {
     case RESUME_RELEVANCY:
         return lutsamik_resume_relevancy(session_of(lent), lent->further, table->bytes, table->len, answer->bytes,
                                          answer->len, work->bytes, work->len);
-    default:
+    case RESUME_MAGIC:
         return lutsamik_resume_magic(session_of(lent), lent->further, table->bytes, table->len, rules->bytes,
                                      rules->len, answer->bytes, answer->len, work->bytes, work->len);
+    case ASSUME_RELEVANCY:
+        return lutsamik_assume_relevancy(table->bytes, table->len, numbers(facts), facts->len / sizeof(uint32_t), first,
+                                         second, answer->bytes, answer->len, work->bytes, work->len);
+    case PARTS_RELEVANCY:
+        return lutsamik_parts_relevancy(table->bytes, table->len, count, answer->bytes, answer->len, work->bytes,
+                                        work->len);
+    case PARTS_MAGIC:
+        return lutsamik_parts_magic(table->bytes, table->len, count, rules->bytes, rules->len, answer->bytes,
+                                    answer->len, work->bytes, work->len);
+    default:
+        return lutsamik_assume_magic(table->bytes, table->len, numbers(facts), facts->len / sizeof(uint32_t), first,
+                                     second, rules->bytes, rules->len, answer->bytes, answer->len, work->bytes,
+                                     work->len);
     }
 }
 

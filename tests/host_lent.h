@@ -5,7 +5,7 @@
 
 #include <lutsamik.h>
 
-enum kind { TEXT, FRAME, TABLE, SESSION, OUT, SLIP, RULES, ANSWER, WORK, KINDS };
+enum kind { TEXT, FRAME, FACTS, TABLE, SESSION, OUT, SLIP, RULES, ANSWER, WORK, FIRST, SECOND, COUNT, KINDS };
 
 enum operation {
     READ,
@@ -21,6 +21,10 @@ enum operation {
     BEGIN_MAGIC,
     RESUME_RELEVANCY,
     RESUME_MAGIC,
+    ASSUME_RELEVANCY,
+    ASSUME_MAGIC,
+    PARTS_RELEVANCY,
+    PARTS_MAGIC,
     OPERATIONS
 };
 
@@ -41,18 +45,30 @@ struct lent {
     uint32_t clause, values[4], further;
 };
 
-/* How long each kind must be; a text and a frame may have any length. A session has no length that is told, and its
- * block has always the bytes of one. */
+/* How long each kind must be, in bytes; a text, a frame and facts may have any length. A session or a count has no
+ * length that is told, and its block has always the bytes of one. */
 extern const size_t required[KINDS];
+
+/* Whether a buffer of this kind can be too short. */
+int can_be_short(enum kind kind);
 
 /* The session in its block. */
 struct lutsamik_session *session_of(const struct lent *lent);
 
+/* Puts a block in the place of the facts that holds these numbers and no more. */
+void put_facts(struct lent *lent, const uint32_t *facts, size_t count);
+
+/* The number in a block of FIRST or SECOND. */
+uint32_t number_of(const struct lent *lent, enum kind kind);
+
+/* The number in the block of COUNT. */
+uint64_t sum_of(const struct lent *lent);
+
 /* Whether an operation is lent a buffer of this kind. */
 int uses(enum operation operation, enum kind kind);
 
-/* The text of crates/cases/data/TICKET.text, a frame that any ticket of fewer than 64 clauses takes, buffers of exactly
- * the required lengths, an instance of numbers 0 and a further limit of 0. */
+/* The text of crates/cases/data/TICKET.text, a frame that any ticket of fewer than 64 clauses takes, no facts, buffers
+ * of exactly the required lengths, an instance of numbers 0 and a further limit of 0. */
 void lend(struct lent *lent, const char *ticket);
 void take_back(struct lent *lent);
 

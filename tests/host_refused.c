@@ -1,5 +1,6 @@
 /* Refusals from C: buffers that are too short, tables that no text reads to, answers that are none, instances that are
- * lacking, rules that cannot be added, slips that are mangled, sessions that stand nowhere, texts cut short. Each is
+ * lacking, rules that cannot be added, slips that are mangled, sessions that stand nowhere, facts that are no atoms or
+ * too many, texts cut short. Each is
  * refused by its number, and each lent buffer stays as it was. */
 #include "host_lent.h"
 
@@ -17,13 +18,14 @@ static void refused(uint64_t expected, enum operation operation, const struct le
     refusals++;
 }
 
-/* One buffer has this length: 11, whether or not there is a table. */
+/* One buffer has this length: 11, whether or not there is a table. The facts are none of its atoms. */
 static void short_buffer(enum kind kind, size_t len, int table) {
     struct lent lent;
     lend(&lent, "K6");
     if (table)
         read_ticket(&lent);
     resize(&lent.of[kind], len);
+    resize(&lent.of[FACTS], 8);
     keep_all(&lent);
     for (int operation = 0; operation < OPERATIONS; operation++)
         if (uses((enum operation)operation, kind))
@@ -33,7 +35,7 @@ static void short_buffer(enum kind kind, size_t len, int table) {
 
 static void short_buffers(void) {
     for (int kind = 0; kind < KINDS; kind++) {
-        if (required[kind] == 0 || kind == SESSION)
+        if (!can_be_short((enum kind)kind))
             continue;
         short_buffer((enum kind)kind, required[kind] - 1, 1);
         short_buffer((enum kind)kind, required[kind] - 1, 0);
@@ -42,11 +44,12 @@ static void short_buffers(void) {
 }
 
 /* All that take a table refuse this one by 31. The answer's bytes are none, the instance is lacking, the frame has no
- * bytes, the slip is stale and has no room for its length, the session stands nowhere, and its count and the further
- * limit pass what they may, but that comes later. */
+ * bytes, the slip is stale and has no room for its length, the session stands nowhere, its count and the further limit
+ * pass what they may, and the facts are too many, but that comes later. */
 static void no_table(struct lent *lent) {
     lent->clause = lent->further = UINT32_MAX;
     resize(&lent->of[FRAME], 0);
+    resize(&lent->of[FACTS], 65 * sizeof(uint32_t));
     keep_all(lent);
     for (int operation = WRITE; operation < OPERATIONS; operation++)
         refused(LUTSAMIK_NO_TABLE, (enum operation)operation, lent);
@@ -313,6 +316,54 @@ static void refused_sessions(void) {
     take_back(&lent);
 }
 
+/* Facts are refused by both engines, and all that is lent stays. */
+static void refused_by_facts(unsigned refusal, const uint32_t *facts, size_t count, struct lent *lent) {
+    put_facts(lent, facts, count);
+    keep_all(lent);
+    refused(refusal, ASSUME_RELEVANCY, lent);
+    refused(refusal, ASSUME_MAGIC, lent);
+}
+
+/* K6 has six atoms and four clauses: 45 for a number of 6 or more, also one of which only the last bytes are an atom's,
+ * for one that stands there twice, and for 17 facts; but 5 where there are more than 60. K11 has 1,024 atoms, and
+ * denies each. */
+static void refused_facts(void) {
+    static const uint32_t others[] = {6,     7,     255,   256,        257,        1023,      1024,
+                                      65535, 65536, 65537, 0x01000000, 0x80000001, UINT32_MAX};
+    static const uint32_t repeated[][3] = {{3, 3, 0}, {3, 0, 3}, {0, 3, 3}, {5, 5, 5}, {0, 0, 6}};
+    uint32_t many[70];
+    struct lent lent;
+    lend(&lent, "K6");
+    read_ticket(&lent);
+    for (size_t i = 0; i < sizeof others / sizeof *others; i++)
+        for (size_t place = 0; place < 3; place++) {
+            uint32_t facts[3] = {1, 2, 4};
+            facts[place] = others[i];
+            refused_by_facts(LUTSAMIK_BAD_FACTS, facts, 3, &lent);
+            refused_by_facts(LUTSAMIK_BAD_FACTS, facts + place, 1, &lent);
+        }
+    for (size_t i = 0; i < sizeof repeated / sizeof *repeated; i++)
+        refused_by_facts(LUTSAMIK_BAD_FACTS, repeated[i], 3, &lent);
+    for (uint32_t i = 0; i < 70; i++)
+        many[i] = i;
+    for (size_t count = 7; count <= 70; count++)
+        refused_by_facts(count > 60 ? LUTSAMIK_BAD_COUNT : LUTSAMIK_BAD_FACTS, many, count, &lent);
+    take_back(&lent);
+    lend(&lent, "K11");
+    read_ticket(&lent);
+    refused_by_facts(LUTSAMIK_BAD_FACTS, many, 17, &lent);
+    refused_by_facts(LUTSAMIK_BAD_FACTS, many, 60, &lent);
+    refused_by_facts(LUTSAMIK_BAD_COUNT, many, 61, &lent);
+    many[15] = 14;
+    refused_by_facts(LUTSAMIK_BAD_FACTS, many, 16, &lent);
+    many[15] = 1024;
+    refused_by_facts(LUTSAMIK_BAD_FACTS, many, 16, &lent);
+    many[15] = 1023;
+    put_facts(&lent, many, 16);
+    check_result(LUTSAMIK_NONE_WITH_SOME << 8, ASSUME_MAGIC, &lent, call(ASSUME_MAGIC, &lent));
+    take_back(&lent);
+}
+
 /* A text that ends with a line is refused by 2 at the next, for want of FF, and one that ends within a line by 1. */
 static uint64_t cut_short(const struct buffer *text) {
     uint64_t line = 1;
@@ -356,6 +407,7 @@ int main(void) {
     mangled_slips();
     full_ticket();
     refused_sessions();
+    refused_facts();
     cut_texts();
     refused_ticket("K10_refused", LUTSAMIK_TOO_MANY_ATOMS, 3);
     refused_ticket("K11_refused", LUTSAMIK_TOO_MANY_MARKS, 7);

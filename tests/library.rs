@@ -63,6 +63,52 @@ extern "C" {
         work: *mut u8,
         work_len: usize,
     ) -> u64;
+    fn lutsamik_parts_relevancy(
+        table: *const u8,
+        table_len: usize,
+        count: *mut u64,
+        answer: *mut u8,
+        answer_len: usize,
+        work: *mut u8,
+        work_len: usize,
+    ) -> u64;
+    fn lutsamik_parts_magic(
+        table: *const u8,
+        table_len: usize,
+        count: *mut u64,
+        rules: *mut u8,
+        rules_len: usize,
+        answer: *mut u8,
+        answer_len: usize,
+        work: *mut u8,
+        work_len: usize,
+    ) -> u64;
+    fn lutsamik_assume_relevancy(
+        table: *const u8,
+        table_len: usize,
+        facts: *const u32,
+        facts_len: usize,
+        first: *mut u32,
+        second: *mut u32,
+        answer: *const u8,
+        answer_len: usize,
+        work: *mut u8,
+        work_len: usize,
+    ) -> u64;
+    fn lutsamik_assume_magic(
+        table: *const u8,
+        table_len: usize,
+        facts: *const u32,
+        facts_len: usize,
+        first: *mut u32,
+        second: *mut u32,
+        rules: *mut u8,
+        rules_len: usize,
+        answer: *const u8,
+        answer_len: usize,
+        work: *mut u8,
+        work_len: usize,
+    ) -> u64;
 }
 
 /// Where a walk stands: `lutsamik_session` of the header. All its bytes are numbers, and there are none between them.
@@ -149,6 +195,38 @@ pub fn resume_magic(session: &mut Session, further: u32, table: &[u8], rules: &m
     }
 }
 
+/// The two counts are left in `counts`.
+pub fn assume_relevancy(table: &[u8], facts: &[u32], counts: [&mut u32; 2], answer: &[u8], work: &mut [u8]) -> u64 {
+    let [first, second] = counts;
+    let (facts, facts_len) = (facts.as_ptr(), facts.len());
+    let (answer, answer_len) = (answer.as_ptr(), answer.len());
+    unsafe {
+        lutsamik_assume_relevancy(table.as_ptr(), table.len(), facts, facts_len, first, second, answer, answer_len, work.as_mut_ptr(), work.len())
+    }
+}
+
+pub fn assume_magic(table: &[u8], facts: &[u32], counts: [&mut u32; 2], rules: &mut [u8], answer: &[u8], work: &mut [u8]) -> u64 {
+    let [first, second] = counts;
+    let (table, table_len, facts, facts_len) = (table.as_ptr(), table.len(), facts.as_ptr(), facts.len());
+    let (rules, rules_len) = (rules.as_mut_ptr(), rules.len());
+    let (answer, answer_len) = (answer.as_ptr(), answer.len());
+    let (work, work_len) = (work.as_mut_ptr(), work.len());
+    unsafe {
+        lutsamik_assume_magic(table, table_len, facts, facts_len, first, second, rules, rules_len, answer, answer_len, work, work_len)
+    }
+}
+
+pub fn parts_relevancy(table: &[u8], count: &mut u64, answer: &mut [u8], work: &mut [u8]) -> u64 {
+    let (answer, answer_len) = (answer.as_mut_ptr(), answer.len());
+    unsafe { lutsamik_parts_relevancy(table.as_ptr(), table.len(), count, answer, answer_len, work.as_mut_ptr(), work.len()) }
+}
+
+pub fn parts_magic(table: &[u8], count: &mut u64, rules: &mut [u8], answer: &mut [u8], work: &mut [u8]) -> u64 {
+    let (rules, rules_len) = (rules.as_mut_ptr(), rules.len());
+    let (answer, answer_len) = (answer.as_mut_ptr(), answer.len());
+    unsafe { lutsamik_parts_magic(table.as_ptr(), table.len(), count, rules, rules_len, answer, answer_len, work.as_mut_ptr(), work.len()) }
+}
+
 /// An answer of reading, writing, offering, setting, rewriting or holding: the refusal number (0: none) in bits 0 to 7, the line, the length, the number
 /// of rules or of conditions in bits 32 to 63.
 pub fn packed(number: u8, high: u32) -> u64 {
@@ -166,4 +244,9 @@ pub fn violated(clause: u8, values: [u8; 4]) -> u64 {
 /// An answer of an engine that does not refuse: verdict, count, and how many entries the longest path had.
 pub fn fit(verdict: u8, count: u32, deepest: u32) -> u64 {
     (verdict as u64) << 8 | (deepest as u64) << 16 | (count as u64) << 32
+}
+
+/// An answer with open facts, or by parts, which has no count in it.
+pub fn said(said: u8) -> u64 {
+    (said as u64) << 8
 }

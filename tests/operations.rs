@@ -1,4 +1,4 @@
-//! The library's thirteen operations: which buffers each is lent, and a call of which every lent byte is compared.
+//! The library's seventeen operations: which buffers each is lent, and a call of which every lent byte is compared.
 #![allow(dead_code)] // each program uses its own part
 
 use crate::library::{self, SESSION};
@@ -23,9 +23,13 @@ pub enum Operation {
     BeginMagic,
     ResumeRelevancy,
     ResumeMagic,
+    AssumeRelevancy,
+    AssumeMagic,
+    PartsRelevancy,
+    PartsMagic,
 }
 
-pub const OPERATIONS: [Operation; 13] = [
+pub const OPERATIONS: [Operation; 17] = [
     Operation::Read,
     Operation::Write,
     Operation::Offer,
@@ -39,6 +43,10 @@ pub const OPERATIONS: [Operation; 13] = [
     Operation::BeginMagic,
     Operation::ResumeRelevancy,
     Operation::ResumeMagic,
+    Operation::AssumeRelevancy,
+    Operation::AssumeMagic,
+    Operation::PartsRelevancy,
+    Operation::PartsMagic,
 ];
 
 #[derive(Clone, Copy, Debug, PartialEq, Eq, PartialOrd, Ord)]
@@ -52,14 +60,28 @@ pub enum Buffer {
     Frame,
     Slip,
     Session,
+    Facts,
+    First,
+    Second,
+    Count,
 }
 
-pub const BUFFERS: [Buffer; 9] = [Text, Table, TextOut, Rules, Answer, Work, Frame, Slip, Session];
+pub const BUFFERS: [Buffer; 13] = [Text, Table, TextOut, Rules, Answer, Work, Frame, Slip, Session, Facts, First, Second, Count];
+
+/// How many bytes a number has, of the facts or of a run's count; and the sum of counts.
+pub const NUMBER: usize = 4;
+const SUM: usize = 8;
 
 impl Buffer {
-    /// The bytes that it must have at least. A text and a frame may have any length, and a session has no other than its own.
+    /// The bytes that it must have at least. A text and a frame may have any length, facts that of any numbers; a session and a count have no other
+    /// than their own.
     pub fn required(self) -> usize {
-        [0, TABLE, TEXT_OUT, RULES, ANSWER, WORK, 0, SLIP, SESSION][self as usize]
+        [0, TABLE, TEXT_OUT, RULES, ANSWER, WORK, 0, SLIP, SESSION, 0, NUMBER, NUMBER, SUM][self as usize]
+    }
+
+    /// Whether it is lent as numbers, or by its address, and not as bytes of any length.
+    pub fn is_of_numbers(self) -> bool {
+        matches!(self, Session | Facts | First | Second | Count)
     }
 }
 
@@ -76,6 +98,10 @@ impl Operation {
             Operation::Judge | Operation::Holding => &[Table, Answer],
             Operation::BeginRelevancy | Operation::ResumeRelevancy => &[Session, Table, Answer, Work],
             Operation::BeginMagic | Operation::ResumeMagic => &[Session, Table, Rules, Answer, Work],
+            Operation::AssumeRelevancy => &[Table, Facts, First, Second, Answer, Work],
+            Operation::AssumeMagic => &[Table, Facts, First, Second, Rules, Answer, Work],
+            Operation::PartsRelevancy => &[Table, Count, Answer, Work],
+            Operation::PartsMagic => &[Table, Count, Rules, Answer, Work],
         }
     }
 
@@ -88,7 +114,7 @@ impl Operation {
 /// 80, 81, 82, 83, which is for holding alone; and a further limit, for going on with a session.
 #[derive(Clone)]
 pub struct Lent {
-    pub buffers: [Memory; 9],
+    pub buffers: [Memory; 13],
     pub clause: u32,
     pub values: [u32; 4],
     pub further: u32,
@@ -113,9 +139,14 @@ impl Lent {
         operation.buffers().iter().any(|buffer| self[*buffer].lent().len() < buffer.required())
     }
 
+    /// The facts lent.
+    pub fn facts(&self) -> Vec<u32> {
+        self[Facts].lent().chunks(NUMBER).map(|bytes| u32::from_le_bytes(bytes.try_into().expect("whole numbers"))).collect()
+    }
+
     /// The library's answer, and what it leaves in the buffers.
     fn call(&mut self, operation: Operation) -> u64 {
-        let [text, table, out, rules, answer, work, frame, slip, session] = &mut self.buffers;
+        let [text, table, out, rules, answer, work, frame, slip, session, facts, first, second, count] = &mut self.buffers;
         let further = self.further;
         match operation {
             Operation::Read => library::read(text.lent(), table.lent_mut()),
@@ -133,6 +164,15 @@ impl Lent {
             Operation::ResumeMagic => {
                 library::resume_magic(session_in(session), further, table.lent(), rules.lent_mut(), answer.lent_mut(), work.lent_mut())
             }
+            Operation::AssumeRelevancy => {
+                library::assume_relevancy(table.lent(), numbers_in(facts), [number_in(first), number_in(second)], answer.lent(), work.lent_mut())
+            }
+            Operation::AssumeMagic => {
+                let counts = [number_in(first), number_in(second)];
+                library::assume_magic(table.lent(), numbers_in(facts), counts, rules.lent_mut(), answer.lent(), work.lent_mut())
+            }
+            Operation::PartsRelevancy => library::parts_relevancy(table.lent(), sum_in(count), answer.lent_mut(), work.lent_mut()),
+            Operation::PartsMagic => library::parts_magic(table.lent(), sum_in(count), rules.lent_mut(), answer.lent_mut(), work.lent_mut()),
         }
     }
 
@@ -153,6 +193,7 @@ impl Lent {
             Operation::Read => format!("{}\n", self[Text].lent().escape_ascii()),
             Operation::Offer => format!("frame {:02X?}\n{}", self[Frame].lent(), dump(self[Table].lent())),
             Operation::Set => format!("slip {:02X?}\n{}", self[Slip].lent(), dump(self[Table].lent())),
+            Operation::AssumeRelevancy | Operation::AssumeMagic => format!("facts {:?}\n{}", self.facts(), dump(self[Table].lent())),
             Operation::Holding => format!("clause {} with {:?}\n{}", self.clause, self.values, dump(self[Table].lent())),
             _ if operation.resumes() => format!("further {}, session\n{}table\n{}", self.further, dump(self[Session].lent()), dump(self[Table].lent())),
             _ => dump(self[Table].lent()),
@@ -166,4 +207,21 @@ fn session_in(memory: &mut Memory) -> &mut library::Session {
     let (before, sessions, after) = unsafe { memory.lent_mut().align_to_mut() };
     assert!(before.is_empty() && sessions.len() == 1 && after.is_empty(), "the buffer of a session is aligned and has its length");
     &mut sessions[0]
+}
+
+/// The numbers whose bytes a buffer has, where they stand.
+fn numbers_in(memory: &mut Memory) -> &mut [u32] {
+    let (before, numbers, after) = unsafe { memory.lent_mut().align_to_mut() };
+    assert!(before.is_empty() && after.is_empty(), "a buffer of numbers is aligned and has whole ones");
+    numbers
+}
+
+fn number_in(memory: &mut Memory) -> &mut u32 {
+    &mut numbers_in(memory)[0]
+}
+
+fn sum_in(memory: &mut Memory) -> &mut u64 {
+    let (before, sums, after) = unsafe { memory.lent_mut().align_to_mut() };
+    assert!(before.is_empty() && sums.len() == 1 && after.is_empty(), "the buffer of a sum is aligned and has its length");
+    &mut sums[0]
 }

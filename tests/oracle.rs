@@ -1,9 +1,11 @@
 //! What each operation must answer and leave in every lent byte, by the implementation that is written from documents 01 and 02.
 
-use crate::library::{fit, packed, violated, FITTING};
+use crate::assume;
+use crate::library::{fit, packed, said, violated, FITTING};
 use crate::logic::{self, Judging};
 use crate::magic::{rewritten, Magic};
 use crate::operations::{Buffer, Lent, Operation};
+use crate::parts::{self, parts};
 use crate::reference::{self, Ticket, NO_TABLE, SHORT_BUFFER, SLIP, TABLE, WORK};
 use crate::rules;
 use crate::session::{self, Told};
@@ -55,6 +57,11 @@ fn of_ticket(operation: Operation, ticket: &Ticket, lent: &mut Lent) -> u64 {
         Operation::Holding => holding(ticket, lent),
         Operation::Judge => judge(ticket, lent),
         Operation::BeginRelevancy | Operation::ResumeRelevancy => with_session(operation, &Relevancy::new(ticket), ticket, lent),
+        Operation::AssumeRelevancy | Operation::AssumeMagic => assume(operation, ticket, lent),
+        Operation::PartsRelevancy | Operation::PartsMagic => {
+            let told = parts::told(ticket, &parts(ticket), |_, part| run(operation, &part.ticket));
+            parted(operation, &told, ticket, lent)
+        }
         _ => with_session(operation, &Magic::new(&rewritten(ticket), ticket), ticket, lent),
     }
 }
@@ -115,6 +122,49 @@ fn moved(operation: Operation, told: &Told, ticket: &Ticket, lent: &mut Lent) ->
         rewrite(ticket, lent);
     }
     ended(&told.outcome, lent)
+}
+
+/// With open facts: the second run, and after it the rules, are those of the ticket with them all.
+fn assume(operation: Operation, ticket: &Ticket, lent: &mut Lent) -> u64 {
+    let facts = lent.facts();
+    if let Some(why) = assume::refused(ticket, &facts) {
+        return packed(why.number(), 0);
+    }
+    let longer = assume::with_facts(ticket, &facts);
+    let told = assume::told(&run(operation, ticket), || run(operation, &longer));
+    assumed_so(operation, &told, if told.second_is_made { &longer } else { ticket }, lent)
+}
+
+/// A run of this ticket under its limit, by the operation's engine.
+fn run(operation: Operation, ticket: &Ticket) -> Outcome {
+    let limit = u32::from_be_bytes(ticket.limit);
+    if operation.buffers().contains(&Buffer::Rules) {
+        return walk(&Magic::new(&rewritten(ticket), ticket), limit, &mut |_, _| {});
+    }
+    walk(&Relevancy::new(ticket), limit, &mut |_, _| {})
+}
+
+/// What a call with open facts leaves that is not refused; its last run is that of this ticket.
+pub fn assumed_so(operation: Operation, told: &assume::Told, last: &Ticket, lent: &mut Lent) -> u64 {
+    begin(lent, Buffer::First, &told.counts[0].to_le_bytes());
+    begin(lent, Buffer::Second, &told.counts[1].to_le_bytes());
+    begin(lent, Buffer::Work, &[0; WORK]);
+    if operation.buffers().contains(&Buffer::Rules) {
+        rewrite(last, lent);
+    }
+    said(told.said as u8)
+}
+
+/// What a call by parts leaves that is not refused.
+pub fn parted(operation: Operation, told: &parts::Told, ticket: &Ticket, lent: &mut Lent) -> u64 {
+    let marks: Vec<u8> = told.fitting.iter().flatten().map(|is_in| *is_in as u8).collect();
+    begin(lent, Buffer::Count, &told.count.to_le_bytes());
+    begin(lent, Buffer::Answer, &marks);
+    begin(lent, Buffer::Work, &[0; WORK]);
+    if operation.buffers().contains(&Buffer::Rules) {
+        rewrite(ticket, lent);
+    }
+    said(told.verdict as u8)
 }
 
 fn judge(ticket: &Ticket, lent: &Lent) -> u64 {

@@ -26,6 +26,7 @@ pub const TOO_MANY_ENTRIES: u8 = 41;
 pub const NO_SESSION: u8 = 42;
 pub const STALE_SLIP: u8 = 43;
 pub const NO_INSTANCE: u8 = 44;
+pub const BAD_FACTS: u8 = 45;
 
 const MOST_ATOMS: u64 = 1024;
 pub const MOST_MARKS: u64 = 16384;

@@ -4,6 +4,7 @@
 //! buffer and around them, must agree; and a list of calls must leave what one run under the sum does. Usage: resuming [NUMBER OF CALLS]. The same
 //! calls in every run.
 mod arbitrary;
+mod assume;
 mod large;
 mod library;
 mod logic;
@@ -14,6 +15,7 @@ mod met;
 mod mix;
 mod operations;
 mod oracle;
+mod parts;
 mod random;
 mod reference;
 mod report;

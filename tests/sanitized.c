@@ -43,16 +43,17 @@ static void require(bool holds, const char *what) {
 
 /* ---- Buffers ---- */
 
-enum buffer { TEXT, FRAME, TABLE, OUT, SLIP, RULES, ANSWER, WORK, SESSION, BUFFERS };
+enum buffer { TEXT, FRAME, TABLE, OUT, SLIP, RULES, ANSWER, WORK, SESSION, FACTS, FIRST, SECOND, COUNT, BUFFERS };
 
-/* A session has no length that is told, and always its own bytes. */
+/* A session or a count has no length that is told, and always its own bytes; facts are numbers, as many as there are. */
 static const size_t required[BUFFERS] = {
     [TABLE] = LUTSAMIK_TABLE_BYTES, [OUT] = LUTSAMIK_TEXT_BYTES,      [SLIP] = LUTSAMIK_SLIP_BYTES,
     [RULES] = LUTSAMIK_RULES_BYTES, [ANSWER] = LUTSAMIK_ANSWER_BYTES, [WORK] = LUTSAMIK_WORK_BYTES,
-    [SESSION] = sizeof(struct lutsamik_session),
+    [SESSION] = sizeof(struct lutsamik_session), [FIRST] = sizeof(uint32_t), [SECOND] = sizeof(uint32_t),
+    [COUNT] = sizeof(uint64_t),
 };
 
-/* What the host puts into a buffer, and goes on with after a call: a text, a frame, a table, a slip, an answer, a session. */
+/* What the host puts into a buffer, and goes on with after a call: a text, a frame, a table, a slip, an answer, a session, facts. */
 static struct {
     uint8_t bytes[LONGEST_TEXT];
     size_t len;
@@ -142,7 +143,7 @@ static bool untouched_past(enum buffer which, size_t first) {
 static size_t any_length(enum buffer which, bool near) {
     size_t enough = required[which] == 0 ? held[which].len : required[which];
     size_t lengths[] = {0, 1, enough == 0 ? 0 : enough - 1, enough, enough + 1, enough + MORE};
-    if (which == SESSION)
+    if (which >= SESSION)
         return enough;
     if (near)
         return lengths[below(6)];
@@ -167,11 +168,16 @@ enum operation {
     BEGIN_MAGIC,
     RESUME_RELEVANCY,
     RESUME_MAGIC,
+    ASSUME_RELEVANCY,
+    ASSUME_MAGIC,
+    PARTS_RELEVANCY,
+    PARTS_MAGIC,
     OPERATIONS
 };
 
 static const char *const names[OPERATIONS] = {"read",      "write",   "offer",           "set",         "rewrite",          "fit_relevancy", "fit_magic",
-                                             "judge",     "holding", "begin_relevancy", "begin_magic", "resume_relevancy", "resume_magic"};
+                                             "judge",     "holding", "begin_relevancy", "begin_magic", "resume_relevancy", "resume_magic",
+                                             "assume_relevancy", "assume_magic", "parts_relevancy", "parts_magic"};
 
 /* Which buffers each is lent: to be read, or to be written to. */
 enum use { NOT_LENT, CONST, WRITTEN };
@@ -189,13 +195,18 @@ static const enum use uses[OPERATIONS][BUFFERS] = {
     [BEGIN_MAGIC] = {[TABLE] = CONST, [SESSION] = WRITTEN, [RULES] = WRITTEN, [ANSWER] = WRITTEN, [WORK] = WRITTEN},
     [RESUME_RELEVANCY] = {[TABLE] = CONST, [SESSION] = WRITTEN, [ANSWER] = WRITTEN, [WORK] = WRITTEN},
     [RESUME_MAGIC] = {[TABLE] = CONST, [SESSION] = WRITTEN, [RULES] = WRITTEN, [ANSWER] = WRITTEN, [WORK] = WRITTEN},
+    [ASSUME_RELEVANCY] = {[TABLE] = CONST, [FACTS] = CONST, [FIRST] = WRITTEN, [SECOND] = WRITTEN, [ANSWER] = CONST, [WORK] = WRITTEN},
+    [ASSUME_MAGIC] = {[TABLE] = CONST, [FACTS] = CONST, [FIRST] = WRITTEN, [SECOND] = WRITTEN, [RULES] = WRITTEN, [ANSWER] = CONST, [WORK] = WRITTEN},
+    [PARTS_RELEVANCY] = {[TABLE] = CONST, [COUNT] = WRITTEN, [ANSWER] = WRITTEN, [WORK] = WRITTEN},
+    [PARTS_MAGIC] = {[TABLE] = CONST, [COUNT] = WRITTEN, [RULES] = WRITTEN, [ANSWER] = WRITTEN, [WORK] = WRITTEN},
 };
 
 /* The instance that holding is asked for: its clause, and the values of 80, 81, 82 and 83. The further limit of a session. */
 static uint32_t clause, values[4], further;
 
-/* How often each gave which refusal, or none; and an engine which verdict. */
-static unsigned long met[OPERATIONS][LUTSAMIK_NO_INSTANCE + 1], verdicts[LUTSAMIK_SPENT + 1];
+/* How often each gave which refusal, or none; an engine which verdict; with open facts what was said; and by parts which verdict. */
+static unsigned long met[OPERATIONS][LUTSAMIK_BAD_FACTS + 1], verdicts[LUTSAMIK_SPENT + 1], said_of_facts[LUTSAMIK_NONE_WITH_SOME + 1];
+static unsigned long by_parts[LUTSAMIK_SPENT + 1];
 
 /* What an engine has answered for the table that is held, or none has yet. */
 static uint64_t fitted;
@@ -204,6 +215,12 @@ static bool is_fitted;
 #define LENT(which) lent[which].bytes, lent[which].len
 
 static struct lutsamik_session *lent_session(void) { return (struct lutsamik_session *)(void *)lent[SESSION].bytes; }
+
+static uint32_t *lent_numbers(enum buffer which) { return (uint32_t *)(void *)lent[which].bytes; }
+
+static uint64_t *lent_sum(void) { return (uint64_t *)(void *)lent[COUNT].bytes; }
+
+static size_t lent_facts(void) { return lent[FACTS].len / sizeof(uint32_t); }
 
 static uint64_t invoke(enum operation operation) {
     switch (operation) {
@@ -231,6 +248,16 @@ static uint64_t invoke(enum operation operation) {
         return lutsamik_resume_relevancy(lent_session(), further, LENT(TABLE), LENT(ANSWER), LENT(WORK));
     case RESUME_MAGIC:
         return lutsamik_resume_magic(lent_session(), further, LENT(TABLE), LENT(RULES), LENT(ANSWER), LENT(WORK));
+    case ASSUME_RELEVANCY:
+        return lutsamik_assume_relevancy(LENT(TABLE), lent_numbers(FACTS), lent_facts(), lent_numbers(FIRST), lent_numbers(SECOND), LENT(ANSWER),
+                                         LENT(WORK));
+    case ASSUME_MAGIC:
+        return lutsamik_assume_magic(LENT(TABLE), lent_numbers(FACTS), lent_facts(), lent_numbers(FIRST), lent_numbers(SECOND), LENT(RULES),
+                                     LENT(ANSWER), LENT(WORK));
+    case PARTS_RELEVANCY:
+        return lutsamik_parts_relevancy(LENT(TABLE), lent_sum(), LENT(ANSWER), LENT(WORK));
+    case PARTS_MAGIC:
+        return lutsamik_parts_magic(LENT(TABLE), lent_sum(), LENT(RULES), LENT(ANSWER), LENT(WORK));
     default:
         return lutsamik_holding(LENT(TABLE), LENT(ANSWER), clause, values[0], values[1], values[2], values[3]);
     }
@@ -269,12 +296,16 @@ static void has_written(uint64_t answer) {
     require(memcmp(table, lent[TABLE].bytes, sizeof table) == 0, "what was written reads to the table");
 }
 
+static void has_zero_work(void) {
+    for (size_t i = 0; i < LUTSAMIK_WORK_BYTES; i++)
+        require(lent[WORK].bytes[i] == 0, "work is zero");
+}
+
 /* Work is zero, and fits comes with a fitting. */
 static void has_ended(uint64_t answer) {
     require(lutsamik_verdict(answer) <= LUTSAMIK_SPENT, "there is such a verdict");
     verdicts[lutsamik_verdict(answer)]++;
-    for (size_t i = 0; i < LUTSAMIK_WORK_BYTES; i++)
-        require(lent[WORK].bytes[i] == 0, "work is zero");
+    has_zero_work();
     if (lutsamik_verdict(answer) != LUTSAMIK_FITS) {
         require(untouched_past(ANSWER, 0), "without fits the answer is untouched");
         return;
@@ -315,6 +346,38 @@ static void has_resumed(enum operation operation, uint64_t answer) {
     has_moved(answer);
 }
 
+/* What the other engine says for the same facts is the same, and so are both counts. The first run is that of the ticket. */
+static void has_assumed(enum operation operation, uint64_t answer) {
+    static uint8_t rules[LUTSAMIK_RULES_BYTES], marks[LUTSAMIK_ANSWER_BYTES], work[LUTSAMIK_WORK_BYTES];
+    uint32_t first = 0, second = 0;
+    uint64_t other = operation == ASSUME_MAGIC ? lutsamik_assume_relevancy(LENT(TABLE), lent_numbers(FACTS), lent_facts(), &first, &second, marks,
+                                                                           sizeof marks, work, sizeof work)
+                                               : lutsamik_assume_magic(LENT(TABLE), lent_numbers(FACTS), lent_facts(), &first, &second, rules,
+                                                                       sizeof rules, marks, sizeof marks, work, sizeof work);
+    require(other == answer && first == *lent_numbers(FIRST) && second == *lent_numbers(SECOND), "both engines say alike of open facts");
+    require(answer >> 16 == 0 && lutsamik_assumed(answer) <= LUTSAMIK_NONE_WITH_SOME, "there is such an answer of open facts");
+    require(lent_facts() <= 16, "no more than 16 facts are open");
+    uint64_t alone = lutsamik_fit_relevancy(LENT(TABLE), marks, sizeof marks, work, sizeof work);
+    require(lutsamik_count(alone) == first, "the first run is that of the ticket");
+    require((lutsamik_verdict(alone) == LUTSAMIK_NONE) == (lutsamik_assumed(answer) == LUTSAMIK_NONE_ALWAYS), "none alone is none always");
+    said_of_facts[lutsamik_assumed(answer)]++;
+    has_zero_work();
+}
+
+/* What the other engine says and leaves is the same. Where the whole ticket is not spent, its parts say what it does. */
+static void has_parted(enum operation operation, uint64_t answer) {
+    static uint8_t rules[LUTSAMIK_RULES_BYTES], marks[LUTSAMIK_ANSWER_BYTES], work[LUTSAMIK_WORK_BYTES];
+    uint64_t sum = 0;
+    uint64_t other = operation == PARTS_MAGIC
+                         ? lutsamik_parts_relevancy(LENT(TABLE), &sum, marks, sizeof marks, work, sizeof work)
+                         : lutsamik_parts_magic(LENT(TABLE), &sum, rules, sizeof rules, marks, sizeof marks, work, sizeof work);
+    require(other == answer && sum == *lent_sum() && answer >> 16 == 0, "both engines say alike of parts");
+    uint64_t whole = lutsamik_fit_relevancy(LENT(TABLE), marks, sizeof marks, work, sizeof work);
+    require(lutsamik_verdict(whole) == LUTSAMIK_SPENT || lutsamik_verdict(whole) == lutsamik_verdict(answer), "parts say what the whole does");
+    has_ended(answer);
+    by_parts[lutsamik_verdict(answer)]++;
+}
+
 static void has_judged(uint64_t answer) {
     unsigned judged = lutsamik_judged(answer);
     require(judged == LUTSAMIK_FITTING || judged == LUTSAMIK_VIOLATED, "judging says fitting or violated");
@@ -345,6 +408,10 @@ static void has_done(enum operation operation, uint64_t answer) {
         require(lutsamik_held(answer) <= 4 && clause < 64, "no more conditions hold than there can be");
     else if (operation == RESUME_RELEVANCY || operation == RESUME_MAGIC)
         has_resumed(operation, answer);
+    else if (operation == ASSUME_RELEVANCY || operation == ASSUME_MAGIC)
+        has_assumed(operation, answer);
+    else if (operation == PARTS_RELEVANCY || operation == PARTS_MAGIC)
+        has_parted(operation, answer);
     else
         has_fitted(answer);
     if (operation == BEGIN_RELEVANCY || operation == BEGIN_MAGIC)
@@ -354,7 +421,7 @@ static void has_done(enum operation operation, uint64_t answer) {
 /* 11 exactly where a buffer is too short, and nothing is touched but what may be written; nothing after a refusal. */
 static void check(enum operation operation, uint64_t answer) {
     unsigned refusal = lutsamik_refusal(answer);
-    bool is_short = false;
+    bool is_short = false, assumes = operation == ASSUME_RELEVANCY || operation == ASSUME_MAGIC;
     for (enum buffer which = 0; which < BUFFERS; which++) {
         if (uses[operation][which] == NOT_LENT)
             continue;
@@ -366,10 +433,12 @@ static void check(enum operation operation, uint64_t answer) {
     require(refusal <= LUTSAMIK_BAD_ANSWER || (refusal == LUTSAMIK_NO_INSTANCE && operation == HOLDING) ||
                 (refusal == LUTSAMIK_STALE_SLIP && operation == SET) ||
                 ((refusal == LUTSAMIK_TOO_MANY_ENTRIES || refusal == LUTSAMIK_NO_SESSION) &&
-                 (operation == RESUME_RELEVANCY || operation == RESUME_MAGIC)),
+                 (operation == RESUME_RELEVANCY || operation == RESUME_MAGIC)) ||
+                (refusal == LUTSAMIK_BAD_FACTS && assumes),
             "there is such a refusal");
     bool is_fault = refusal != LUTSAMIK_OK && refusal <= LUTSAMIK_TOO_MANY_MARKS;
-    require(!is_fault || operation == READ || operation == OFFER || operation == SET, "only what is read or offered has a fault");
+    require(!is_fault || operation == READ || operation == OFFER || operation == SET || (assumes && refusal == LUTSAMIK_BAD_COUNT),
+            "only what is read or offered has a fault");
     require(refusal == LUTSAMIK_OK || (lutsamik_line(answer) > 0) == (is_fault && operation == READ), "a fault that is read has a line, and no other");
     met[operation][refusal]++;
     if (refusal == LUTSAMIK_OK)
@@ -444,6 +513,15 @@ static void any_session(void) {
         held[SESSION].bytes[places[below(4)]] ^= (uint8_t)(1 + below(255));
 }
 
+/* A few numbers, most of them atoms of a small ticket; some too many. */
+static void any_facts(void) {
+    uint32_t facts[80];
+    size_t many = once_in(8) ? below(80) : below(4);
+    for (size_t i = 0; i < many; i++)
+        facts[i] = once_in(16) ? (uint32_t)(next_random() >> (32 + below(32))) : (uint32_t)(below(8) + 8 * (i / 4));
+    memcpy(held[FACTS].bytes, facts, held[FACTS].len = many * sizeof *facts);
+}
+
 /* A few entries, or more than the session's count allows: walks stay short. */
 static void any_further(void) {
     uint32_t count;
@@ -487,9 +565,10 @@ static void day(void) {
             any_slip();
         if (once_in(6))
             held[ANSWER].bytes[below(24)] = (uint8_t)below(3);
-        if (operation >= RESUME_RELEVANCY && once_in(3))
+        if ((operation == RESUME_RELEVANCY || operation == RESUME_MAGIC) && once_in(3))
             any_session();
         any_further();
+        any_facts();
         any_instance();
         call(operation);
     }
@@ -499,7 +578,7 @@ static void day(void) {
 static void print_met(void) {
     for (enum operation operation = 0; operation < OPERATIONS; operation++) {
         printf("%-16s", names[operation]);
-        for (unsigned refusal = 0; refusal <= LUTSAMIK_NO_INSTANCE; refusal++)
+        for (unsigned refusal = 0; refusal <= LUTSAMIK_BAD_FACTS; refusal++)
             if (met[operation][refusal] > 0)
                 printf(" %u: %lu", refusal, met[operation][refusal]);
         printf("\n");
@@ -513,6 +592,12 @@ static void print_met(void) {
     require(met[SET][LUTSAMIK_STALE_SLIP] > 0, "setting refuses a stale slip");
     for (enum operation operation = RESUME_RELEVANCY; operation <= RESUME_MAGIC; operation++)
         require(met[operation][LUTSAMIK_TOO_MANY_ENTRIES] > 0 && met[operation][LUTSAMIK_NO_SESSION] > 0, "sessions are refused");
+    for (enum operation operation = ASSUME_RELEVANCY; operation <= ASSUME_MAGIC; operation++)
+        require(met[operation][LUTSAMIK_BAD_COUNT] > 0 && met[operation][LUTSAMIK_BAD_FACTS] > 0, "facts are refused");
+    for (unsigned said = LUTSAMIK_NONE_ALWAYS; said <= LUTSAMIK_NONE_WITH_SOME; said++)
+        require(said_of_facts[said] > 0, "each answer of open facts comes");
+    for (unsigned verdict = LUTSAMIK_NONE; verdict <= LUTSAMIK_SPENT; verdict++)
+        require(by_parts[verdict] > 0, "each verdict comes by parts");
     require(met[OFFER][LUTSAMIK_BAD_KIND] > 0 && met[OFFER][LUTSAMIK_BAD_LENGTH] > 0 && met[SET][LUTSAMIK_BAD_LENGTH] > 0, "rules are refused");
 }
 

@@ -35,7 +35,7 @@ static int read_text(const char *text, size_t len, unsigned refusal, uint32_t li
 static int takes_apart(void) {
     const uint64_t result = UINT64_C(0x0807060504030201);
     if (lutsamik_refusal(result) != 0x01 || lutsamik_verdict(result) != 0x02 || lutsamik_judged(result) != 0x02 ||
-        lutsamik_clause(result) != 0x04 || lutsamik_deepest(result) != 0x0403)
+        lutsamik_assumed(result) != 0x02 || lutsamik_clause(result) != 0x04 || lutsamik_deepest(result) != 0x0403)
         return fail("the low half is not taken apart", result);
     if (lutsamik_line(result) != 0x08070605 || lutsamik_written(result) != 0x08070605 ||
         lutsamik_rules(result) != 0x08070605 || lutsamik_count(result) != 0x08070605 ||
@@ -213,6 +213,50 @@ static int fits_and_judges(void) {
     return 0;
 }
 
+/* The table is K6's. With 20 it fits at once; with 01, before or after it, it does not fit; there is no atom 6. The
+ * answer keeps the fitting. */
+static int assumes(void) {
+    static const uint32_t facts[] = {4, 1, 6};
+    uint32_t first = 9, second = 9;
+    uint64_t result = lutsamik_assume_relevancy(table, sizeof table, facts, 1, &first, &second, answer, sizeof answer,
+                                                work, sizeof work);
+    if (lutsamik_refusal(result) != LUTSAMIK_OK || lutsamik_assumed(result) != LUTSAMIK_NONE_NEVER || first != 2 ||
+        second != 0)
+        return fail("K6 is not found to fit with and without 20", result);
+    result = lutsamik_assume_magic(table, sizeof table, facts, 2, &first, &second, rules, sizeof rules, answer,
+                                   sizeof answer, work, sizeof work);
+    if (lutsamik_refusal(result) != LUTSAMIK_OK || lutsamik_assumed(result) != LUTSAMIK_NONE_WITH_SOME || first != 2 ||
+        second != 0)
+        return fail("K6 is not found to have no fitting with 20 and 01", result);
+    first = second = 9;
+    result = lutsamik_assume_magic(table, sizeof table, facts, 3, &first, &second, rules, sizeof rules, answer,
+                                   sizeof answer, work, sizeof work);
+    if (lutsamik_refusal(result) != LUTSAMIK_BAD_FACTS || first != 9 || second != 9)
+        return fail("K6 is found to have an atom 6", result);
+    result = lutsamik_judge(table, sizeof table, answer, sizeof answer);
+    if (lutsamik_judged(result) != LUTSAMIK_FITTING)
+        return fail("K6's fitting does not stay in the answer", result);
+    return 0;
+}
+
+/* The table is K6's: its one part is fitted as the whole is. The count is lent, and is not in the result. */
+static int fits_by_parts(void) {
+    uint64_t count = 9;
+    uint64_t result = lutsamik_parts_relevancy(table, sizeof table, &count, answer, sizeof answer, work, sizeof work);
+    if (!is_fit(result, LUTSAMIK_FITS, 0, 0) || count != 2)
+        return fail("K6 is not fitted by its one part", result);
+    count = 9;
+    result = lutsamik_parts_magic(table, sizeof table, &count, rules, sizeof rules, answer, sizeof answer, work,
+                                  sizeof work);
+    if (!is_fit(result, LUTSAMIK_FITS, 0, 0) || count != 2)
+        return fail("K6 is not fitted by its one part and by rules", result);
+    result = lutsamik_parts_magic(table, sizeof table - 1, &count, rules, sizeof rules, answer, sizeof answer, work,
+                                  sizeof work);
+    if (lutsamik_refusal(result) != LUTSAMIK_SHORT_BUFFER || count != 2)
+        return fail("a table that is too short is fitted by parts", result);
+    return 0;
+}
+
 /* Of K6's fitting clause 3 has its first condition, 20, where 80 is 0, and not its second, 01. There is no clause 4. */
 static int says_how_many_hold(void) {
     uint64_t result = lutsamik_holding(table, sizeof table, answer, sizeof answer, 3, 0, 0, 0, 0);
@@ -229,7 +273,8 @@ static int says_how_many_hold(void) {
 
 int main(void) {
     if (takes_apart() || is_laid_out() || refuses() || reads_and_writes() || judges() || rewrites_and_fits_none() ||
-        adds() || comes_back() || fits_and_judges() || says_how_many_hold())
+        adds() || comes_back() || fits_and_judges() || assumes() || fits_by_parts() ||
+        says_how_many_hold())
         return 1;
     puts("smoke: results are taken apart, a session is laid out, and each operation answers for K1 or K6");
     return 0;

@@ -2,12 +2,14 @@
 //! are lent again and again. The answers must be those of the implementation that is written from document 01, and after the first tenth
 //! the process must not grow, by no page and by no byte of heap. Usage: soak [NUMBER OF TICKETS [SEED]]. The same tickets in every run with the same seed.
 mod arbitrary;
+mod assume;
 mod footprint;
 mod host;
 mod library;
 mod logic;
 mod magic;
 mod mangle;
+mod parts;
 mod random;
 mod reference;
 mod report;
@@ -16,10 +18,10 @@ mod tickets;
 mod walk;
 
 use footprint::Footprint;
-use host::{Host, ENGINES, WITH_SESSION};
-use library::{fit, packed, FITTING};
+use host::{Host, BY_PARTS, ENGINES, WITH_FACTS, WITH_SESSION};
+use library::{fit, packed, said, FITTING};
 use random::Random;
-use reference::{Ticket, STALE_SLIP};
+use reference::{Ticket, MOST_CLAUSES, STALE_SLIP};
 use report::{same, same_answer, Report};
 use walk::{walk, Relevancy, Verdict};
 
@@ -28,6 +30,9 @@ const SEED: u64 = 601;
 
 /// Walks are cut after this many entries.
 const LONG: u64 = 300;
+
+/// The most facts that are open.
+const FACTS: usize = 2;
 
 fn main() {
     let mut arguments = std::env::args().skip(1).map(|word| word.parse().expect("the arguments are numbers"));
@@ -41,7 +46,8 @@ fn main() {
 
 /// Serves all, which takes no memory itself.
 fn soak(jobs: &[Job]) -> Result<(), Report> {
-    let mut soak = Soak { host: Host::new(), calls: 0, refused: 0, verdicts: [0; 3] };
+    let host = Host { facts: Vec::with_capacity(FACTS), ..Host::new() };
+    let mut soak = Soak { host, calls: 0, refused: 0, verdicts: [0; 3] };
     let (first, rest) = jobs.split_at(jobs.len() / 10);
     footprint::settle();
     first.iter().try_for_each(|job| soak.serve(job))?;
@@ -62,7 +68,8 @@ struct Job {
     accepted: Option<Answers>,
 }
 
-/// The text with the rule that is offered and set is `longer`, where offering does not refuse it.
+/// The text with the rule that is offered and set is `longer`, where offering does not refuse it. With these facts open `assumed` is said, with
+/// `counts`; by parts there is a verdict with a sum.
 struct Answers {
     rewrite: u64,
     fit: u64,
@@ -70,6 +77,10 @@ struct Answers {
     rule: Vec<u8>,
     offer: u64,
     longer: Vec<u8>,
+    facts: Vec<u32>,
+    assumed: u64,
+    counts: [u32; 2],
+    by_parts: (Verdict, u64),
 }
 
 /// The first has the longest path there is, and so needs the most stack.
@@ -87,7 +98,12 @@ fn jobs(random: &mut Random, tickets: u64) -> Vec<Job> {
 impl Job {
     fn of_text(text: Vec<u8>) -> Job {
         match reference::read(&text) {
-            Ok(ticket) => Job::of_ticket(&Ticket { limit: arbitrary::quick_limit(&ticket, LONG).to_be_bytes(), ..ticket }),
+            Ok(ticket) => {
+                let longer = assume::with_facts(&ticket, &facts_of(&ticket));
+                let parts = parts::parts(&ticket).into_iter().map(|part| part.ticket);
+                let limit = parts.chain([longer]).map(|ticket| arbitrary::quick_limit(&ticket, LONG)).fold(arbitrary::quick_limit(&ticket, LONG), u32::min);
+                Job::of_ticket(&Ticket { limit: limit.to_be_bytes(), ..ticket })
+            }
             Err(refusal) => Job { text, read: packed(refusal.number, refusal.line), accepted: None },
         }
     }
@@ -99,9 +115,24 @@ impl Job {
         let text = reference::print(ticket);
         let rule = ticket.clauses.first().map_or(vec![slip::CLAUSE, 0, 0], reference::clause_frame);
         let offer = packed(slip::next_clause(ticket, &rule).map_or_else(slip::Why::number, |_| 0), 0);
-        let answers = Answers { rewrite, fit, verdict, longer: slip::text_with(&text, &rule), rule, offer };
+        let facts = facts_of(ticket);
+        let with_all = || walk(&Relevancy::new(&assume::with_facts(ticket, &facts)), u32::from_be_bytes(ticket.limit), &mut |_, _| {});
+        let told = assume::told(&outcome, with_all);
+        let (assumed, counts) = (said(told.said as u8), told.counts);
+        let of_part = |_, part: &parts::Part| walk(&Relevancy::new(&part.ticket), u32::from_be_bytes(ticket.limit), &mut |_, _| {});
+        let told = parts::told(ticket, &parts::parts(ticket), of_part);
+        let by_parts = (told.verdict, told.count);
+        let answers = Answers { rewrite, fit, verdict, longer: slip::text_with(&text, &rule), rule, offer, facts, assumed, counts, by_parts };
         Job { text, read: packed(0, 0), accepted: Some(answers) }
     }
+}
+
+/// The last atom and the first one, where there is room for them.
+fn facts_of(ticket: &Ticket) -> Vec<u32> {
+    let atoms = ticket.atoms() as u32;
+    let mut facts = if atoms > 1 { vec![atoms - 1, 0] } else { (0..atoms).collect() };
+    facts.truncate(MOST_CLAUSES - ticket.clauses.len());
+    facts
 }
 
 /// A host, and what it has met.
@@ -126,6 +157,12 @@ impl Soak {
         for (_, engine) in ENGINES {
             self.fit(job, answers, engine)?;
         }
+        for (_, assume) in WITH_FACTS {
+            self.assume(job, answers, assume)?;
+        }
+        for (_, engine) in BY_PARTS {
+            self.by_parts(job, answers, engine)?;
+        }
         for (_, begin, resume) in WITH_SESSION {
             self.fit(job, answers, begin)?;
             self.fit(job, answers, |host| resume(host, 0))?;
@@ -138,6 +175,24 @@ impl Soak {
         self.host.answer.fill(0xEE);
         self.call(job, answers.fit, engine)?;
         if answers.verdict == Verdict::Fits {
+            self.call(job, FITTING, Host::judge)?;
+        }
+        Ok(())
+    }
+
+    fn assume(&mut self, job: &Job, answers: &Answers, engine: impl Fn(&mut Host) -> u64) -> Result<(), Report> {
+        self.host.facts.clear();
+        self.host.facts.extend_from_slice(&answers.facts);
+        self.call(job, answers.assumed, engine)?;
+        same("counts with open facts", answers.counts, self.host.counts)
+    }
+
+    fn by_parts(&mut self, job: &Job, answers: &Answers, engine: impl Fn(&mut Host) -> u64) -> Result<(), Report> {
+        let (verdict, sum) = answers.by_parts;
+        self.host.answer.fill(0xEE);
+        self.call(job, said(verdict as u8), engine)?;
+        same("the sum of the parts' counts", sum, self.host.count)?;
+        if verdict == Verdict::Fits {
             self.call(job, FITTING, Host::judge)?;
         }
         Ok(())

@@ -2,10 +2,12 @@
 //! of 1 MB, and on a stack of this program's own, painted beforehand, so that the bytes used can be counted; they must be within a bound. On
 //! paths of some lengths they must be what the header's table says, or a little less.
 //! Usage: stack [BYTES OF STACK]. Where the stack is too small, a signal ends the program.
+mod assume;
 mod host;
 mod library;
 mod logic;
 mod painted;
+mod parts;
 mod random;
 mod reference;
 mod report;
@@ -13,13 +15,13 @@ mod session;
 mod tickets;
 mod walk;
 
-use host::{Host, ENGINES, WITH_SESSION};
-use library::{fit, packed, violated, Session};
+use host::{Host, BY_PARTS, ENGINES, WITH_FACTS, WITH_SESSION};
+use library::{fit, packed, said, violated, Session};
 use reference::Ticket;
 use report::{same, same_answer, Report};
 use session::{begun, resumed, Told};
 use std::hint::black_box;
-use walk::{walk, Relevancy, Remembering};
+use walk::{walk, Outcome, Relevancy, Remembering};
 
 const STACK: usize = 1 << 20;
 
@@ -28,6 +30,10 @@ const STACK: usize = 1 << 20;
 const MOST_TO_WALK: usize = 9 << 16;
 const MOST_TO_GO_ON: usize = 5 << 17;
 const MOST: usize = 1 << 14;
+
+/// How much more than a first run a call with open facts may use, or one by parts, as the header says.
+const MORE_WITH_FACTS: usize = 16_000;
+const MORE_BY_PARTS: usize = 40_000;
 
 /// The header's table: for paths of so many entries, what a first run and going on with a session use, by each engine.
 const HEADER: &str = include_str!("../include/lutsamik.h");
@@ -130,7 +136,34 @@ fn walked(ticket: &Ticket, count: u32, path: u32, stack: usize) -> Result<[usize
         most[i] = used(name, expected, stack, MOST_TO_WALK, || engine(&mut host))?;
         println!("stack: {count} entries, on a path of up to {path}, are walked by {name} in a thread of {stack} bytes, and uses {} of them", most[i]);
     }
+    with_facts(ticket, &outcome, most, stack)?;
+    by_parts(ticket, most, stack)?;
     Ok(most)
+}
+
+/// The same with no open fact, which runs the ticket twice unless it ends in none: a little more than a first run uses.
+fn with_facts(ticket: &Ticket, outcome: &Outcome, first_run: [usize; 2], stack: usize) -> Result<(), Report> {
+    let told = assume::told(outcome, || outcome.clone());
+    let mut host = Host { table: reference::encode(ticket), ..Host::new() };
+    for ((name, engine), first_run) in WITH_FACTS.into_iter().zip(first_run) {
+        let used = used(name, said(told.said as u8), stack, first_run + MORE_WITH_FACTS, || engine(&mut host))?;
+        same("counts with open facts", told.counts, host.counts)?;
+        println!("stack: with open facts, on a path of up to {}, {name} uses {used} bytes", outcome.deepest);
+    }
+    Ok(())
+}
+
+/// The same by parts.
+fn by_parts(ticket: &Ticket, first_run: [usize; 2], stack: usize) -> Result<(), Report> {
+    let run = |_, part: &parts::Part| walk(&Relevancy::new(&part.ticket), u32::from_be_bytes(ticket.limit), &mut |_, _| {});
+    let told = parts::told(ticket, &parts::parts(ticket), run);
+    let mut host = Host { table: reference::encode(ticket), ..Host::new() };
+    for ((name, engine), first_run) in BY_PARTS.into_iter().zip(first_run) {
+        let used = used(name, said(told.verdict as u8), stack, first_run + MORE_BY_PARTS, || engine(&mut host))?;
+        same("the sum of the parts' counts", told.count, host.count)?;
+        println!("stack: by parts, of {} entries, {name} uses {used} bytes", told.count);
+    }
+    Ok(())
 }
 
 /// A ticket that has so many entries, with a session, by each engine: how many bytes a first run of them all uses, and going on up to the last one.
