@@ -31,7 +31,7 @@ use memory::{less_than, Memory};
 use met::Required;
 use operations::{Buffer, Lent, Operation, BUFFERS};
 use random::Random;
-use reference::{Clause, Ticket, BAD_COUNT, BAD_FACTS, MOST_CLAUSES, NO_TABLE, SHORT_BUFFER};
+use reference::{Atom, Clause, Ticket, BAD_COUNT, BAD_FACTS, MOST_CLAUSES, NO_TABLE, SHORT_BUFFER};
 use report::{same, Report};
 use threads::Run;
 use walk::{Relevancy, Verdict, Whole};
@@ -265,6 +265,19 @@ impl Run<Met> {
             let lent = lend(&mut self.random, &reference::encode(&ticket), facts);
             same(&format!("{text}with {facts:?}"), [number; 2], self.as_expected(&lent)?)?;
         }
+        self.at_the_limits()
+    }
+
+    /// A ticket of 20 atoms, each of which may be a fact, with so many clauses and so many facts, the last one again where that is said.
+    fn at_the_limits(&mut self) -> Result<(), Report> {
+        for (clauses, many, again, number) in AT_THE_LIMITS {
+            let fact = Clause::new(&[], &[Atom::new(0, &[0])]);
+            let ticket = Ticket { constants: 20, limit: [0; 4], arities: vec![1], clauses: vec![fact; clauses] };
+            let mut facts: Vec<u32> = (0..many as u32).rev().collect();
+            facts.extend(facts.last().copied().filter(|_| again));
+            let lent = lend(&mut self.random, &reference::encode(&ticket), &facts);
+            same(&format!("{clauses} clauses with {facts:?}"), [number; 2], self.as_expected(&lent)?)?;
+        }
         Ok(())
     }
 }
@@ -332,6 +345,21 @@ const REFUSED_BY_HAND: [(&str, &[u32], u8); 7] = [
     (NO_ATOMS, &[0], BAD_FACTS),
     (K6, &[0; 60], BAD_FACTS),
     (K6, &[0; 61], BAD_COUNT),
+];
+
+/// Clauses, facts, whether the last one is repeated, and the refusal's number: 5 comes before 45.
+const AT_THE_LIMITS: [(usize, usize, bool, u8); 11] = [
+    (0, 16, false, 0),
+    (0, 17, false, BAD_FACTS),
+    (48, 16, false, 0),
+    (47, 17, false, BAD_FACTS),
+    (48, 17, false, BAD_COUNT),
+    (49, 16, false, BAD_COUNT),
+    (63, 1, false, 0),
+    (62, 1, true, BAD_FACTS),
+    (63, 1, true, BAD_COUNT),
+    (64, 0, false, 0),
+    (64, 1, false, BAD_COUNT),
 ];
 
 /// What is met, by kind.

@@ -1,7 +1,7 @@
 //! Tickets fitted part by part, by the library's two engines and by what `parts.rs` has of document 02: on many small random tickets, most of them put
 //! together from several that share no predicate, and on some of any size, with limits around the parts' counts, verdict, the sum of the counts and every
 //! byte of every buffer must agree; so must refusals. Fits and none are held to the whole ticket, where there are few atoms by trying all sets, and to the
-//! whole walk, which says the same where it is not spent. Tickets by hand come first. Usage: parting [NUMBER OF TICKETS]. The same calls in every run.
+//! whole walk, which says the same where it is not spent. Tickets by hand come first, some whose whole walk nobody waits for. Usage: parting [NUMBER OF TICKETS]. The same calls in every run.
 mod arbitrary;
 mod assume;
 mod library;
@@ -22,6 +22,7 @@ mod session;
 mod slip;
 mod threads;
 mod tickets;
+mod unrelated;
 mod walk;
 
 use library::packed;
@@ -32,9 +33,13 @@ use met::Required;
 use operations::{Buffer, Lent, Operation, BUFFERS};
 use parts::{has_fitting, parts, told, Part, Told};
 use random::Random;
-use reference::{Atom, Clause, Ticket, MOST_CLAUSES, NO_TABLE, SHORT_BUFFER};
+use reference::{Atom, Clause, Ticket, ANSWER, MOST_CLAUSES, NO_TABLE, RULES, SHORT_BUFFER, WORK};
 use report::{same, Report};
+use std::sync::mpsc;
+use std::thread;
+use std::time::Duration;
 use threads::Run;
+use unrelated::Family;
 use walk::{Relevancy, Verdict, Whole};
 
 const TICKETS: u64 = 4_000;
@@ -54,6 +59,7 @@ fn main() {
 fn run(run: &mut Run<Met>, tickets: u64) -> Result<(), Report> {
     if run.number == 0 {
         run.by_hand()?;
+        run.at_once()?;
     }
     while run.tally.own.tickets < tickets {
         run.step()?;
@@ -268,6 +274,61 @@ impl Run<Met> {
         }
         Ok(())
     }
+
+    /// Tickets with walks whose end nobody waits for, but not by parts: a none before them ends it, and of families each is walked by itself.
+    fn at_once(&mut self) -> Result<(), Report> {
+        let (small, sum) = unrelated::three(2, u32::MAX);
+        let told = Case::new(small, 1000)?.told(1000);
+        same("verdict and sum of three small families", (Verdict::Fits, sum), (told.verdict, told.count))?;
+        for (name, ticket, verdict, count) in endless() {
+            for operation in PARTS {
+                let (given, sum, answer) = in_time(operation, &ticket).ok_or_else(|| format!("{name}: {operation:?} is not answered in time"))?;
+                same(&format!("{name}: {operation:?}"), (library::said(verdict as u8), count), (given, sum))?;
+                if verdict == Verdict::Fits {
+                    same(name, library::FITTING, library::judge(&reference::encode(&ticket), &answer))?;
+                }
+                self.tally.calls += 1;
+            }
+        }
+        Ok(())
+    }
+}
+
+/// How long a call by parts may take, on a machine that has much else to do.
+const PATIENCE: Duration = Duration::from_secs(60);
+
+/// The answer, the sum and the marks of a call with this ticket; nothing where it takes too long.
+fn in_time(operation: Operation, ticket: &Ticket) -> Option<(u64, u64, Vec<u8>)> {
+    let (table, (answered, told)) = (reference::encode(ticket), mpsc::channel());
+    let call = move || {
+        let (mut sum, mut rules, mut answer, mut work) = (u64::MAX, vec![7; RULES], vec![7; ANSWER], vec![7; WORK]);
+        let given = match operation {
+            Operation::PartsMagic => library::parts_magic(&table, &mut sum, &mut rules, &mut answer, &mut work),
+            _ => library::parts_relevancy(&table, &mut sum, &mut answer, &mut work),
+        };
+        let _ = answered.send((given, sum, answer));
+    };
+    thread::spawn(call);
+    told.recv_timeout(PATIENCE).ok()
+}
+
+/// What each is, with verdict and sum. A family of seven lines has 2 to the power of 49 ways to choose; the product of three with sixteen choices is as long.
+fn endless() -> [(&'static str, Ticket, Verdict, u64); 4] {
+    let bare = Clause::new(&[], &[]);
+    let atom = |predicate: u8| Atom::new(predicate, &[]);
+    let neither = [Clause::new(&[], &[atom(0), atom(1)]), Clause::new(&[atom(0)], &[]), Clause::new(&[atom(1)], &[])];
+    let long = |before: u8, clauses: &[Clause]| {
+        let own = Family { first: before, lines: 7 }.without_fitting();
+        unrelated::ticket(7, before, 1, [&own, clauses].concat(), u32::MAX)
+    };
+    let (three, sum) = unrelated::three(4, u32::MAX);
+    let (limited, _) = unrelated::three(4, 150_000);
+    [
+        ("a clause without atoms behind a long family", long(0, &[bare]), Verdict::None, 0),
+        ("a part that is none before a long one", long(2, &neither), Verdict::None, 2),
+        ("three families", three, Verdict::Fits, sum),
+        ("three families under a limit that each keeps, and their sum passes", limited, Verdict::Fits, sum),
+    ]
 }
 
 /// Puts the predicates and clauses of another ticket behind those of the first, as far as there is room; its constants are taken as the first's are.
@@ -316,7 +377,7 @@ type ByHand = (&'static str, &'static [&'static [u8]], Verdict, u64, &'static st
 
 /// Predicates without arguments, so that an atom has its predicate's number. Families of a split over two atoms, both of them wanted by denials: of one,
 /// or of both apart.
-const BY_HAND: [ByHand; 9] = [
+const BY_HAND: [ByHand; 12] = [
     // no clause: each predicate is a part that fits
     ("0101000300000000\n0200\n0200\n0200\nFF00\n", &[&[0], &[1], &[2]], Verdict::Fits, 0, "111"),
     // two families, one in between the other; each enters two atoms, under a limit of two
@@ -347,6 +408,30 @@ const BY_HAND: [ByHand; 9] = [
     ),
     // the same but for the denial: the second family fits, and the ticket is spent
     ("0101000400000001\n0200\n0200\n0200\n0200\n0300020001\n03010000\n0302000100\n03000102\nFF04\n", &[&[0, 1], &[2], &[3]], Verdict::Spent, 1, ""),
+    // the first family is spent after two entries, the second fits after two: it is run, and counted
+    (
+        "0101000600000002\n0200\n0200\n0200\n0200\n0200\n0200\n030003000102\n03010000\n03010001\n03010002\n0300020304\n03010003\n0302000403\nFF07\n",
+        &[&[0, 1, 2], &[3, 4], &[5]],
+        Verdict::Spent,
+        4,
+        "",
+    ),
+    // the same but that the second has no fitting, after two entries
+    (
+        "0101000600000002\n0200\n0200\n0200\n0200\n0200\n0200\n030003000102\n03010000\n03010001\n03010002\n0300020304\n03010003\n03010004\nFF07\n",
+        &[&[0, 1, 2], &[3, 4], &[5]],
+        Verdict::None,
+        4,
+        "",
+    ),
+    // a predicate in no clause, before a family: all its atoms are in the fitting
+    (
+        "0101020300000002\n0202\n0200\n0200\n0300020102\n03010001\n0302000201\nFF03\n",
+        &[&[0], &[1, 2]],
+        Verdict::Fits,
+        2,
+        "111101",
+    ),
     // a clause without atoms comes first, wherever it stands, and is none at once
     ("0101000200000064\n0200\n0200\n0300020001\n030000\nFF02\n", &[&[], &[0, 1]], Verdict::None, 0, ""),
     // two of them: the first ends it
