@@ -1,4 +1,4 @@
-//! A given answer: the set of atoms in a file.
+//! A given answer: the set of atoms in a file; and atoms by their names.
 
 use crate::ending::Failure;
 use crate::language::Names;
@@ -35,6 +35,11 @@ fn listed(file: &str, bytes: &[u8], accepted: &Accepted) -> Result<Vec<u8>, Fail
         }
     }
     Ok(marks)
+}
+
+/// The number of an atom that is written so.
+pub fn number(word: &str, accepted: &Accepted) -> Option<usize> {
+    spellings(accepted).get(&bare(word)).copied()
 }
 
 /// An empty line, or one that `fit` prints of a walk that found a fitting.

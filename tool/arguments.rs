@@ -1,8 +1,9 @@
-//! The words after a command: options, some with a value, files, and a rule. Which ones there can be is what the usage says, in the first line of the
+//! The words after a command: options, some with a value, files, and a rule or atoms. Which ones there can be is what the usage says, in the first line of the
 //! command's help; `lutsamik`, the script, reads it too.
 
 use crate::ending::{Ending, Failure};
 use crate::spell::counted;
+use std::borrow::Cow;
 use std::ffi::{OsStr, OsString};
 use std::os::unix::ffi::{OsStrExt, OsStringExt};
 
@@ -13,13 +14,24 @@ pub struct Command {
     pub run: fn(&Arguments) -> Result<Ending, Failure>,
 }
 
-/// The words that are no options are the files, and then the rule.
+/// The words that are no options are the files, and then what stands behind them.
 #[derive(Default)]
 pub struct Arguments {
     words: Vec<OsString>,
     options: Vec<(&'static str, OsString)>,
     flags: Vec<&'static str>,
-    has_rule: bool,
+    /// how many of the words are files
+    files: usize,
+}
+
+/// What stands behind the files.
+#[derive(Clone, Copy, Default, PartialEq, Eq)]
+enum Behind {
+    #[default]
+    Nothing,
+    Rule,
+    /// one or more
+    Atoms,
 }
 
 /// What a usage allows.
@@ -29,7 +41,7 @@ struct Allowed {
     options: Vec<(&'static str, &'static str)>,
     flags: Vec<&'static str>,
     files: usize,
-    rule: bool,
+    behind: Behind,
 }
 
 /// What the usage calls a value that is a number: of entries or fittings, or of seconds.
@@ -50,7 +62,8 @@ impl Command {
             match (bare.starts_with('-'), bare) {
                 (true, _) if word.ends_with(']') => allowed.flags.push(bare),
                 (true, _) => allowed.options.push((bare, words.next().unwrap_or_default().trim_end_matches(']'))),
-                (false, "RULE") => allowed.rule = true,
+                (false, "RULE") => allowed.behind = Behind::Rule,
+                (false, "ATOM...") => allowed.behind = Behind::Atoms,
                 (false, _) => allowed.files += 1,
             }
         }
@@ -59,7 +72,7 @@ impl Command {
 
     pub fn arguments(&self, words: &[OsString]) -> Result<Arguments, Failure> {
         let allowed = self.allowed();
-        let mut arguments = Arguments { has_rule: allowed.rule, ..Arguments::default() };
+        let mut arguments = Arguments { files: allowed.files, ..Arguments::default() };
         let mut words = words.iter();
         while let Some(word) = words.next() {
             if word == "--" {
@@ -69,9 +82,13 @@ impl Command {
             }
         }
         let given = arguments.words.len();
-        if given != allowed.files + allowed.rule as usize {
-            let rule = if allowed.rule { " and a rule" } else { "" };
-            return Err(self.wrong(&format!("{} takes {}{rule} and was given {given}", self.name, counted(allowed.files, "file"))));
+        let (most, behind) = match allowed.behind {
+            Behind::Nothing => (allowed.files, ""),
+            Behind::Rule => (allowed.files + 1, " and a rule"),
+            Behind::Atoms => (given.max(allowed.files + 1), " and one atom or more"),
+        };
+        if given != most {
+            return Err(self.wrong(&format!("{} takes {}{behind} and was given {given}", self.name, counted(allowed.files, "file"))));
         }
         match arguments.files().iter().filter(|file| *file == "-").count() {
             0 | 1 => Ok(arguments),
@@ -82,7 +99,7 @@ impl Command {
     /// Takes a word, and the next one where it is the word's value. A rule may begin with its arrow, as no option does.
     fn take<'a>(&self, allowed: &Allowed, word: &'a OsString, rest: &mut impl Iterator<Item = &'a OsString>, into: &mut Arguments) -> Result<(), Failure> {
         let (name, value) = parted(word);
-        if word == "-" || !name.starts_with('-') || (allowed.rule && name.starts_with("->")) {
+        if word == "-" || !name.starts_with('-') || (allowed.behind == Behind::Rule && name.starts_with("->")) {
             into.words.push(word.clone());
         } else if let Some((option, kind)) = allowed.options.iter().find(|(option, _)| *option == name) {
             let value = value.or_else(|| rest.next().cloned()).ok_or_else(|| self.wrong(&format!("{option} needs a value")))?;
@@ -121,7 +138,12 @@ impl Arguments {
     }
 
     pub fn files(&self) -> &[OsString] {
-        &self.words[..self.words.len() - self.has_rule as usize]
+        &self.words[..self.files]
+    }
+
+    /// The words behind the files.
+    pub fn atoms(&self) -> impl Iterator<Item = Cow<'_, str>> {
+        self.words[self.files..].iter().map(|word| word.to_string_lossy())
     }
 
     /// The last word, of a command that takes a rule.

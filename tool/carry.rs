@@ -68,7 +68,7 @@ impl Carry<'_> {
             _ => format!("saved: {}\n", save.name),
         });
         let verdict = verdict_words(fit, self.most, stopper) + &depth_words(&walk.depth());
-        let stats = if self.arguments.has("--stats") { stats_words(self.accepted, fit)? } else { String::new() };
+        let stats = if self.arguments.has("--stats") { stats_words(self.accepted, fit.count as u64)? } else { String::new() };
         let shown = fitting.as_ref().map_or(Ok(String::new()), |fitting| fitting_words(self.arguments, fitting))?;
         let further = further.map_or(Ok(String::new()), |further| self.further_words(&further))?;
         Ok(Ending::new(status(fit.verdict), [verdict, engine_words(self.engines), stats, saved, shown, further].concat()))

@@ -8,6 +8,7 @@ pub enum Status {
     Usage = 2,
     Disagreement = 3,
     Fits = 10,
+    NoneWithSome = 15,
     None = 20,
     Spent = 30,
     Stopped = 130,

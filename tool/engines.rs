@@ -15,7 +15,7 @@ use std::thread;
 use std::time::Instant;
 
 /// The bytes of stack that an engine is left, as include/lutsamik.h asks.
-const STACK: usize = 1 << 20;
+pub const STACK: usize = 1 << 20;
 
 pub struct Walk {
     runs: Vec<Running>,

@@ -8,7 +8,7 @@ use crate::engines::agreed;
 use crate::fit::status;
 use crate::interrupt;
 use crate::json::{self, Json};
-use crate::library::{Engine, Verdict};
+use crate::library::{Engine, Fit, Verdict};
 use crate::out;
 use crate::progress::Line;
 use crate::source::{called, Accepted, Source};
@@ -40,29 +40,50 @@ fn run(arguments: &Arguments) -> Result<Ending, Failure> {
     let accepted = Source::open(arguments.file(0))?.accepted()?;
     let accepted = accepted.with_limit(arguments.number("--limit")?.unwrap_or(accepted.ticket.limit))?;
     interrupt::catch();
-    let verdict = ask(&[Engine::Magic], &accepted)?;
+    let verdict = ask(&[Engine::Magic], &accepted)?.verdict;
     if verdict != Verdict::None {
         return Ok(nothing(arguments, verdict));
     }
     let kept = kept(&accepted)?;
-    clock::stop();
+    clock::go_on();
     let reduced = accepted.only(&kept.iter().map(|(clause, _)| *clause).collect::<Vec<_>>())?;
-    if ask(&[Engine::Relevancy, Engine::Magic], &reduced)? != Verdict::None {
-        return Err(Failure::disagreement("the rules that are left have a fitting, or are spent"));
-    }
-    let entries = agreed(&[Engine::Magic], &reduced)?.at.fit.count;
-    let made = if entries <= DRAWN { Some(trail::made(&reduced)?) } else { None };
-    let drawing = made.as_ref().map(|(tree, walk)| svg::drawing(&reduced, tree, &walk.at.fit, &title(arguments, &reduced)));
-    match (out, &drawing) {
+    let entries = confirmed(&reduced)?;
+    let longest = if clock::is_over() { PRINTED } else { DRAWN };
+    clock::stop();
+    let is_drawn = arguments.option("--svg").is_some() && entries.is_some_and(|entries| entries <= longest);
+    let drawing = if is_drawn { Some(drawing(arguments, &reduced)?) } else { None };
+    match (out, drawing) {
         (Some(out), Some(drawing)) => out::put(out, drawing.as_bytes())?,
-        (None, Some(drawing)) if arguments.option("--svg").is_some() => return Ok(Ending::new(Status::None, drawing.as_bytes())),
+        (None, Some(drawing)) => return Ok(Ending::new(Status::None, drawing)),
         _ => {}
     }
     if arguments.has("--json") {
         return Ok(as_json(&accepted, &kept, entries));
     }
-    let tree = made.filter(|_| entries <= PRINTED).map_or(String::new(), |(tree, _)| trail::tree_words(&reduced, &tree));
-    Ok(Ending::new(Status::None, words(&accepted, &kept, entries) + &tree))
+    let undrawn = match entries {
+        _ if is_drawn || arguments.option("--svg").is_none() => "",
+        Some(_) => "not drawn: the trail is too long\n",
+        None => "not drawn: the time was over\n",
+    };
+    let is_printed = entries.is_some_and(|entries| entries <= PRINTED);
+    let tree = if is_printed { trail::tree_words(&reduced, &trail::made(&reduced)?.0) } else { String::new() };
+    Ok(Ending::new(Status::None, words(&accepted, &kept, entries) + undrawn + &tree))
+}
+
+/// Both engines are asked whether the rules that are left have no fitting: after how many entries; nothing where the time is over before.
+fn confirmed(reduced: &Accepted) -> Result<Option<u32>, Failure> {
+    let fit = ask(&[Engine::Relevancy, Engine::Magic], reduced)?;
+    match fit.verdict {
+        Verdict::None => Ok(Some(fit.count)),
+        Verdict::Spent if clock::is_over() && fit.count < reduced.ticket.limit => Ok(None),
+        _ => Err(Failure::disagreement("the rules that are left have a fitting, or are spent")),
+    }
+}
+
+/// The trail of the rules that are left.
+fn drawing(arguments: &Arguments, reduced: &Accepted) -> Result<String, Failure> {
+    let (tree, walk) = trail::made(reduced)?;
+    Ok(svg::drawing(reduced, &tree, &walk.at.fit, &title(arguments, reduced)))
 }
 
 fn title(arguments: &Arguments, reduced: &Accepted) -> String {
@@ -70,12 +91,12 @@ fn title(arguments: &Arguments, reduced: &Accepted) -> String {
 }
 
 /// What the engines say of a ticket under its limit.
-fn ask(engines: &[Engine], accepted: &Accepted) -> Result<Verdict, Failure> {
-    let verdict = agreed(engines, accepted)?.at.fit.verdict;
+fn ask(engines: &[Engine], accepted: &Accepted) -> Result<Fit, Failure> {
+    let fit = agreed(engines, accepted)?.at.fit;
     if interrupt::is_asked() {
         return Err(Failure::stopped("stopped by Ctrl-C: nothing is explained"));
     }
-    Ok(verdict)
+    Ok(fit)
 }
 
 /// A set of clauses that has no fitting, with what is known of each.
@@ -111,7 +132,7 @@ fn try_without(accepted: &Accepted, clause: usize, kept: &mut Vec<(usize, Withou
 /// What is known of the others; nothing where they have no fitting.
 fn without(accepted: &Accepted, kept: &[(usize, Without)], clause: usize) -> Result<Option<Without>, Failure> {
     let rest: Vec<usize> = kept.iter().map(|(own, _)| *own).filter(|own| *own != clause).collect();
-    Ok(match ask(&[Engine::Magic], &accepted.only(&rest)?)? {
+    Ok(match ask(&[Engine::Magic], &accepted.only(&rest)?)?.verdict {
         Verdict::None => None,
         Verdict::Fits => Some(Without::Fits),
         Verdict::Spent if clock::is_over() => Some(Without::Untried),
@@ -141,7 +162,7 @@ fn nothing(arguments: &Arguments, verdict: Verdict) -> Ending {
     Ending::new(status(verdict), words)
 }
 
-fn words(accepted: &Accepted, kept: &[(usize, Without)], entries: u32) -> String {
+fn words(accepted: &Accepted, kept: &[(usize, Without)], entries: Option<u32>) -> String {
     let all = accepted.ticket.clauses.len();
     let mut words = format!("none: these {} of {all} rules already have no fitting\n", kept.len());
     for (clause, without) in kept {
@@ -154,7 +175,10 @@ fn words(accepted: &Accepted, kept: &[(usize, Without)], entries: u32) -> String
     }
     let needed = kept.iter().filter(|(_, without)| *without == Without::Fits).count();
     let needed = if needed == kept.len() { "any one of them".to_string() } else { format!("any one of the {needed} that are not marked") };
-    words += &format!("checked: by both engines they have none, after {entries} entries; without {needed} the others fit\n");
+    words += &match entries {
+        Some(entries) => format!("checked: by both engines they have none, after {entries} entries; without {needed} the others fit\n"),
+        None => format!("by the magic engine they have none, and without {needed} the others fit; the time was over before both engines had walked them once more\n"),
+    };
     let has = |known: Without| kept.iter().any(|(_, without)| *without == known);
     if has(Without::Spent) {
         words += "[spent]: without this rule the walk is spent, so it may not be needed; --limit N allows more entries\n";
@@ -165,13 +189,14 @@ fn words(accepted: &Accepted, kept: &[(usize, Without)], entries: u32) -> String
     words
 }
 
-fn as_json(accepted: &Accepted, kept: &[(usize, Without)], entries: u32) -> Ending {
+fn as_json(accepted: &Accepted, kept: &[(usize, Without)], entries: Option<u32>) -> Ending {
     let rule = |(clause, without): &(usize, Without)| {
         let without = format!("{without:?}").to_lowercase();
         Json::Record(accepted.clause_fields(*clause).into_iter().chain([("without", Json::text(without))]).collect())
     };
     let more = vec![
-        ("entries", Json::number(entries)),
+        ("entries", entries.map_or(Json::Null, Json::number)),
+        ("checked", Json::True(entries.is_some())),
         ("of", Json::number(accepted.ticket.clauses.len())),
         ("rules", Json::List(kept.iter().map(rule).collect())),
     ];

@@ -11,6 +11,7 @@ use crate::json::{self, Json};
 use crate::library::{self, Engine, Fit, Refusal, Verdict};
 use crate::more::Further;
 use crate::out;
+use crate::parts;
 use crate::save::Save;
 use crate::source::{Accepted, Source};
 use crate::spell::hex;
@@ -23,6 +24,9 @@ fn run(arguments: &Arguments) -> Result<Ending, Failure> {
     let limit = arguments.number("--limit")?;
     clock::begin(arguments.number("--time-limit")?);
     out::file(arguments, "--svg")?;
+    if arguments.has("--parts") {
+        parts::check(arguments)?;
+    }
     let source = Source::open(arguments.file(0))?;
     if arguments.has("--lines") {
         if let Err(refusal) = library::read(&source.text) {
@@ -31,6 +35,10 @@ fn run(arguments: &Arguments) -> Result<Ending, Failure> {
     }
     let text = source.text.clone();
     let accepted = source.accepted()?;
+    if arguments.has("--parts") {
+        interrupt::catch();
+        return parts::run(arguments, &engines, &accepted.with_limit(limit.unwrap_or(accepted.ticket.limit))?);
+    }
     let save = arguments.option("--save").map(|file| Save::anew(file, text)).transpose()?;
     interrupt::catch();
     let walk = Walk::begin(&engines, &accepted)?;
@@ -81,9 +89,9 @@ fn predicates(words: &str, accepted: &Accepted) -> Result<Vec<u8>, Failure> {
 }
 
 /// What was measured, and how much of a ticket's limits is used.
-pub fn stats_words(accepted: &Accepted, fit: &Fit) -> Result<String, Failure> {
+pub fn stats_words(accepted: &Accepted, entries: u64) -> Result<String, Failure> {
     let (seconds, rules) = (clock::seconds(), library::rewrite(&accepted.table)?);
-    let time = format!("time: {seconds:.3} s, {:.0} entries a second\n", fit.count as f64 / seconds);
+    let time = format!("time: {seconds:.3} s, {:.0} entries a second\n", entries as f64 / seconds);
     Ok(format!("{time}used: {}\nmagic rules: {rules} of at most 320\n", accepted.ticket.used()))
 }
 

@@ -22,14 +22,18 @@ impl Fitting<'_> {
     /// Of a walk on this ticket that has come to fits. The atoms shown are those of `accepted`, which may be a ticket with fewer predicates and clauses; of
     /// that it must be a fitting.
     pub fn of<'a>(accepted: &'a Accepted, walked: &Ticket, at: &Moved) -> Result<Fitting<'a>, Failure> {
+        Fitting::entered(accepted, walked, at.entered(), at.fit.answer.clone())
+    }
+
+    /// The same by the atoms that were entered, and an answer.
+    pub fn entered<'a>(accepted: &'a Accepted, walked: &Ticket, entered: impl Iterator<Item = usize>, mut answer: Vec<u8>) -> Result<Fitting<'a>, Failure> {
         let mut marks = vec![0; walked.atoms()];
-        at.session.atoms.iter().take(at.session.length as usize).for_each(|atom| marks[*atom as usize] = 1);
+        entered.for_each(|atom| marks[atom] = 1);
         let truth = Truth::of(walked)?.from(marks)?;
         let mut truth = truth.map_err(|_| Failure::disagreement("the place where the walk ended is closed"))?;
-        if truth.iter().zip(&at.fit.answer).any(|(truth, answer)| truth > answer) {
+        if truth.iter().zip(&answer).any(|(truth, answer)| truth > answer) {
             return Err(Failure::disagreement("the fitting lacks an atom that is true"));
         }
-        let mut answer = at.fit.answer.clone();
         let atoms = accepted.ticket.atoms();
         answer.truncate(atoms);
         truth.truncate(atoms);

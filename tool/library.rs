@@ -19,13 +19,17 @@ const SLIP: usize = 37;
 
 const BAD_ANSWER: u8 = 32;
 const NO_INSTANCE: u8 = 44;
+/// with the open facts the ticket has more than 64 clauses
+pub const BAD_COUNT: u8 = 5;
+/// more than 16 facts are open, or one of them twice
+pub const BAD_FACTS: u8 = 45;
 /// count and further limit together are more than a count can be
 pub const TOO_MANY_ENTRIES: u8 = 41;
 /// what is held is no session of the ticket's walk
 pub const NO_SESSION: u8 = 42;
 
 /// A ticket that the library accepted, as it keeps it.
-#[derive(PartialEq, Eq)]
+#[derive(Clone, PartialEq, Eq)]
 pub struct Table(Vec<u8>);
 
 /// A rule that was offered to a ticket, as the library keeps it.
@@ -67,6 +71,30 @@ pub struct Fit {
 pub struct Moved {
     pub fit: Fit,
     pub session: Session,
+}
+
+/// For which choices of the open facts to add there is no fitting, by the library's number.
+#[derive(Clone, Copy, Debug, PartialEq, Eq)]
+pub enum Said {
+    NoneAlways = 0,
+    NoneNever = 1,
+    Spent = 2,
+    NoneWithSome = 3,
+}
+
+/// What an engine answers of a ticket with open facts, and the counts of its runs: without them, and with all, which is 0 where that is not made.
+#[derive(Clone, Copy, Debug, PartialEq, Eq)]
+pub struct Assumed {
+    pub said: Said,
+    pub counts: [u32; 2],
+}
+
+/// What an engine answers of a ticket by parts: with the sum of their counts, and with fits a byte for each atom.
+#[derive(Clone, Debug, PartialEq, Eq)]
+pub struct Parted {
+    pub verdict: Verdict,
+    pub count: u64,
+    pub answer: Vec<u8>,
 }
 
 #[derive(Clone, Copy, Debug, PartialEq, Eq)]
@@ -117,6 +145,32 @@ impl Verdict {
     }
 }
 
+impl Said {
+    pub fn name(self) -> &'static str {
+        match self {
+            Said::NoneAlways => "none always",
+            Said::NoneNever => "none never",
+            Said::Spent => "spent",
+            Said::NoneWithSome => "none with some",
+        }
+    }
+}
+
+impl Assumed {
+    /// The answer in few words, for a message.
+    pub fn told(&self) -> String {
+        format!("{} after {} and {} entries", self.said.name(), self.counts[0], self.counts[1])
+    }
+}
+
+impl Parted {
+    /// The answer in few words, for a message.
+    pub fn told(&self) -> String {
+        let fitting = if self.verdict == Verdict::Fits { format!(" with {}", hex(&self.answer)) } else { String::new() };
+        format!("{} after {} entries{fitting}", self.verdict.name(), self.count)
+    }
+}
+
 impl Fit {
     /// The answer in few words, for a message.
     pub fn told(&self) -> String {
@@ -126,6 +180,11 @@ impl Fit {
 }
 
 impl Moved {
+    /// The numbers of the atoms that were entered on the way to where the walk stands.
+    pub fn entered(&self) -> impl Iterator<Item = usize> + '_ {
+        self.session.atoms.iter().take(self.session.length as usize).map(|atom| *atom as usize)
+    }
+
     /// The answer and the session in few words, for a message.
     pub fn told(&self) -> String {
         let Session { length, next, atoms, nexts, .. } = &self.session;
@@ -186,7 +245,7 @@ pub fn judge(table: &Table, answer: &[u8]) -> Result<Judged, Failure> {
     match word {
         1 => Ok(Judged::Fitting),
         2 => Ok(Judged::Violated(clause as usize, values)),
-        _ => Err(Failure::disagreement(format!("lutsamik_judge answers {judged:016X}, which means nothing"))),
+        _ => Err(senseless("lutsamik_judge", judged)),
     }
 }
 
@@ -259,13 +318,40 @@ pub fn resume(engine: Engine, stack: &mut Stack, from: &Session, further: u32, t
     }
 }
 
+/// What an engine says of a ticket with these open facts, or the number by which they are refused.
+pub fn assume(engine: Engine, table: &Table, facts: &[u32]) -> Result<Result<Assumed, u8>, Failure> {
+    let (mut first, mut second, mut lent) = (0, 0, Lent::new());
+    let (counts, Lent { rules, answer, work }) = ([&mut first, &mut second], &mut lent);
+    let (name, given) = match engine {
+        Engine::Relevancy => ("lutsamik_assume_relevancy", calls::assume_relevancy(&table.0, facts, counts, answer, work)),
+        Engine::Magic => ("lutsamik_assume_magic", calls::assume_magic(&table.0, facts, counts, rules, answer, work)),
+    };
+    if let number @ (BAD_COUNT | BAD_FACTS) = refusal(given) {
+        return Ok(Err(number));
+    }
+    let number = accepted(name, given)? >> 8;
+    let said = [Said::NoneAlways, Said::NoneNever, Said::Spent, Said::NoneWithSome].into_iter().find(|said| *said as u64 == number);
+    Ok(Ok(Assumed { said: said.ok_or_else(|| senseless(name, given))?, counts: [first, second] }))
+}
+
+/// Fits a ticket with this number of atoms by parts.
+pub fn fit_parts(engine: Engine, table: &Table, atoms: usize) -> Result<Parted, Failure> {
+    let (mut count, mut lent) = (0, Lent::new());
+    let Lent { rules, answer, work } = &mut lent;
+    let (name, given) = match engine {
+        Engine::Relevancy => ("lutsamik_parts_relevancy", calls::parts_relevancy(&table.0, &mut count, answer, work)),
+        Engine::Magic => ("lutsamik_parts_magic", calls::parts_magic(&table.0, &mut count, rules, answer, work)),
+    };
+    let Fit { verdict, answer, .. } = answered(name, accepted(name, given)?, lent.answer, atoms)?;
+    if given >> 16 == 0 { Ok(Parted { verdict, count, answer }) } else { Err(senseless(name, given)) }
+}
+
 /// What an engine says that did not refuse.
 fn answered(name: &str, given: u64, mut answer: Vec<u8>, atoms: usize) -> Result<Fit, Failure> {
     let number = given.to_le_bytes()[1];
     let verdict = [Verdict::None, Verdict::Fits, Verdict::Spent].into_iter().find(|verdict| *verdict as u8 == number);
-    let senseless = || Failure::disagreement(format!("{name} answers {given:016X}, which means nothing"));
     answer.truncate(atoms);
-    Ok(Fit { verdict: verdict.ok_or_else(senseless)?, count: high(given), deepest: given as u32 >> 16, answer })
+    Ok(Fit { verdict: verdict.ok_or_else(|| senseless(name, given))?, count: high(given), deepest: given as u32 >> 16, answer })
 }
 
 /// The session that is left must have the verdict, the count and the deepest figure that are answered.
@@ -283,6 +369,10 @@ fn accepted(operation: &str, answer: u64) -> Result<u64, Failure> {
         0 => Ok(answer),
         number => Err(Failure::disagreement(format!("{operation} refuses a table that was just read, with {number}"))),
     }
+}
+
+fn senseless(operation: &str, answer: u64) -> Failure {
+    Failure::disagreement(format!("{operation} answers {answer:016X}, which means nothing"))
 }
 
 fn refusal(answer: u64) -> u8 {

@@ -2,6 +2,7 @@
 mod add;
 mod answer;
 mod arguments;
+mod awaited;
 mod carry;
 mod check;
 mod clause;
@@ -24,6 +25,7 @@ mod library;
 mod more;
 mod out;
 mod parse;
+mod parts;
 mod picture;
 mod progress;
 mod read;
@@ -39,6 +41,7 @@ mod trail;
 mod tree;
 mod truth;
 mod wanted;
+mod whatif;
 mod words;
 
 use arguments::Command;
@@ -48,9 +51,10 @@ use std::ffi::OsString;
 use std::io::{self, ErrorKind, Write};
 use std::process::ExitCode;
 
-const COMMANDS: [Command; 9] = [
+const COMMANDS: [Command; 10] = [
     fit::COMMAND,
     resume::COMMAND,
+    whatif::COMMAND,
     explain::COMMAND,
     read::COMMAND,
     add::COMMAND,

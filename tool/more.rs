@@ -44,7 +44,7 @@ pub fn further<'a>(carry: &Carry<'a>, first: &Moved, many: u32) -> Result<Furthe
 /// The ticket with a rule by which the entered atoms do not hold together, if it can have that.
 fn forbidding(ticket: &Ticket, at: &Moved, limit: u32) -> Option<Accepted> {
     let (atoms, mut longer) = (ticket.ground_atoms(), ticket.with_limit(limit));
-    let mut left: Vec<Atom> = at.session.atoms.iter().take(at.session.length as usize).map(|atom| atoms[*atom as usize].clone()).collect();
+    let mut left: Vec<Atom> = at.entered().map(|atom| atoms[atom].clone()).collect();
     while left.len() > CONDITIONS {
         let helper = Atom { predicate: u8::try_from(longer.arities.len()).ok()?, arguments: Vec::new() };
         let rest = left.split_off(CONDITIONS);

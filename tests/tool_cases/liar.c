@@ -1,8 +1,10 @@
 /* A library that lies, to see that the tool finds out. Each operation is the true one, called true_..., but for the lie that the
  * environment's LIE names. */
+#define _POSIX_C_SOURCE 199309L
 #include <stdint.h>
 #include <stdlib.h>
 #include <string.h>
+#include <time.h>
 
 #include "lutsamik.h"
 
@@ -19,6 +21,10 @@ uint64_t TRUE(resume_relevancy)(struct lutsamik_session *session, uint32_t furth
                                 size_t answer_len, uint8_t *work, size_t work_len);
 uint64_t TRUE(resume_magic)(struct lutsamik_session *session, uint32_t further, const uint8_t *table, size_t table_len, uint8_t *rules,
                             size_t rules_len, uint8_t *answer, size_t answer_len, uint8_t *work, size_t work_len);
+uint64_t TRUE(assume_magic)(const uint8_t *table, size_t table_len, const uint32_t *facts, size_t facts_len, uint32_t *first, uint32_t *second,
+                            uint8_t *rules, size_t rules_len, const uint8_t *answer, size_t answer_len, uint8_t *work, size_t work_len);
+uint64_t TRUE(parts_magic)(const uint8_t *table, size_t table_len, uint64_t *count, uint8_t *rules, size_t rules_len, uint8_t *answer,
+                           size_t answer_len, uint8_t *work, size_t work_len);
 
 static int lie(const char *name) {
     const char *lie = getenv("LIE");
@@ -99,8 +105,11 @@ static uint64_t both(uint64_t fit, uint32_t further, struct lutsamik_session *se
     return fit + (lie("count of both") ? ONE_ENTRY : 0) + (lie("deepest of both") ? ONE_DEEPER : 0);
 }
 
+/* No lie, but slow: each call takes five seconds. */
 uint64_t lutsamik_resume_relevancy(struct lutsamik_session *session, uint32_t further, const uint8_t *table, size_t table_len, uint8_t *answer,
                                    size_t answer_len, uint8_t *work, size_t work_len) {
+    const struct timespec long_time = {5, 0};
+    if (lie("slow")) nanosleep(&long_time, NULL);
     return both(TRUE(resume_relevancy)(session, further, table, table_len, answer, answer_len, work, work_len), further, session);
 }
 
@@ -125,4 +134,23 @@ uint64_t lutsamik_resume_magic(struct lutsamik_session *session, uint32_t furthe
         return fit + ONE_DEEPER;
     }
     return both(fit, further, session);
+}
+
+/* Something else is said of open facts, another count of the second run; facts are refused, or taken, whatever they are. */
+uint64_t lutsamik_assume_magic(const uint8_t *table, size_t table_len, const uint32_t *facts, size_t facts_len, uint32_t *first, uint32_t *second,
+                               uint8_t *rules, size_t rules_len, const uint8_t *answer, size_t answer_len, uint8_t *work, size_t work_len) {
+    uint64_t said = TRUE(assume_magic)(table, table_len, facts, facts_len, first, second, rules, rules_len, answer, answer_len, work, work_len);
+    if (lie("facts refused")) return LUTSAMIK_BAD_FACTS;
+    if (lie("facts taken")) return (uint64_t)LUTSAMIK_NONE_NEVER << 8;
+    if (lie("count with facts")) ++*second;
+    return lie("assumed") ? said ^ OTHER_VERDICT << 1 : said;
+}
+
+/* Another sum, another verdict or another fitting by parts. */
+uint64_t lutsamik_parts_magic(const uint8_t *table, size_t table_len, uint64_t *count, uint8_t *rules, size_t rules_len, uint8_t *answer,
+                              size_t answer_len, uint8_t *work, size_t work_len) {
+    uint64_t said = TRUE(parts_magic)(table, table_len, count, rules, rules_len, answer, answer_len, work, work_len);
+    if (lie("sum")) ++*count;
+    if (lie("joined")) answer[0] ^= 1;
+    return lie("whole") ? said ^ OTHER_VERDICT : said;
 }
