@@ -21,4 +21,5 @@ pub mod SessionWalk
 pub mod SessionLeft
 pub mod SessionClaims
 pub mod Cases
+pub mod Staged
 pub mod Theorems

@@ -5,6 +5,8 @@ pub mod Magic
 pub mod Machine
 pub mod Sound
 pub mod Choice
+pub mod Staged
+pub mod StagedClaims
 pub mod Trails
 pub mod Deepest
 pub mod Session
