@@ -2,18 +2,19 @@
 use Prim.Native.Nat.{ℕ, _≤_}
 use mathlib.Core.Bool.{Bool, not, _&&_}
 use mathlib.Core.List.{List}
-use mathlib.Core.Path.{sym, subst}
+use mathlib.Core.Option.{none, some}
+use mathlib.Core.Path.{_≡_, sym, subst}
 use lib.Dec.{T, T-not}
 use lib.ListN.{length}
 use Rattle.lists.specs.Key.{Key}
-use Rattle.lists.specs.Member.{All, every}
+use Rattle.lists.specs.Member.{All, every, first}
 use Rattle.lists.specs.Test.{and-T, T-left, T-right}
 use Rattle.lists.proofs.Test.{fails}
 use Rattle.lists.proofs.Member.{all-map, every-all, all-every, first-none, first-of}
 use Rattle.search.specs.Ground.{Ground, disjunctive}
 use Rattle.search.specs.Relevancy.{isTrue, isRelevant, splittable}
 use Rattle.search.specs.Magic.{Magic, tru, MagicRule, headsOf, holds, ready}
-use Rattle.search.specs.Choice.{CanSplit, RuleCanSplit, RelevancyChoice, MagicChoice}
+use Rattle.search.specs.Choice.{CanSplit, FirstSplit, RuleCanSplit, RelevancyChoice, MagicChoice}
 use Rattle.search.proofs.Found.{findR-closed, findR-closes, findR-opened, findR-split, findM-closed, findM-closes, findM-opened, findM-split}
 use Rattle.search.proofs.Ground.{disjunctive-two, disjunctive-many}
 
@@ -28,7 +29,7 @@ many-disjunctive : (ds : List ℕ) → 2 ≤ length ds → T (disjunctive ds)
 many-disjunctive ds h = subst T (sym (disjunctive-two ds h)) tt
 
 module _ {I : Type 0} (p : Ground I) (t r : ℕ → Bool) where
-  can-split : (i : I) → T (splittable p t r i) → CanSplit p t r i
+  pub can-split : (i : I) → T (splittable p t r i) → CanSplit p t r i
   can-split i u =
       let a = disjunctive (p .alts i) in
       let b = every t (p .conds i) in
@@ -43,7 +44,7 @@ module _ {I : Type 0} (p : Ground I) (t r : ℕ → Bool) where
         none-true = none-passes t (p .alts i) (T-right (a && b && c) d u);
       }
 
-  split-can : (i : I) → CanSplit p t r i → T (splittable p t r i)
+  pub split-can : (i : I) → CanSplit p t r i → T (splittable p t r i)
   split-can i s =
       let a = disjunctive (p .alts i) in
       let b = every t (p .conds i) in
@@ -53,6 +54,15 @@ module _ {I : Type 0} (p : Ground I) (t r : ℕ → Bool) where
       (and-T a b (many-disjunctive (p .alts i) (s .disjunctive)) (all-every t (p .conds i) (s .conditions-true)))
       (all-every r (p .alts i) (s .alternatives-relevant)))
       (passes-none t (p .alts i) (s .none-true))
+
+  -- where the first instance that passes the test stands, and that none does
+  pub first-can : (i : I) → first (splittable p t r) (p .instances) ≡ some i → FirstSplit p t r i
+  first-can i = first-of (splittable p t r) (CanSplit p t r) can-split split-can (p .instances) i
+
+  pub none-can : first (splittable p t r) (p .instances) ≡ none → All (λ i. CanSplit p t r i → ⊥) (p .instances)
+  none-can e =
+      all-map (λ i. T (not (splittable p t r i))) (λ i. CanSplit p t r i → ⊥) (λ i u s. T-not (splittable p t r i) u (split-can i s)) (p .instances)
+      (first-none (splittable p t r) (p .instances) e)
 
 module _ {I : Type 0} (k : Key I) (h : Magic I → Bool) where
   rule-can-split : (r : MagicRule I) → T (ready k h r) → RuleCanSplit h r
@@ -85,14 +95,8 @@ relevancy-chooses p l =
       closed-exactly = (findR-closed p l, findR-closes p l);
       split-first = λ i ds e.
           let f = findR-split p l i ds e in
-          (first-of (splittable p t r) (CanSplit p t r) (can-split p t r) (split-can p t r) (p .instances) i (f .0), f .1);
-      opened-unsplit = λ bits e.
-          all-map
-          (λ i. T (not (splittable p t r i)))
-          (λ i. CanSplit p t r i → ⊥)
-          (λ i u s. T-not (splittable p t r i) u (split-can p t r i s))
-          (p .instances)
-          (first-none (splittable p t r) (p .instances) ((findR-opened p l bits e) .1));
+          (first-can p t r i (f .0), f .1);
+      opened-unsplit = λ bits e. none-can p t r ((findR-opened p l bits e) .1);
     }
 
 pub magic-chooses : {I : Type 0} (k : Key I) (n : ℕ) (rs : List (MagicRule I)) (l : List ℕ) → MagicChoice k n rs l

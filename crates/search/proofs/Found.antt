@@ -13,31 +13,31 @@ use Rattle.search.specs.Relevancy.{isTrue, isRelevant, splittable, branc
 use Rattle.search.specs.Magic.{tru, MagicRule, headsOf, holds, ready, withHeads, findM}
 
 module _ {I : Type 0} where
-  foundAs-closed : (b : Bool) (o : Option (I × List ℕ)) (bits : List Bool) → foundAs b o bits ≡ closed → T b
+  pub foundAs-closed : (b : Bool) (o : Option (I × List ℕ)) (bits : List Bool) → foundAs b o bits ≡ closed → T b
   foundAs-closed true o bits e = tt
   foundAs-closed false none bits e = let z : _≡_ {A = ℕ} 0 1 = cc in omega arith
   foundAs-closed false (some s) bits e = let z : _≡_ {A = ℕ} 0 1 = cc in omega arith
 
-  foundAs-closes : (b : Bool) (o : Option (I × List ℕ)) (bits : List Bool) → T b → foundAs b o bits ≡ closed
+  pub foundAs-closes : (b : Bool) (o : Option (I × List ℕ)) (bits : List Bool) → T b → foundAs b o bits ≡ closed
   foundAs-closes true o bits t = refl
   foundAs-closes false o bits t = absurd t
 
-  foundAs-opened : (b : Bool) (o : Option (I × List ℕ)) (bits m : List Bool) → foundAs b o bits ≡ opened m → T (not b) × (o ≡ none) × (bits ≡ m)
+  pub foundAs-opened : (b : Bool) (o : Option (I × List ℕ)) (bits m : List Bool) → foundAs b o bits ≡ opened m → T (not b) × (o ≡ none) × (bits ≡ m)
   foundAs-opened true o bits m e = let z : _≡_ {A = ℕ} 0 1 = cc in absurd (omega arith)
   foundAs-opened false none bits m e = (tt, refl, (cc))
   foundAs-opened false (some s) bits m e = let z : _≡_ {A = ℕ} 0 1 = cc in absurd (omega arith)
 
-  foundAs-split : (b : Bool) (o : Option (I × List ℕ)) (bits : List Bool) (i : I) (ds : List ℕ) → foundAs b o bits ≡ split i ds
+  pub foundAs-split : (b : Bool) (o : Option (I × List ℕ)) (bits : List Bool) (i : I) (ds : List ℕ) → foundAs b o bits ≡ split i ds
       → T (not b) × ((s : I × List ℕ) × (o ≡ some s) × (s .0 ≡ i) × (branches (s .1) ≡ ds))
   foundAs-split true o bits i ds e = let z : _≡_ {A = ℕ} 0 1 = cc in absurd (omega arith)
   foundAs-split false none bits i ds e = let z : _≡_ {A = ℕ} 0 1 = cc in absurd (omega arith)
   foundAs-split false (some s) bits i ds e = (tt, (s, refl, (cc), (cc)))
 
-  withAlts-none : (p : Ground I) (o : Option I) → withAlts p o ≡ none → o ≡ none
+  pub withAlts-none : (p : Ground I) (o : Option I) → withAlts p o ≡ none → o ≡ none
   withAlts-none p none e = refl
   withAlts-none p (some i) e = absurd (Option·none-ne-some (i, p .alts i) (sym e))
 
-  withAlts-some : (p : Ground I) (o : Option I) (s : I × List ℕ) → withAlts p o ≡ some s → (o ≡ some (s .0)) × (p .alts (s .0) ≡ s .1)
+  pub withAlts-some : (p : Ground I) (o : Option I) (s : I × List ℕ) → withAlts p o ≡ some s → (o ≡ some (s .0)) × (p .alts (s .0) ≡ s .1)
   withAlts-some p none s e = absurd (Option·none-ne-some s e)
   withAlts-some p (some i) s e = let q : (i, p .alts i) ≡ s = cc in (ap (λ x. some (x .0)) q, subst (λ (x : I × List ℕ). p .alts (x .0) ≡ x .1) q refl)
 

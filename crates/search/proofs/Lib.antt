@@ -22,4 +22,5 @@ pub mod SessionLeft
 pub mod SessionClaims
 pub mod Cases
 pub mod Staged
+pub mod StagedChoice
 pub mod Theorems
