@@ -23,4 +23,5 @@ pub mod SessionClaims
 pub mod Cases
 pub mod Staged
 pub mod StagedChoice
+pub mod StagedSound
 pub mod Theorems

@@ -4,7 +4,7 @@ use mathlib.Core.Bool.{Bool, true, false, not, cond, _&&_, _||_}
 use mathlib.Core.HLevel.{⊥-prop}
 use mathlib.Core.List.{List, [], _∷_}
 use mathlib.Core.Logic.{_⊎_, inl, inr, ∥∥₁-prop, ∥∥₁-map, ∥∥₁-map₂, ∥∥₁-elim}
-use mathlib.Core.Option.{none}
+use mathlib.Core.Option.{none, some}
 use mathlib.Core.Path.{_≡_, refl, sym, ap, subst, _∙_}
 use native.Mathlib.Omega.{arith}
 use lib.Dec.{T, T-not}
@@ -16,14 +16,14 @@ use Rattle.lists.specs.Test.{and-T}
 use Rattle.lists.proofs.Firsts.{firsts-any}
 use Rattle.lists.proofs.Member.{all-map, all-zip, any-zip, every-all, all-every, some-fails, first-none}
 use Rattle.lists.proofs.Tabulate.{tabulate-at, tabulate-length}
-use Rattle.search.specs.Ground.{Ground, Proper, Model, Marked, closed, opened, split, goals, orFalse, disjunctive}
-use Rattle.search.specs.Relevancy.{trueSet, relevantSet, isTrue, isRelevant, asked, splittable, modelBits, findR}
+use Rattle.search.specs.Ground.{Ground, Proper, Model, Marked, Found, closed, opened, split, goals, orFalse, disjunctive}
+use Rattle.search.specs.Relevancy.{trueSet, relevantSet, isTrue, isRelevant, asked, splittable, branches, modelBits, findR}
 use Rattle.search.specs.Machine.{Branch, entered, Genuine}
 use Rattle.search.specs.Sound.{SoundFind}
 use Rattle.search.proofs.Relevancy.{HornClosed, true-closed, true-ind, relevant-false, relevant-closed}
 use Rattle.search.proofs.Found.{findR-closed, findR-opened, findR-split}
 use Rattle.search.proofs.Sound.{Fresh, path-small}
-use Rattle.search.proofs.Walk.{Splits, split-splits, at-split, alts-fresh}
+use Rattle.search.proofs.Walk.{Splits, at-first, first-splits, alts-fresh}
 
 -- finitely many truncated facts are one
 merely : (M : ℕ → Type 0) (cs : List ℕ) → All (λ a. ∥ M a ∥₁) cs → ∥ All M cs ∥₁
@@ -63,16 +63,17 @@ module _ {I : Type 0} (p : Ground I) (proper : Proper p) (M : ℕ → Type 0) (m
       model)
       (all-zip M (λ a. a < p .atoms) Kept (λ a m b. (∣ m ∣₁, λ q. let c : a < p .atoms = b in omega arith)) l held small)
 
-  closed-bars : findR p l ≡ closed → ⊥
+  closed-bars : T (isTrue p l (p .atoms)) → ⊥
   unfolding Kept
-  closed-bars e = (true-kept (p .atoms) (findR-closed p l e)) .1 refl
+  closed-bars c = (true-kept (p .atoms) c) .1 refl
 
-  split-continues : (i : I) (ds : List ℕ) → findR p l ≡ split i ds → ∥ Any M ds ∥₁
+  split-continues : (r : ℕ → Bool) (i : I) → first (splittable p (isTrue p l) r) (p .instances) ≡ some i → ∥ Any M (branches (p .alts i)) ∥₁
   unfolding Kept
-  split-continues i ds e =
-      let m : All M (p .conds i) → ∥ Any M (p .alts i) ∥₁ = at-split p l (λ j. All M (p .conds j) → ∥ Any M (p .alts j) ∥₁) (all-map (λ j. All M (p .conds j) → ∥ Any M (p .alts j) ∥₁) (λ j. Splits p (isTrue p l) (isRelevant p l) j → All M (p .conds j) → ∥ Any M (p .alts j) ∥₁) (λ j f q. f) (p .instances) model) i ds e in
-      let cs : ∥ All M (p .conds i) ∥₁ = merely M (p .conds i) (all-map (λ a. T (isTrue p l a)) (λ a. ∥ M a ∥₁) (λ a t. (true-kept a t) .0) (p .conds i) ((split-splits p l i ds e) .conds-true)) in
-      subst (λ (xs : List ℕ). ∥ Any M xs ∥₁) (sym ((findR-split p l i ds e) .1)) (∥∥₁-elim (∥∥₁-elim cs ∥∥₁-prop m) ∥∥₁-prop (λ a. ∣ firsts-any natKey M (p .alts i) a ∣₁))
+  split-continues r i e =
+      let t : ℕ → Bool = isTrue p l in
+      let m : All M (p .conds i) → ∥ Any M (p .alts i) ∥₁ = at-first p t r (λ j. All M (p .conds j) → ∥ Any M (p .alts j) ∥₁) (all-map (λ j. All M (p .conds j) → ∥ Any M (p .alts j) ∥₁) (λ j. Splits p t r j → All M (p .conds j) → ∥ Any M (p .alts j) ∥₁) (λ j f q. f) (p .instances) model) i e in
+      let cs : ∥ All M (p .conds i) ∥₁ = merely M (p .conds i) (all-map (λ a. T (t a)) (λ a. ∥ M a ∥₁) (λ a u. (true-kept a u) .0) (p .conds i) ((first-splits p t r i e) .conds-true)) in
+      ∥∥₁-elim (∥∥₁-elim cs ∥∥₁-prop m) ∥∥₁-prop (λ a. ∣ firsts-any natKey M (p .alts i) a ∣₁)
 
 -- what is asked and relevant, and in the model given, is true; so all conditions are
 chosen-true : (t r : ℕ → Bool) (cs : List ℕ) → All (λ a. T (t a || not (r a))) cs → All (λ a. T (r a)) (asked t cs) → All (λ a. T (t a)) cs
@@ -166,18 +167,35 @@ module _ {I : Type 0} (p : Ground I) (proper : Proper p) (l : List ℕ) where
           go (inr n) =
               ∣ any-zip (λ a. T (not (not (chosen a)))) (λ a. a < p .atoms) (Marked bits) (λ a u m. unmarked a m u) (p .alts i) (some-fails (λ a. not (chosen a)) (p .alts i) n) (b .1) ∣₁
 
-pub relevancy-sound : {I : Type 0} (p : Ground I) → Proper p → SoundFind p (findR p)
-relevancy-sound {I} p proper =
+-- a way of finding a node that differs from the relevancy walk in the marks under which it splits alone
+pub record Alike {I : Type 0} (p : Ground I) (find : List ℕ → Found I) : Type 0 where
+  pub closed-true : (l : List ℕ) → find l ≡ closed → T (isTrue p l (p .atoms))
+  pub split-under : (l : List ℕ) (i : I) (ds : List ℕ) → find l ≡ split i ds
+      → (r : ℕ → Bool) × (first (splittable p (isTrue p l) r) (p .instances) ≡ some i) × (ds ≡ branches (p .alts i))
+  pub opened-alike : (l : List ℕ) (bits : List Bool) → find l ≡ opened bits → findR p l ≡ opened bits
+
+pub alike-sound : {I : Type 0} (p : Ground I) (find : List ℕ → Found I) → Proper p → Alike p find → SoundFind p find
+alike-sound {I} p find proper alike =
     record {
-      closed-refutes = λ bs g e M m. closed-bars p proper M (m .model) (entered bs) (below bs g) (m .holds) e;
-      split-covers = λ bs g i ds e M m. split-continues p proper M (m .model) (entered bs) (below bs g) (m .holds) i ds e;
+      closed-refutes = λ bs g e M m. closed-bars p proper M (m .model) (entered bs) (below bs g) (m .holds) (alike .closed-true (entered bs) e);
+      split-covers = λ bs g i ds e M m.
+          let s = alike .split-under (entered bs) i ds e in
+          subst (λ (xs : List ℕ). ∥ Any M xs ∥₁) (sym (s .2)) (split-continues p proper M (m .model) (entered bs) (below bs g) (m .holds) (s .0) i (s .1));
       split-fresh = fresh;
       opened-model = λ bs g bits e.
-          (ap length (sym ((findR-opened p (entered bs) bits e) .2)) ∙ tabulate-length _ (p .atoms), opened-model p proper (entered bs) bits e);
+          let o = alike .opened-alike (entered bs) bits e in
+          (ap length (sym ((findR-opened p (entered bs) bits o) .2)) ∙ tabulate-length _ (p .atoms), opened-model p proper (entered bs) bits o);
     }
   where
-    fresh : (bs : List (Branch I)) → Genuine (findR p) bs → (i : I) (ds : List ℕ) → findR p (entered bs) ≡ split i ds → All (Fresh p (entered bs)) ds
-    fresh bs g = alts-fresh p proper (entered bs)
+    fresh : (bs : List (Branch I)) → Genuine find bs → (i : I) (ds : List ℕ) → find (entered bs) ≡ split i ds → All (Fresh p (entered bs)) ds
+    fresh bs g i ds e =
+        let s = alike .split-under (entered bs) i ds e in
+        subst (All (Fresh p (entered bs))) (sym (s .2)) (alts-fresh p proper (entered bs) (s .0) i (s .1))
 
-    below : (bs : List (Branch I)) → Genuine (findR p) bs → All (λ a. a < p .atoms) (entered bs)
-    below bs g = (path-small p (findR p) fresh bs g) .1
+    below : (bs : List (Branch I)) → Genuine find bs → All (λ a. a < p .atoms) (entered bs)
+    below bs g = (path-small p find fresh bs g) .1
+
+pub relevancy-sound : {I : Type 0} (p : Ground I) → Proper p → SoundFind p (findR p)
+relevancy-sound p proper =
+    alike-sound p (findR p) proper
+    (record { closed-true = findR-closed p; split-under = λ l i ds e. let f = findR-split p l i ds e in (isRelevant p l, f .0, f .1); opened-alike = λ l bits e. e })

@@ -25,6 +25,9 @@ use Rattle.search.proofs.Found.{findR-opened}
 use Rattle.search.proofs.Choice.{relevancy-chooses, magic-chooses}
 use Rattle.search.proofs.Relevancy.{asks-by}
 use Rattle.search.proofs.Model.{relevancy-sound}
+use Rattle.search.proofs.Staged.{stages, marking-ends}
+use Rattle.search.proofs.StagedChoice.{staged-chooses}
+use Rattle.search.proofs.StagedSound.{staged-sound, never-contradict}
 use Rattle.search.proofs.OneTrail.{magic-same, same-facts, trail-same, outcome-same}
 use Rattle.search.proofs.MagicPath.{magic-sound}
 use Rattle.search.proofs.Deepest.{exact-bounds}
@@ -76,10 +79,15 @@ theorems =
       any-walk = any-walk;
       any-session = any-session;
       sound-walk = sound-walk;
+      never-contradict = never-contradict;
       relevancy-sound = relevancy-sound;
       magic-sound = magic-sound;
+      staged-sound = staged-sound;
       relevancy-chooses = relevancy-chooses;
       magic-chooses = magic-chooses;
+      staged-chooses = staged-chooses;
+      stages = stages;
+      marking-ends = marking-ends;
       entered-once = each-once natKey;
       model-given = model-given;
       one-trail = one-trail;

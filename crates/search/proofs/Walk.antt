@@ -2,15 +2,16 @@
 use Prim.Native.Nat.{ℕ, _<_}
 use mathlib.Core.Bool.{Bool, not, _&&_}
 use mathlib.Core.List.{List, [], _∷_}
+use mathlib.Core.Option.{some}
 use mathlib.Core.Path.{_≡_, sym, subst}
 use lib.Dec.{T, T-not}
 use Rattle.lists.specs.Key.{natKey}
-use Rattle.lists.specs.Member.{All, every, In}
+use Rattle.lists.specs.Member.{All, every, first, In}
 use Rattle.lists.specs.Test.{T-left, T-right}
 use Rattle.lists.proofs.Firsts.{firsts-all}
-use Rattle.lists.proofs.Member.{all-map, all-zip, every-all, first-some, has-all}
+use Rattle.lists.proofs.Member.{all-map, all-zip, all-of, every-all, first-some, has-all}
 use Rattle.search.specs.Ground.{Ground, Proper, split, disjunctive}
-use Rattle.search.specs.Relevancy.{trueSet, relevantSet, isTrue, isRelevant, splittable, findR}
+use Rattle.search.specs.Relevancy.{trueSet, relevantSet, isTrue, isRelevant, splittable, branches, findR}
 use Rattle.search.specs.Machine.{Branch, entered, Genuine}
 use Rattle.search.proofs.Relevancy.{true-entered, true-grows, relevant-grows}
 use Rattle.search.proofs.Found.{findR-split}
@@ -40,37 +41,28 @@ module _ {I : Type 0} (p : Ground I) where
         alts-untrue = every-all (λ x. not (t x)) (p .alts i) (T-right (a && b && c) d h);
       }
 
-  -- what holds of every instance that can be split holds of the one that is
-  pub at-split {ℓ} : (l : List ℕ) (P : I → Type ℓ) → All (λ i. Splits p (isTrue p l) (isRelevant p l) i → P i) (p .instances) → (i : I) (ds : List ℕ) → findR p l ≡ split i ds → P i
-  at-split l P a i ds e =
+  -- what holds of every instance that can be split holds of the first
+  pub at-first {ℓ} : (t r : ℕ → Bool) (P : I → Type ℓ) → All (λ i. Splits p t r i → P i) (p .instances) → (i : I) → first (splittable p t r) (p .instances) ≡ some i → P i
+  at-first t r P a =
       first-some
-      (splittable p (isTrue p l) (isRelevant p l))
+      (splittable p t r)
       P
       (p .instances)
-      (all-map (λ j. Splits p (isTrue p l) (isRelevant p l) j → P j) (λ j. T (splittable p (isTrue p l) (isRelevant p l) j) → P j) (λ j f t. f (splits (isTrue p l) (isRelevant p l) j t)) (p .instances) a)
-      i
-      ((findR-split p l i ds e) .0)
+      (all-map (λ j. Splits p t r j → P j) (λ j. T (splittable p t r j) → P j) (λ j f u. f (splits t r j u)) (p .instances) a)
 
-  pub split-splits : (l : List ℕ) (i : I) (ds : List ℕ) → findR p l ≡ split i ds → Splits p (isTrue p l) (isRelevant p l) i
-  split-splits l i ds e = at-split l (Splits p (isTrue p l) (isRelevant p l)) (all-of′ (p .instances)) i ds e
-    where
-      all-of′ : (js : List I) → All (λ j. Splits p (isTrue p l) (isRelevant p l) j → Splits p (isTrue p l) (isRelevant p l) j) js
-      all-of′ [] = tt
-      all-of′ (j ∷ js) = (λ s. s, all-of′ js)
+  pub first-splits : (t r : ℕ → Bool) (i : I) → first (splittable p t r) (p .instances) ≡ some i → Splits p t r i
+  first-splits t r = at-first t r (Splits p t r) (all-of (λ j. Splits p t r j → Splits p t r j) (λ j s. s) (p .instances))
 
   untrue-fresh : (l : List ℕ) (a : ℕ) → T (not (isTrue p l a)) → In natKey l a → ⊥
   untrue-fresh l a t h = T-not (isTrue p l a) t (has-all natKey (In natKey (trueSet p l)) l (true-entered p l) a h)
 
-  -- the alternatives of a split are atoms that are not entered
-  pub alts-fresh : Proper p → (l : List ℕ) (i : I) (ds : List ℕ) → findR p l ≡ split i ds → All (Fresh p l) ds
-  alts-fresh proper l i ds e =
-      let below : All (λ a. a < p .atoms) (p .alts i) = at-split l (λ j. All (λ a. a < p .atoms) (p .alts j)) (all-map (λ j. All (λ a. a < p .atoms) (p .conds j) × All (λ a. a < p .atoms) (p .alts j)) (λ j. Splits p (isTrue p l) (isRelevant p l) j → All (λ a. a < p .atoms) (p .alts j)) (λ j h q. h .1) (p .instances) proper) i ds e in
-      let untrue = (split-splits l i ds e) .alts-untrue in
-      subst
-      (All (Fresh p l))
-      (sym ((findR-split p l i ds e) .1))
-      (firsts-all natKey (Fresh p l) (p .alts i)
-      (all-zip (λ a. a < p .atoms) (λ a. T (not (isTrue p l a))) (Fresh p l) (λ a b u. (b, untrue-fresh l a u)) (p .alts i) below untrue))
+  -- the alternatives of a split, under whatever marks, are atoms that are not entered
+  pub alts-fresh : Proper p → (l : List ℕ) (r : ℕ → Bool) (i : I) → first (splittable p (isTrue p l) r) (p .instances) ≡ some i → All (Fresh p l) (branches (p .alts i))
+  alts-fresh proper l r i e =
+      let t : ℕ → Bool = isTrue p l in
+      let below : All (λ a. a < p .atoms) (p .alts i) = at-first t r (λ j. All (λ a. a < p .atoms) (p .alts j)) (all-map (λ j. All (λ a. a < p .atoms) (p .conds j) × All (λ a. a < p .atoms) (p .alts j)) (λ j. Splits p t r j → All (λ a. a < p .atoms) (p .alts j)) (λ j h q. h .1) (p .instances) proper) i e in
+      firsts-all natKey (Fresh p l) (p .alts i)
+      (all-zip (λ a. a < p .atoms) (λ a. T (not (isTrue p l a))) (Fresh p l) (λ a b u. (b, untrue-fresh l a u)) (p .alts i) below ((first-splits t r i e) .alts-untrue))
 
   -- every entered atom is relevant
   abbrev pub AllRelevant : List ℕ → Type 0
@@ -93,4 +85,4 @@ module _ {I : Type 0} (p : Ground I) where
           (λ a. AllRelevant (a ∷ l))
           (λ a r. (deeper l a a r, all-map (In natKey (relevantSet p (isTrue p l))) (In natKey (relevantSet p (isTrue p (a ∷ l)))) (deeper l a) l s))
           (p .alts i)
-          ((split-splits l i ds e) .alts-relevant)))
+          ((first-splits (isTrue p l) (isRelevant p l) i ((findR-split p l i ds e) .0)) .alts-relevant)))

@@ -1,4 +1,4 @@
--- What is claimed of the two walks. `proofs/Theorems.antt` proves `Theorems`.
+-- What is claimed of the walks. `proofs/Theorems.antt` proves `Theorems`.
 use Prim.Native.Nat.{ℕ, suc, _+_, _≤_, _<_}
 use mathlib.Core.Bool.{Bool, not, cond, _&&_}
 use mathlib.Core.List.{List, _∷_, _++_}
@@ -18,6 +18,8 @@ use Rattle.search.specs.Session.{Session, standsIn}
 use Rattle.search.specs.Deepest.{Exact, Bounds}
 use Rattle.search.specs.SessionRight.{ShortPaths, AnySession}
 use Rattle.search.specs.Choice.{RelevancyChoice, MagicChoice}
+use Rattle.search.specs.Staged.{findS}
+use Rattle.search.specs.StagedClaims.{Stages, MarkingEnds, StagedChoice}
 use Rattle.search.specs.Sound.{SoundFind}
 use Rattle.search.specs.Machine.{Place, entered, Satisfied, Refuted, Exhausted, answer, last, root, entries, trail, proceed, outcome, FullWalk}
 use Rattle.search.specs.Cases.{CasesHold}
@@ -83,12 +85,20 @@ pub record Theorems : Type 1 where
   -- any session: when a call is refused, and what one that is not says and leaves
   pub any-session : {I : Type 0} (find : List ℕ → Found I) (atoms : ℕ) → AnySession find atoms
   pub sound-walk : {I : Type 0} (p : Ground I) (find : List ℕ → Found I) → SoundFind p find → SoundWalk p find
-  -- both walks of a ground problem are sound
+  -- two sound walks, under whatever limits, never say fits and none
+  pub never-contradict : {I : Type 0} (p : Ground I) (f g : List ℕ → Found I) → SoundFind p f → SoundFind p g → (limit n : ℕ) (bits : List Bool) → outcome f limit ≡ Satisfied n bits
+      → (other m : ℕ) → outcome g other ≡ Refuted m → ⊥
+  -- the walks of a ground problem are sound
   pub relevancy-sound : {I : Type 0} (p : Ground I) → Proper p → SoundFind p (findR p)
   pub magic-sound : {I : Type 0} (k : Key I) (p : Ground I) → Proper p → SoundFind p (findM k (p .atoms) (rewriting p))
-  -- each closes, splits and leaves open as document 01 says
+  pub staged-sound : {I : Type 0} (p : Ground I) → Proper p → SoundFind p (findS p)
+  -- each closes, splits and leaves open as document 01 or U12 says
   pub relevancy-chooses : {I : Type 0} (p : Ground I) (l : List ℕ) → RelevancyChoice p l
   pub magic-chooses : {I : Type 0} (k : Key I) (n : ℕ) (rs : List (MagicRule I)) (l : List ℕ) → MagicChoice k n rs l
+  pub staged-chooses : {I : Type 0} (p : Ground I) (l : List ℕ) → StagedChoice p l
+  -- U12's stages, whatever is true
+  pub stages : {I : Type 0} (p : Ground I) (t : ℕ → Bool) → Stages p t
+  pub marking-ends : {I : Type 0} (p : Ground I) (t : ℕ → Bool) → MarkingEnds p t
   -- what is entered at a split, whatever its alternatives: each of them once, in order of first appearance
   pub entered-once : (ds : List ℕ) → EachOnce natKey ds (branches ds)
   -- the model that the relevancy walk gives is that of its open place; by `one-trail` so is the magic walk's
