@@ -24,4 +24,5 @@ pub mod Cases
 pub mod Staged
 pub mod StagedChoice
 pub mod StagedSound
+pub mod StagedLaws
 pub mod Theorems

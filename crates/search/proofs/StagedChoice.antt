@@ -103,8 +103,12 @@ can-more p t r q f i s =
       none-true = s .none-true;
     }
 
-none-less : {I : Type 0} (p : Ground I) (t r q : ℕ → Bool) → ((a : ℕ) → T (r a) → T (q a)) → All (λ i. CanSplit p t q i → ⊥) (p .instances) → All (λ i. CanSplit p t r i → ⊥) (p .instances)
+pub none-less : {I : Type 0} (p : Ground I) (t r q : ℕ → Bool) → ((a : ℕ) → T (r a) → T (q a)) → All (λ i. CanSplit p t q i → ⊥) (p .instances) → All (λ i. CanSplit p t r i → ⊥) (p .instances)
 none-less p t r q f = all-map (λ i. CanSplit p t q i → ⊥) (λ i. CanSplit p t r i → ⊥) (λ i g s. g (can-more p t r q f i s)) (p .instances)
+
+-- the first that can be split is none that cannot
+pub first-barred : {I : Type 0} (p : Ground I) (t r : ℕ → Bool) (i : I) → FirstSplit p t r i → All (λ j. CanSplit p t r j → ⊥) (p .instances) → ⊥
+first-barred p t r i f a = (append-right (λ j. CanSplit p t r j → ⊥) (f .before) (i ∷ f .after) (subst (All (λ j. CanSplit p t r j → ⊥)) (f .order) a)) .0 (f .here)
 
 module _ {I : Type 0} (p : Ground I) (l : List ℕ) where
   pub findS-closed : findS p l ≡ closed → T (isTrue p l (p .atoms))
@@ -123,14 +127,14 @@ module _ {I : Type 0} (p : Ground I) (l : List ℕ) where
       (marking-split p (isTrue p l) i (w .0 ∙ ap some (f .2)), sym (f .3) ∙ ap branches (sym (w .1) ∙ ap (p .alts) (f .2)))
 
   -- an open node: marking is over, nothing can be split, and the bits
-  record OpenStage (bits : List Bool) : Type 0 where
-    stage : ℕ
-    not-closed : T (not (isTrue p l (p .atoms)))
-    over : Over p (isTrue p l) stage
-    unsplit : firstSplit p (isTrue p l) (stageOf p (isTrue p l) stage) ≡ none
-    bits-are : bits ≡ modelBits (p .atoms) (isTrue p l) (markedAt p l stage)
+  pub record OpenStage (bits : List Bool) : Type 0 where
+    pub stage : ℕ
+    pub not-closed : T (not (isTrue p l (p .atoms)))
+    pub over : Over p (isTrue p l) stage
+    pub unsplit : firstSplit p (isTrue p l) (stageOf p (isTrue p l) stage) ≡ none
+    pub bits-are : bits ≡ modelBits (p .atoms) (isTrue p l) (markedAt p l stage)
 
-  findS-opened : (bits : List Bool) → findS p l ≡ opened bits → OpenStage bits
+  pub findS-opened : (bits : List Bool) → findS p l ≡ opened bits → OpenStage bits
   unfolding findS
   findS-opened bits e =
       let f = foundAs-opened (isTrue p l (p .atoms)) _ _ bits e in
@@ -144,7 +148,7 @@ module _ {I : Type 0} (p : Ground I) (l : List ℕ) where
       }
 
   -- at an open node no stage can be split: each is inside the last
-  never-split : (bits : List Bool) → findS p l ≡ opened bits → (k : ℕ) → Unsplit p l k
+  pub never-split : (bits : List Bool) → findS p l ≡ opened bits → (k : ℕ) → Unsplit p l k
   never-split bits e k =
       let f = findS-opened bits e in
       none-less p (isTrue p l) (markedAt p l k) (markedAt p l (f .stage)) (f .over k) (none-can p (isTrue p l) (markedAt p l (f .stage)) (f .unsplit))
@@ -158,7 +162,7 @@ module _ {I : Type 0} (p : Ground I) (l : List ℕ) where
       }
 
   -- the marks of a finished marking, as a test
-  over-same : (k : ℕ) → Over p (isTrue p l) k → markedAt p l k ≡ isRelevant p l
+  pub over-same : (k : ℕ) → Over p (isTrue p l) k → markedAt p l k ≡ isRelevant p l
   over-same k o =
       fun-ext (λ a.
       let same = (marking-ends p (isTrue p l)) .over-relevant k o a in
@@ -182,16 +186,12 @@ module _ {I : Type 0} (p : Ground I) (l : List ℕ) where
       unsplit : (k : ℕ) → Unsplit p l k
       unsplit k = none-less p (isTrue p l) (markedAt p l k) (isRelevant p l) (stage-relevant p (isTrue p l) k) (none-can p (isTrue p l) (isRelevant p l) (o .1))
 
-      barred : (i : I) → StageSplit p l i → ⊥
-      barred i s =
-          let f = s .first-there in
-          let all = subst (All (λ j. CanSplit p (isTrue p l) (markedAt p l (s .stage)) j → ⊥)) (f .order) (unsplit (s .stage)) in
-          (append-right (λ j. CanSplit p (isTrue p l) (markedAt p l (s .stage)) j → ⊥) (f .before) (i ∷ f .after) all) .0 (f .here)
-
       go : (f : Found I) → findS p l ≡ f → findS p l ≡ opened bits
       go closed q = absurd (T-not (isTrue p l (p .atoms)) (o .0) (findS-closed q))
       go (opened b) q = let same : opened b ≡ opened bits = sym (opened-to b q) ∙ e in q ∙ same
-      go (split i ds) q = absurd (barred i (stage-split i ((findS-split i ds q) .0)))
+      go (split i ds) q =
+          let s = stage-split i ((findS-split i ds q) .0) in
+          absurd (first-barred p (isTrue p l) (markedAt p l (s .stage)) i (s .first-there) (unsplit (s .stage)))
 
   pub staged-chooses : StagedChoice p l
   staged-chooses =
