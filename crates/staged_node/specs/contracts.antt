@@ -1,0 +1,5 @@
+-- The vocabulary of inner contracts: what the functions of this crate say to each other of their buffers.
+pub mod Chains
+pub mod Node
+pub mod Step
+pub mod Stages
