@@ -4,7 +4,7 @@ use mathlib.Core.List.{List, [], _∷_}
 use mathlib.Core.Path.{_≡_}
 use Prim.Native.Nat.{ℕ}
 use lib.Dec.{ltb}
-use lib.ListN.{length}
+use lib.ListN.{length, take}
 use Rattle.problem.specs.Problem.{Clause, Problem}
 use Rattle.problem.specs.Layout.{layout, problemIn}
 
@@ -23,6 +23,9 @@ withClauses q ks = record { constants = q .constants; limit = q .limit; arities 
 abbrev pub chainPart : Problem → Problem
 chainPart q = withClauses q (chainClauses (q .clauses))
 
--- horn is the table of a table's chaining clauses
+-- horn is the table of those of a table's first k clauses that are chaining, and of all
+abbrev pub ChainsBefore : List ℕ → ℕ → List ℕ → Type 0
+ChainsBefore tb k horn = horn ≡ layout (withClauses (problemIn tb) (chainClauses (take k ((problemIn tb) .clauses))))
+
 abbrev pub ChainTable : List ℕ → List ℕ → Type 0
 ChainTable tb horn = horn ≡ layout (chainPart (problemIn tb))
