@@ -110,7 +110,7 @@ module _ (tb : List ℕ) (h : Lawful tb) where
   abbrev q : Problem
   q = problemIn tb
 
-  before-problem : (k : ℕ) (horn : List ℕ) → ChainsBefore tb k horn → problemIn horn ≡ upto q (h .fits) k
+  pub before-problem : (k : ℕ) (horn : List ℕ) → ChainsBefore tb k horn → problemIn horn ≡ withClauses (problemIn tb) (chainClauses (take k ((problemIn tb) .clauses)))
   before-problem k horn e = ap problemIn e ∙ problem-back (upto q (h .fits) k) (upto-fits q (h .fits) k)
 
   pub before-lawful : (k : ℕ) (horn : List ℕ) → ChainsBefore tb k horn → Lawful horn

@@ -1,2 +1,5 @@
 pub mod ChainLaws
+pub mod ChainRules
 pub mod StepLaws
+pub mod MarkedLaws
+pub mod StageLaws
