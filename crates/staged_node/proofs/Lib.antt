@@ -3,3 +3,4 @@ pub mod ChainRules
 pub mod StepLaws
 pub mod MarkedLaws
 pub mod StageLaws
+pub mod SettleLaws
