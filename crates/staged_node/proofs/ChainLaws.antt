@@ -7,7 +7,6 @@ use native.Mathlib.Nat.{sub-zero}
 use native.Mathlib.Numerals.{add-one}
 use native.Mathlib.Omega.{arith}
 use borrow.Author.Tests.{lt-ltb, le-ltb}
-use lib.Dec.{T, ltb}
 use lib.ListN.{length, take, drop, getD, set, replicate, length-append, length-take, length-drop, length-replicate}
 use lib.Seq.{ext-getD, getD-take, getD-drop, length-take-le, set-append-left, take-at, drop-at, take-suc, take-all}
 use Rattle.lists.specs.Bytes.{pad}
@@ -22,7 +21,7 @@ use Rattle.problem.proofs.Regions.{front, front-length, parts}
 use Rattle.problem.proofs.TableLayout.{noClause, predicateRecords-length, clauseRecord-length, clause-byte, problem-back}
 use Rattle.adding.specs.contracts.Appended.{Appended}
 use Rattle.adding.proofs.AppendLaws.{table-size, clause-count}
-use Rattle.staged_node.specs.contracts.Chains.{chains, chainClauses, withClauses, chainPart, ChainsBefore, ChainTable}
+use Rattle.staged_node.specs.contracts.Chains.{chains, chainClauses, withClauses, ChainsBefore, ChainTable}
 
 -- ---- the chaining clauses among clauses
 
