@@ -1,7 +1,7 @@
 -- How the walk that marks in stages chooses at a node: where its marking ends, and what it finds there.
 use Prim.Native.Nat.{ℕ, zero, suc, _≤_, _<_}
 use mathlib.Core.Bool.{Bool, true, false, not}
-use mathlib.Core.List.{List, [], _∷_}
+use mathlib.Core.List.{List, _∷_}
 use mathlib.Core.Logic.{_⊎_, inl, inr}
 use mathlib.Core.Option.{Option, none, some}
 use mathlib.Core.Path.{_≡_, refl, sym, ap, subst, fun-ext, _∙_}
@@ -9,15 +9,15 @@ use native.Mathlib.Omega.{arith}
 use lib.Dec.{T, T-not}
 use lib.ListN.{length}
 use Rattle.lists.specs.Key.{natKey}
-use Rattle.lists.specs.Member.{All, every, first, has, In}
+use Rattle.lists.specs.Member.{All, every, first, has}
 use Rattle.lists.proofs.Test.{lt-or-le, same-test, T-false}
 use Rattle.lists.proofs.Member.{all-map, all-every, every-all, append-right}
 use Rattle.search.specs.Ground.{Ground, Found, closed, opened, split}
 use Rattle.search.specs.Relevancy.{isTrue, isRelevant, splittable, branches, modelBits, foundAs, withAlts, findR}
 use Rattle.search.specs.Choice.{CanSplit, FirstSplit}
 use Rattle.search.specs.Staged.{stepMarks, nextStage, stageOf, firstSplit, markFrom, marking, findS}
-use Rattle.search.specs.StagedClaims.{MarkedAt, Over, markedAt, Unsplit, StageSplit, OpenMarks, StagedChoice}
-use Rattle.search.proofs.Found.{foundAs-closed, foundAs-closes, foundAs-opened, foundAs-split, withAlts-none, withAlts-some, findR-closes, findR-opened}
+use Rattle.search.specs.StagedClaims.{Over, markedAt, Unsplit, StageSplit, StagedChoice}
+use Rattle.search.proofs.Found.{foundAs-closed, foundAs-closes, foundAs-opened, foundAs-split, withAlts-none, withAlts-some, findR-opened}
 use Rattle.search.proofs.Choice.{first-can, none-can}
 use Rattle.search.proofs.Staged.{left, left-length, left-still, still-over, stage-relevant, marking-ends}
 

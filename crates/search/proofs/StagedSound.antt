@@ -4,7 +4,6 @@ use mathlib.Core.Bool.{Bool}
 use mathlib.Core.List.{List}
 use mathlib.Core.Path.{_≡_}
 use Rattle.search.specs.Ground.{Ground, Proper, Marked, Found}
-use Rattle.search.specs.Relevancy.{isTrue}
 use Rattle.search.specs.Machine.{Satisfied, Refuted, outcome}
 use Rattle.search.specs.Sound.{SoundFind}
 use Rattle.search.specs.Staged.{findS}

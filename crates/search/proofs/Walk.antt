@@ -1,7 +1,7 @@
 -- The relevancy walk: what an instance that it splits has, and that the atoms entered are relevant and new.
 use Prim.Native.Nat.{ℕ, _<_}
 use mathlib.Core.Bool.{Bool, not, _&&_}
-use mathlib.Core.List.{List, [], _∷_}
+use mathlib.Core.List.{List, _∷_}
 use mathlib.Core.Option.{some}
 use mathlib.Core.Path.{_≡_, sym, subst}
 use lib.Dec.{T, T-not}
