@@ -52,11 +52,12 @@
  *   lutsamik_parts_magic      table; writes count, rules,  11, 31         rules: as lutsamik_rewrite does; the rest:
  *                             answer, work                                as lutsamik_parts_relevancy does
  *
- * Refusals are looked for in the order given, but 1 to 10 as reading meets them in a line: 1, 2, byte by byte 3 to
- * 7, then 3 for bytes left over, then 8, 9, 10; a 65th clause is 5 right after 2. A rule that is offered or set is
- * looked at as such a line. Bytes past those named are as they were, also those of a buffer that is longer than it
- * must be. What a written buffer held before does not matter, but for the table that a rule is set in and the session
- * that a walk goes on with. A is the ticket's number of ground atoms, 1,024 at most.
+ * Refusals are looked for in the order given, but those of a line, 1 to 10, as reading meets them: 1, 2, byte by byte
+ * 3 to 7, then 3 for bytes left over, then 8, 9, 10; a 65th clause is 5 right after 2. A rule that is offered or set is
+ * looked at as such a line; with open facts no line is looked at, and 5 comes where it stands, after 31. Bytes past
+ * those named are as they were, also those of a buffer that is longer than it must be. What a written buffer held
+ * before does not matter, but for the table that a rule is set in and the session that a walk goes on with. A is the
+ * ticket's number of ground atoms, 1,024 at most.
  *
  * An engine runs until its walk ends or has made as many entries as the ticket or a further limit allows, however
  * long that takes. It calls itself along its path of up to 1,024 entries, that of a session too: leave it 1 MB of
@@ -65,12 +66,12 @@
  * of stack were measured:
  *
  *   entries on the path             0       64      256    1,024
- *   a first run by relevancy   26,000   54,000  146,000  515,000
- *   a first run by magic       52,000   67,000  150,000  482,000
+ *   a first run by relevancy   22,000   51,000  143,000  512,000
+ *   a first run by magic       36,000   63,000  146,000  478,000
  *   going on by relevancy      45,000   68,000  160,000  529,000
- *   going on by magic          72,000   88,000  174,000  518,000
+ *   going on by magic          67,000   88,000  174,000  519,000
  *
- * With open facts a call needs up to 16,000 more than a first run on a path of that length, and by parts up to 40,000
+ * With open facts a call needs up to 7,000 more than a first run on a path of that length, and by parts up to 24,000
  * more.
  */
 #ifndef LUTSAMIK_H
@@ -293,9 +294,9 @@ uint64_t lutsamik_resume_magic(struct lutsamik_session *session, uint32_t furthe
  * own, in the order lent; both under the ticket's limit. Where the first run ends in none, the second is not made.
  * lutsamik_assumed says LUTSAMIK_NONE_ALWAYS where the first run ends in none, LUTSAMIK_NONE_WITH_SOME where the first
  * fits and the second ends in none, LUTSAMIK_NONE_NEVER where both fit, and LUTSAMIK_SPENT where a run is spent that is
- * made, whatever the other says. The first three are right for all choices of the facts to add, though two of them are
- * tried. first is left the number of entries that the first run made, and second that of the second run, 0 where it is
- * not made. The answer is lent as to a first run and is not written to: no fitting is left.
+ * made, whatever the other says. The first three are right for all choices of the facts to add, though at most two of
+ * them are tried. first is left the number of entries that the first run made, and second that of the second run, 0
+ * where it is not made. The answer is lent as to a first run and is not written to: no fitting is left.
  *
  * LUTSAMIK_BAD_COUNT is for a ticket whose clauses and the facts are more than 64 together, and comes before
  * LUTSAMIK_BAD_FACTS, which is for more than 16 facts, a number of A or more, and a number that stands there twice. */
@@ -303,9 +304,10 @@ uint64_t lutsamik_assume_relevancy(const uint8_t *table, size_t table_len, const
                                    uint32_t *first, uint32_t *second, const uint8_t *answer, size_t answer_len,
                                    uint8_t *work, size_t work_len);
 
-/* The same by the magic engine. Refusal, what is said and both counts are those of lutsamik_assume_relevancy; the rules
- * are those that lutsamik_rewrite writes for the ticket of the last run that is made, so with a clause for each fact
- * unless the ticket by itself ends in none. */
+/* The same by the magic engine. Refusal, what is said and both counts are those of lutsamik_assume_relevancy, but that
+ * a rules buffer which is too short is refused by LUTSAMIK_SHORT_BUFFER too; the rules are those that
+ * lutsamik_rewrite writes for the ticket of the last run that is made, so with a clause for each fact unless the ticket
+ * by itself ends in none. */
 uint64_t lutsamik_assume_magic(const uint8_t *table, size_t table_len, const uint32_t *facts, size_t facts_len,
                                uint32_t *first, uint32_t *second, uint8_t *rules, size_t rules_len,
                                const uint8_t *answer, size_t answer_len, uint8_t *work, size_t work_len);
@@ -319,15 +321,16 @@ uint64_t lutsamik_assume_magic(const uint8_t *table, size_t table_len, const uin
  * of the ticket, and the full limit. The first part that ends in none ends the call, and lutsamik_verdict says
  * LUTSAMIK_NONE; failing that it says LUTSAMIK_SPENT where a part is spent, after the parts behind it were run too,
  * and else LUTSAMIK_FITS. Then the answer has each atom as the fitting of its predicate's part has it, and that is a
- * fitting of the whole ticket; LUTSAMIK_NONE is right for the whole ticket too. The other two leave the answer as it
- * was, though parts before may have fitted. count is left the sum of the entries that the runs made: it may pass what
- * lutsamik_count holds, which is 0 here, as is lutsamik_deepest. A ticket that is spent as a whole may fit or end in
- * none by parts. */
+ * fitting of the whole ticket; LUTSAMIK_NONE is right for the whole ticket too. LUTSAMIK_NONE and LUTSAMIK_SPENT leave
+ * the answer as it was, though parts before may have fitted. count is left the sum of the entries that the runs made:
+ * it may pass what lutsamik_count holds, which is 0 here, as is lutsamik_deepest. A ticket that is spent as a whole may
+ * fit or end in none by parts. */
 uint64_t lutsamik_parts_relevancy(const uint8_t *table, size_t table_len, uint64_t *count, uint8_t *answer,
                                   size_t answer_len, uint8_t *work, size_t work_len);
 
-/* The same by the magic engine. Refusal, verdict, count and answer are those of lutsamik_parts_relevancy; the rules are
- * those that lutsamik_rewrite writes for the whole ticket, whatever the verdict. */
+/* The same by the magic engine. Refusal, verdict, count and answer are those of lutsamik_parts_relevancy, but that a
+ * rules buffer which is too short is refused by LUTSAMIK_SHORT_BUFFER too; the rules are those that lutsamik_rewrite
+ * writes for the whole ticket, whatever the verdict. */
 uint64_t lutsamik_parts_magic(const uint8_t *table, size_t table_len, uint64_t *count, uint8_t *rules, size_t rules_len,
                               uint8_t *answer, size_t answer_len, uint8_t *work, size_t work_len);
 
@@ -397,6 +400,7 @@ static inline const char *lutsamik_refusal_words(unsigned refusal) {
     case LUTSAMIK_NO_SESSION: return "the session is none of the ticket's walk";
     case LUTSAMIK_STALE_SLIP: return "the slip's number of clauses is not the ticket's";
     case LUTSAMIK_NO_INSTANCE: return "the ticket lacks the clause, or a value of its variables";
+    case LUTSAMIK_BAD_FACTS: return "there are more than 16 open facts, or one is no atom or is repeated";
     default: return "no refusal has this number";
     }
 }

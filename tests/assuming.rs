@@ -1,7 +1,7 @@
 //! Tickets with open facts, by the library's two engines and by what `assume.rs` has of document 02: on many small random tickets and on some of any size,
 //! with limits around the counts of both runs, what is said, both counts and every byte of every buffer must agree; so must refusals, and which of two
 //! comes first. Where there are few atoms and facts, what is said is held to all choices of the facts to add, by trying all sets of atoms. Tickets by
-//! hand come first. Usage: assuming [NUMBER OF TICKETS]. The same calls in every run.
+//! hand come first, one of them with a second run whose end nobody would wait for. Usage: assuming [NUMBER OF TICKETS]. The same calls in every run.
 mod arbitrary;
 mod assume;
 mod library;
@@ -22,6 +22,7 @@ mod session;
 mod slip;
 mod threads;
 mod tickets;
+mod unrelated;
 mod walk;
 
 use assume::{atom, refused, right, told, with_facts, Said, Told, Why, MOST_FACTS, WHYS};
@@ -31,9 +32,13 @@ use memory::{less_than, Memory};
 use met::Required;
 use operations::{Buffer, Lent, Operation, BUFFERS};
 use random::Random;
-use reference::{Atom, Clause, Ticket, BAD_COUNT, BAD_FACTS, MOST_CLAUSES, NO_TABLE, SHORT_BUFFER};
+use reference::{Atom, Clause, Ticket, ANSWER, BAD_COUNT, BAD_FACTS, MOST_CLAUSES, NO_TABLE, RULES, SHORT_BUFFER, WORK};
 use report::{same, Report};
+use std::sync::mpsc;
+use std::thread;
+use std::time::Duration;
 use threads::Run;
+use unrelated::Family;
 use walk::{Relevancy, Verdict, Whole};
 
 const TICKETS: u64 = 4_000;
@@ -265,7 +270,21 @@ impl Run<Met> {
             let lent = lend(&mut self.random, &reference::encode(&ticket), facts);
             same(&format!("{text}with {facts:?}"), [number; 2], self.as_expected(&lent)?)?;
         }
-        self.at_the_limits()
+        self.at_the_limits()?;
+        self.at_once()
+    }
+
+    /// Where the ticket by itself is none, a second run is not made, not even one that would be thrown away: nobody waits for the end of this one.
+    fn at_once(&mut self) -> Result<(), Report> {
+        let (ticket, facts) = endless_with_fact();
+        let case = Case::new(ticket.clone(), facts.clone(), 1000)?;
+        same("verdicts by itself and with the fact", [Verdict::None, Verdict::Spent], [&case.alone, &case.with_all].map(|whole| whole.under(1000).verdict))?;
+        for operation in ASSUME {
+            let told = in_time(operation, &ticket, &facts).ok_or_else(|| format!("{operation:?} makes a second run after none"))?;
+            same(&format!("{operation:?}"), (library::said(Said::Always as u8), [2, 0]), told)?;
+            self.tally.calls += 1;
+        }
+        Ok(())
     }
 
     /// A ticket of 20 atoms, each of which may be a fact, with so many clauses and so many facts, the last one again where that is said.
@@ -280,6 +299,34 @@ impl Run<Met> {
         }
         Ok(())
     }
+}
+
+/// How long a call may take, on a machine that has much else to do.
+const PATIENCE: Duration = Duration::from_secs(60);
+
+/// The answer and the counts of a call with these open facts; nothing where it takes too long.
+fn in_time(operation: Operation, ticket: &Ticket, facts: &[u32]) -> Option<(u64, [u32; 2])> {
+    let (table, facts, (answered, told)) = (reference::encode(ticket), facts.to_vec(), mpsc::channel());
+    let call = move || {
+        let (mut counts, mut rules, answer, mut work) = ([u32::MAX; 2], vec![7; RULES], vec![7; ANSWER], vec![7; WORK]);
+        let given = match operation {
+            Operation::AssumeMagic => library::assume_magic(&table, &facts, counts.each_mut(), &mut rules, &answer, &mut work),
+            _ => library::assume_relevancy(&table, &facts, counts.each_mut(), &answer, &mut work),
+        };
+        let _ = answered.send((given, counts));
+    };
+    thread::spawn(call);
+    told.recv_timeout(PATIENCE).ok()
+}
+
+/// A ticket that is none after two entries, under the greatest limit. With atom 2 as a fact its lines hold, and before those two it makes the choices of a
+/// family of seven lines, which has 2 to the power of 49 ways.
+fn endless_with_fact() -> (Ticket, Vec<u32>) {
+    let [one, other, begun] = [0, 1, 2].map(|predicate| Atom::new(predicate, &[]));
+    let mut clauses = Family { first: 3, lines: 7 }.without_fitting();
+    clauses.iter_mut().filter(|clause| clause.conditions.is_empty()).for_each(|clause| clause.conditions.push(begun.clone()));
+    clauses.extend([Clause::new(&[], &[one.clone(), other.clone()]), Clause::new(&[one], &[]), Clause::new(&[other], &[])]);
+    (unrelated::ticket(7, 3, 1, clauses, u32::MAX), vec![2])
 }
 
 /// The list with others put in at a place.

@@ -32,8 +32,8 @@ const MOST_TO_GO_ON: usize = 5 << 17;
 const MOST: usize = 1 << 14;
 
 /// How much more than a first run a call with open facts may use, or one by parts, as the header says.
-const MORE_WITH_FACTS: usize = 16_000;
-const MORE_BY_PARTS: usize = 40_000;
+const MORE_WITH_FACTS: usize = 7_000;
+const MORE_BY_PARTS: usize = 24_000;
 
 /// The header's table: for paths of so many entries, what a first run and going on with a session use, by each engine.
 const HEADER: &str = include_str!("../include/lutsamik.h");
@@ -56,6 +56,9 @@ fn measure(stack: usize) -> Result<(), Report> {
     walked(&late, 4 * 961, 961, stack)?;
     brought_back(&open, 961, stack)?;
     brought_back(&late, 4 * 961, stack)?;
+    for limit in [0, 64, 256, 512] {
+        walked(&tickets::deep(24, 2, limit), limit, limit, stack)?;
+    }
     as_in_header(stack)
 }
 
@@ -141,16 +144,26 @@ fn walked(ticket: &Ticket, count: u32, path: u32, stack: usize) -> Result<[usize
     Ok(most)
 }
 
-/// The same with no open fact, which runs the ticket twice unless it ends in none: a little more than a first run uses.
+/// The same with as many open facts as there is room for, which runs the ticket twice unless it ends in none: a little more than a first run uses.
 fn with_facts(ticket: &Ticket, outcome: &Outcome, first_run: [usize; 2], stack: usize) -> Result<(), Report> {
-    let told = assume::told(outcome, || outcome.clone());
-    let mut host = Host { table: reference::encode(ticket), ..Host::new() };
+    let facts = open_facts(ticket);
+    let longer = assume::with_facts(ticket, &facts);
+    let told = assume::told(outcome, || walk(&Relevancy::new(&longer), u32::from_be_bytes(ticket.limit), &mut |_, _| {}));
+    let mut host = Host { table: reference::encode(ticket), facts, ..Host::new() };
     for ((name, engine), first_run) in WITH_FACTS.into_iter().zip(first_run) {
         let used = used(name, said(told.said as u8), stack, first_run + MORE_WITH_FACTS, || engine(&mut host))?;
         same("counts with open facts", told.counts, host.counts)?;
-        println!("stack: with open facts, on a path of up to {}, {name} uses {used} bytes", outcome.deepest);
+        let more = used.saturating_sub(first_run);
+        println!("stack: with {} open facts, {:?} entries, {name} uses {used} bytes, {more} more than a first run", host.facts.len(), told.counts);
     }
     Ok(())
+}
+
+/// The last atoms of the first predicate: each is entered late or not at all, so that the second run's path is hardly shorter.
+fn open_facts(ticket: &Ticket) -> Vec<u32> {
+    let room = (reference::MOST_CLAUSES - ticket.clauses.len()).min(assume::MOST_FACTS);
+    let atoms = ticket.first_atom(1) as u32;
+    (atoms - room as u32..atoms).collect()
 }
 
 /// The same by parts.
@@ -161,7 +174,8 @@ fn by_parts(ticket: &Ticket, first_run: [usize; 2], stack: usize) -> Result<(), 
     for ((name, engine), first_run) in BY_PARTS.into_iter().zip(first_run) {
         let used = used(name, said(told.verdict as u8), stack, first_run + MORE_BY_PARTS, || engine(&mut host))?;
         same("the sum of the parts' counts", told.count, host.count)?;
-        println!("stack: by parts, of {} entries, {name} uses {used} bytes", told.count);
+        let more = used.saturating_sub(first_run);
+        println!("stack: by parts, of {} entries, {name} uses {used} bytes, {more} more than a first run", told.count);
     }
     Ok(())
 }
