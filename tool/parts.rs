@@ -36,7 +36,7 @@ struct Parts<'a> {
 }
 
 /// What by parts there is not.
-const WITHOUT: [(&str, &str); 3] = [("--save", "no session is left"), ("-n", "there is one fitting"), ("--lines", "document 01 has no lines")];
+const WITHOUT: [(&str, &str); 3] = [("--save", "no session is left"), ("-n", "one fitting is given"), ("--lines", "document 01 has no lines")];
 
 /// That no option is given that does not go with --parts.
 pub fn check(arguments: &Arguments) -> Result<(), Failure> {
@@ -166,7 +166,13 @@ impl Parts<'_> {
             Verdict::Spent => format!("spent: {} stopped the walk of a part", self.stopper),
         };
         let (count, limit) = (self.whole.count, self.accepted.ticket.limit);
-        format!("verdict: {meaning}\nentries: {count} in {}, of at most {limit} each\n", counted(self.parts.len(), "part"))
+        format!("verdict: {meaning}\nentries: {count} in {}, of at most {limit} each\n", self.walked_words())
+    }
+
+    /// How many parts the entries were made in, and of how many where some were not walked.
+    fn walked_words(&self) -> String {
+        let (all, walked) = (counted(self.parts.len(), "part"), self.parts.iter().filter(|part| part.at.is_some()).count());
+        if walked == self.parts.len() { all } else { format!("{walked} of {all}") }
     }
 
     fn as_json(&self, fitting: Option<&Fitting>) -> Ending {

@@ -44,7 +44,7 @@ static int print(const char *path) {
 int main(int argc, char **argv) {
     int i, status = 0;
     unsigned number;
-    for (number = 0; argc == 1 && number < 45; number++)
+    for (number = 0; argc == 1 && number < 255; number++)
         if (strcmp(lutsamik_refusal_words(number), lutsamik_refusal_words(255))) printf("%u %s\n", number, lutsamik_refusal_words(number));
     for (i = 1; i < argc; i++) status |= print(argv[i]);
     return status;
