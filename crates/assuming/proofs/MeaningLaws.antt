@@ -1,7 +1,7 @@
 -- What the answers mean: the choices of facts, and the answer of two runs by sound walks.
 use Prim.Native.Nat.{ℕ, _≤_, _<_, min}
 use mathlib.Core.Bool.{Bool, true, false}
-use mathlib.Core.List.{List, [], _∷_, append-nil}
+use mathlib.Core.List.{List, [], _∷_, _++_, map, append-nil, append-assoc, map-append}
 use mathlib.Core.Logic.{_↔_, _⊎_, inl, inr}
 use mathlib.Core.Path.{_≡_, refl, sym, ap, subst, _∙_}
 use native.Mathlib.Nat.{min-eq-left, min-eq-right, le-of-lt}
@@ -13,12 +13,13 @@ use Rattle.search.specs.Machine.{Place, Outcome, Satisfied, Refuted, Exhausted,
 use Rattle.search.specs.Sound.{SoundFind}
 use Rattle.search.proofs.Theorems.{theorems as walks}
 use Rattle.problem.specs.Problem.{Clause, Problem, Fits, atomCount, limitOf}
+use Rattle.problem.specs.Extended.{withClause}
 use Rattle.ground.specs.declared.verdict.Verdict.the-variants as verdict
 use Rattle.ground.specs.Instance.{Instance, groundOf}
 use Rattle.ground.specs.Verdict.{verdictOf}
 use Rattle.assuming.specs.declared.assume.Assumed.{Assumed}
 use Rattle.assuming.specs.declared.assume.Assumed.the-variants as assumed
-use Rattle.assuming.specs.Assume.{assuming, picked, runs, assumedOf, countOf, firstLeft, secondLeft, assumedNumbers}
+use Rattle.assuming.specs.Assume.{factClause, assuming, picked, runs, assumedOf, countOf, firstLeft, secondLeft, assumedNumbers}
 use Rattle.assuming.specs.Claims.{NoModel, HasModel, EachChoice, SomeChoice, Meaning, Assumable, Ran}
 use Rattle.assuming.proofs.FactLaws.{assuming-fits}
 use Rattle.assuming.proofs.ModelLaws.{added-model, model-added}
@@ -47,6 +48,11 @@ none-picked (a ∷ facts) = none-picked facts
 
 pub none-added : (q : Problem) → assuming q [] ≡ q
 none-added q = ap (λ (ks : List Clause). record { constants = q .constants; limit = q .limit; arities = q .arities; clauses = ks }) (append-nil (q .clauses))
+
+pub next-added : (q : Problem) (facts : List ℕ) (a : ℕ) → assuming q (facts ++ (a ∷ [])) ≡ withClause (assuming q facts) (factClause q a)
+next-added q facts a =
+    ap (λ (ks : List Clause). record { constants = q .constants; limit = q .limit; arities = q .arities; clauses = ks })
+    (ap (λ (ks : List Clause). q .clauses ++ ks) (map-append (factClause q) facts (a ∷ [])) ∙ sym (append-assoc (q .clauses) (map (factClause q) facts) (factClause q a ∷ [])))
 
 pub no-fact : (q : Problem) (facts : List ℕ) → assuming q (picked (replicate (length facts) false) facts) ≡ q
 no-fact q facts = ap (assuming q) (none-picked facts) ∙ none-added q

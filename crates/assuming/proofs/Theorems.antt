@@ -7,7 +7,7 @@ use mathlib.Core.Path.{_≡_, refl, sym, ap, subst, _∙_}
 use native.Mathlib.Omega.{arith}
 use borrow.Author.Tests.{lt-ltb, le-ltb, le-leb, ltb-true, leb-true}
 use lib.Dec.{T, ltb, leb}
-use lib.ListN.{length, take, drop, take-append-drop}
+use lib.ListN.{length, take, drop, replicate, take-append-drop}
 use lib.Seq.{take-length}
 use Rattle.lists.specs.Key.{natKey}
 use Rattle.lists.specs.Member.{All, has, Distinct}
@@ -32,7 +32,7 @@ use Rattle.ground.proofs.Instances.{ground-proper}
 use Rattle.judging.specs.Demand2.{Demand2}
 use Rattle.judging.proofs.Theorems.{theorems as judgings}
 use Rattle.relevancy.specs.Claims.{Taken}
-use Rattle.relevancy.specs.Engine.{outcomeIn, tooShort, fitResult}
+use Rattle.relevancy.specs.Engine.{outcomeIn, tooShort, fitResult, fitWork}
 use Rattle.relevancy.proofs.EngineLaws as relevancy
 use Rattle.relevancy.proofs.Theorems.{theorems as relevancies}
 use Rattle.rewriting.specs.RulesLayout.{rulesLayout}
@@ -40,15 +40,15 @@ use Rattle.rewriting.specs.Facts.{findIn}
 use Rattle.rewriting.specs.Rewrite.{rulesOver}
 use Rattle.rewriting.proofs.RegroupLaws.{rules-sound}
 use Rattle.magic.specs.Claims.{MagicTaken}
-use Rattle.magic.specs.Engine.{rulesOutcome, magicTooShort, magicOutcome, magicResult}
+use Rattle.magic.specs.Engine.{rulesOutcome, magicTooShort, magicOutcome, magicResult, magicWork}
 use Rattle.magic.proofs.EngineLaws as magic
 use Rattle.magic.proofs.Theorems.{theorems as magics}
-use Rattle.assuming.specs.Assume.{assuming, assumedTable, areAtoms, factsRefusal, Runs, declined, runs, screened}
+use Rattle.assuming.specs.Assume.{assuming, assumedTable, areAtoms, factsRefusal, Runs, declined, runs, firstLeft, secondLeft, workLeft, screened}
 use Rattle.assuming.specs.Engines.{relevancyRuns, magicRuns}
-use Rattle.assuming.specs.Claims.{problemLent, Assumable, Ran, TwoRuns, ByRelevancy, ByMagic, Theorems}
+use Rattle.assuming.specs.Claims.{problemLent, Assumable, Ran, TwoRuns, RefusalKeeps, ByRelevancy, ByMagic, Theorems}
 use Rattle.assuming.proofs.FactLaws.{assuming-fits}
 use Rattle.assuming.proofs.ModelLaws.{fact-is, added-model, model-added}
-use Rattle.assuming.proofs.MeaningLaws.{all-picked, no-fact, choice-fits, means, spent, first-counted, second-counted, not-made}
+use Rattle.assuming.proofs.MeaningLaws.{all-picked, none-added, next-added, no-fact, choice-fits, means, spent, first-counted, second-counted, not-made}
 
 -- a refusal's number, and that a verdict is one
 abbrev refusalIn : Verdict → ℕ
@@ -147,6 +147,21 @@ refused-alike false false o k r e s = ap declined (ap refusalIn s)
 refused-alike false true (Satisfied n bits) k r e s = absurd (subst IsRefusal (sym s) tt)
 refused-alike false true (Refuted n) k r e s = absurd (subst IsRefusal (sym s) tt)
 refused-alike false true (Exhausted n) k r e s = absurd (subst IsRefusal (sym s) tt)
+
+-- ---- what is left
+
+refusal-keeps : (r : Runs) → RefusalKeeps r
+refusal-keeps r =
+    record {
+      first = λ e s held. ap (λ (x : Runs). firstLeft x held) s;
+      second = λ e s held. ap (λ (x : Runs). secondLeft x held) s;
+      work = λ e s bytes. ap (λ (x : Runs). workLeft x bytes) s;
+    }
+
+runs-work : (o p : Outcome) (work : List ℕ) → workLeft (runs o p) work ≡ replicate 65536 0 ++ drop 65536 work
+runs-work (Satisfied n bits) p work = refl
+runs-work (Refuted n) p work = refl
+runs-work (Exhausted n) p work = refl
 
 -- ---- the two runs
 
@@ -260,6 +275,11 @@ module _ (tb facts answer work : List ℕ) where
           (walks .relevancy-sound (groundOf (assuming (problemLent tb) facts)) (ground-proper (assuming (problemLent tb) facts) (longer-fits tb facts (t .table-long) (t .valid) asks)))
           R relevancy-made
 
+      relevancy-work : workLeft R work ≡ fitWork tb answer work
+      unfolding fitWork
+      relevancy-work = rw (enough, good tb facts (t .valid) R) (ap (λ (x : Runs). workLeft x work) relevancy-made
+          ∙ runs-work (outcome (findR (groundOf (problemLent tb))) (limitOf ((problemLent tb) .limit))) (outcome (findR (groundOf (assuming (problemLent tb) facts))) (limitOf ((problemLent tb) .limit))) work)
+
   relevancy-one : (Taken tb answer work × Assumable (problemLent tb) facts) ⊎ (R ≡ declined 11) ⊎ (R ≡ declined 31) ⊎ (R ≡ declined 5) ⊎ (R ≡ declined 45)
   relevancy-one = go (relevancies .taken-or-refused tb answer work)
     where
@@ -283,6 +303,8 @@ module _ (tb facts answer work : List ℕ) where
         refused-5 = λ t l. relevancy-by t 5 (refused-5 (problemLent tb) facts l);
         refused-45 = λ t l n. relevancy-by t 45 (refused-45 (problemLent tb) facts l n);
         two-runs = relevancy-two;
+        refused-kept = refusal-keeps R;
+        work-left = relevancy-work;
       }
 
 -- ---- the magic engine
@@ -296,12 +318,13 @@ module _ (tb facts rules answer work : List ℕ) where
   magic-first e = refused-alike (magicTooShort tb rules answer work) (isValid (take 4096 tb)) (magicOutcome (take 4096 tb) (take 16384 rules)) (factsRefusal (problemIn (take 4096 tb)) facts) _ e
 
   module _ (t : MagicTaken tb rules answer work) where
+    magic-enough : magicTooShort tb rules answer work ≡ false
+    magic-enough = magic.long-enough tb rules answer work (t .table-long) (t .rules-long) (t .answer-long) (t .work-long)
+
     pub magic-by : (k : ℕ) → factsRefusal (problemLent tb) facts ≡ k
         → S ≡ cond (ltb 0 k) (declined k) (runs (magicOutcome (take 4096 tb) (take 16384 rules)) (magicOutcome (assumedTable (take 4096 tb) facts) (take 16384 rules)))
     unfolding magicRuns
-    magic-by k e =
-        screened-by tb facts (t .valid) _ (magicTooShort tb rules answer work)
-        (magic.long-enough tb rules answer work (t .table-long) (t .rules-long) (t .answer-long) (t .work-long)) k e
+    magic-by k e = screened-by tb facts (t .valid) _ (magicTooShort tb rules answer work) magic-enough k e
 
     module _ (asks : Assumable (problemLent tb) facts) where
       abbrev one : List ℕ → Found Instance
@@ -327,6 +350,11 @@ module _ (tb facts rules answer work : List ℕ) where
       magic-two : TwoRuns one two tb facts S
       magic-two = two-runs tb facts (t .table-long) (t .valid) asks one two (rules-sound (problemLent tb) (fits tb facts (t .table-long) (t .valid) asks) _) two-sound S magic-made
 
+      magic-work : workLeft S work ≡ magicWork tb rules answer work
+      unfolding magicWork
+      magic-work = rw (magic-enough, good tb facts (t .valid) S) (ap (λ (x : Runs). workLeft x work) magic-made
+          ∙ runs-work (outcome one (limitOf ((problemLent tb) .limit))) (outcome two (limitOf ((problemLent tb) .limit))) work)
+
   magic-one : (MagicTaken tb rules answer work × Assumable (problemLent tb) facts) ⊎ (S ≡ declined 11) ⊎ (S ≡ declined 31) ⊎ (S ≡ declined 5) ⊎ (S ≡ declined 45)
   magic-one = go (magics .taken-or-refused tb rules answer work)
     where
@@ -350,13 +378,17 @@ module _ (tb facts rules answer work : List ℕ) where
         refused-5 = λ t l. magic-by t 5 (refused-5 (problemLent tb) facts l);
         refused-45 = λ t l n. magic-by t 45 (refused-45 (problemLent tb) facts l n);
         two-runs = magic-two;
-        refused-kept = λ e. take-append-drop 16384 rules;
+        refused-kept = refusal-keeps S;
+        refused-rules = λ e. take-append-drop 16384 rules;
+        work-left = magic-work;
       }
 
 pub theorems : Theorems
 theorems =
     record {
       fact-is = λ q f a l values. fact-is q f a l values;
+      none-added = none-added;
+      next-added = next-added;
       added = λ q f facts below M. (model-added q f facts below M, λ m. added-model q f facts below M (m .0) (m .1));
       choice-fits = choice-fits;
       no-fact = no-fact;

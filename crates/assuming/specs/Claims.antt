@@ -2,7 +2,7 @@
 -- `assumedOf`, `firstLeft`, `secondLeft`, `workLeft` and `rulesLeft` of `relevancyRuns` and `magicRuns`. `proofs/Theorems.antt` proves `Theorems`.
 use Prim.Native.Nat.{ℕ, _+_, _≤_, _<_, min}
 use mathlib.Core.Bool.{Bool, true, false}
-use mathlib.Core.List.{List, [], _∷_}
+use mathlib.Core.List.{List, [], _∷_, _++_}
 use mathlib.Core.Logic.{_↔_, _⊎_}
 use mathlib.Core.Path.{_≡_}
 use lib.ListN.{length, take, replicate}
@@ -12,6 +12,7 @@ use Rattle.search.specs.Ground.{Model, Marked, Found}
 use Rattle.search.specs.Machine.{Place, Outcome, Refuted, outcome, FullWalk}
 use Rattle.search.specs.Relevancy.{findR}
 use Rattle.problem.specs.Problem.{Problem, Fits, atomCount, limitOf}
+use Rattle.problem.specs.Extended.{withClause}
 use Rattle.problem.specs.Layout.{problemIn}
 use Rattle.problem.specs.Table.{Valid}
 use Rattle.ground.specs.declared.verdict.Verdict.the-variants.{Refused as IsRefused}
@@ -19,14 +20,14 @@ use Rattle.ground.specs.Instance.{Instance, groundAtoms, groundOf}
 use Rattle.ground.specs.Verdict.{verdictOf, answerOf}
 use Rattle.judging.specs.Demand2.{Demand2}
 use Rattle.relevancy.specs.Claims.{Taken}
-use Rattle.relevancy.specs.Engine.{fitResult}
+use Rattle.relevancy.specs.Engine.{fitResult, fitWork}
 use Rattle.rewriting.specs.Facts.{findIn}
 use Rattle.rewriting.specs.Rewrite.{rulesOver}
 use Rattle.magic.specs.Claims.{MagicTaken}
-use Rattle.magic.specs.Engine.{magicResult}
+use Rattle.magic.specs.Engine.{magicResult, magicWork}
 use Rattle.assuming.specs.declared.assume.Assumed.{Assumed}
 use Rattle.assuming.specs.declared.assume.Assumed.the-variants.{Always, Sometimes, Never, Exhausted}
-use Rattle.assuming.specs.Assume.{factClause, assuming, assumedTable, picked, Runs, declined, runs, assumedOf, firstLeft, secondLeft}
+use Rattle.assuming.specs.Assume.{factClause, assuming, assumedTable, picked, Runs, declined, runs, assumedOf, firstLeft, secondLeft, workLeft}
 use Rattle.assuming.specs.Engines.{relevancyRuns, magicRuns, rulesLeft}
 
 -- the problem in a lent table
@@ -90,6 +91,12 @@ pub record TwoRuns (find findAll : List ℕ → Found Instance) (tb facts : List
       → secondLeft r held ≡ min (limitOf ((problemLent tb) .limit)) (length fs)
   pub not-made : (n : ℕ) → alone ≡ Refuted n → (held : ℕ) → secondLeft r held ≡ 0
 
+-- a refusal leaves the lent numbers and the work as they were
+pub record RefusalKeeps (r : Runs) : Type 0 where
+  pub first : (e : ℕ) → r ≡ declined e → (held : ℕ) → firstLeft r held ≡ held
+  pub second : (e : ℕ) → r ≡ declined e → (held : ℕ) → secondLeft r held ≡ held
+  pub work : (e : ℕ) → r ≡ declined e → (bytes : List ℕ) → workLeft r bytes ≡ bytes
+
 -- a call by the relevancy engine
 pub record ByRelevancy (tb facts answer work : List ℕ) : Type 1 where
   -- every call is taken or refused: as a first run is, by 11 or 31; then by 5, then by 45
@@ -100,6 +107,9 @@ pub record ByRelevancy (tb facts answer work : List ℕ) : Type 1 where
   pub refused-45 : Taken tb answer work → length ((problemLent tb) .clauses) + length facts ≤ 64 → (Assumable (problemLent tb) facts → ⊥) → relevancyRuns tb facts answer work ≡ declined 45
   pub two-runs : Taken tb answer work → Assumable (problemLent tb) facts
       → TwoRuns (findR (groundOf (problemLent tb))) (findR (groundOf (assuming (problemLent tb) facts))) tb facts (relevancyRuns tb facts answer work)
+  pub refused-kept : RefusalKeeps (relevancyRuns tb facts answer work)
+  -- "Work bytes are zero afterwards", as after an engine's own run
+  pub work-left : Taken tb answer work → Assumable (problemLent tb) facts → workLeft (relevancyRuns tb facts answer work) work ≡ fitWork tb answer work
 
 -- a call by the magic engine; each of its runs is by the rules that are in the rules buffer then
 pub record ByMagic (tb facts rules answer work : List ℕ) : Type 1 where
@@ -112,14 +122,19 @@ pub record ByMagic (tb facts rules answer work : List ℕ) : Type 1 where
   pub two-runs : MagicTaken tb rules answer work → Assumable (problemLent tb) facts
       → TwoRuns (findIn (rulesOver (take 4096 tb) (take 16384 rules))) (findIn (rulesOver (assumedTable (take 4096 tb) facts) (take 16384 rules))) tb facts
       (magicRuns tb facts rules answer work)
+  pub refused-kept : RefusalKeeps (magicRuns tb facts rules answer work)
   -- a refusal leaves the rules as they were too
-  pub refused-kept : (e : ℕ) → rulesLeft (declined e) tb facts rules ≡ rules
+  pub refused-rules : (e : ℕ) → rulesLeft (declined e) tb facts rules ≡ rules
+  pub work-left : MagicTaken tb rules answer work → Assumable (problemLent tb) facts → workLeft (magicRuns tb facts rules answer work) work ≡ magicWork tb rules answer work
 
 -- ---- all of it
 
 pub record Theorems : Type 1 where
   -- the clause of a fact gives the atom that has the fact's number
   pub fact-is : (q : Problem) → Fits q → (a : ℕ) → a < atomCount (q .constants) (q .arities) → (values : List ℕ) → groundAtoms q values ((factClause q a) .alts) ≡ a ∷ []
+  -- "in the lent order", after the ticket's clauses: each fact's clause comes next
+  pub none-added : (q : Problem) → assuming q [] ≡ q
+  pub next-added : (q : Problem) (facts : List ℕ) (a : ℕ) → assuming q (facts ++ (a ∷ [])) ≡ withClause (assuming q facts) (factClause q a)
   -- so the models of a problem with facts are its models that hold them
   pub added : (q : Problem) → Fits q → (facts : List ℕ) → All (λ a. a < atomCount (q .constants) (q .arities)) facts → (M : ℕ → Type 0)
       → Model (groundOf (assuming q facts)) M ↔ (Model (groundOf q) M × All (λ a. ∥ M a ∥₁) facts)
