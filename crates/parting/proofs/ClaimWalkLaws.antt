@@ -76,7 +76,7 @@ module _ (p : Problem) (f : Fits p) where
   holds-is : (l : List ℕ) (x : Magic Instance) → holds instanceKey (falseIn (rulesLayout p)) (magicIn (rulesLayout p)) l x ≡ holds instanceKey ((groundOf p) .atoms) (rewriting (groundOf p)) l x
   holds-is l x = ap (λ (r : List ℕ). holds instanceKey (falseIn r) (magicIn r) l x) (sym (append-nil (rulesLayout p))) ∙ holds-by p f [] l x
 
-  trails : trail (findBy true p) (limitOf (p .limit)) ≡ trail (findBy false p) (limitOf (p .limit))
+  trails : trail (findIn (rulesLayout p)) (limitOf (p .limit)) ≡ trail (findR (groundOf p)) (limitOf (p .limit))
   trails = ap (λ (g : List ℕ → Found Instance). trail g L) find-is ∙ one .trails
 
   pub outcomes : runBy true p ≡ runBy false p
@@ -95,7 +95,8 @@ module _ (p : Problem) (f : Fits p) where
   walked =
       record {
         fits = f;
-        demand-2 = demand-2;
+        demand-2 = demand-2 false;
+        magic-demand-2 = demand-2 true;
         trails = trails;
         facts =
             all-map (λ s. (x : ℕ) → SameAt instanceKey (groundOf p) s x) (λ s. (x : ℕ) → SameFacts (layout p) (rulesLayout p) s x) facts-at

@@ -29,7 +29,7 @@ use Rattle.parting.proofs.ClaimTakenLaws.{taken-or-refused, magic-taken
 use Rattle.parting.proofs.ListedLaws.{parts-listed}
 use Rattle.parting.proofs.CountedLaws.{said-by-all, counted}
 use Rattle.parting.proofs.JoinedLaws.{bits-joined, run-whole}
-use Rattle.parting.proofs.ToldLaws.{run-by-engines, relevancy-tells, magic-tells, refusal-keeps}
+use Rattle.parting.proofs.ToldLaws.{run-by-engines, relevancy-tells, magic-tells, refusal-keeps, refused-alike, magic-refused-alike}
 
 parts-are : (q : Problem) → Fits q → PartsAre q
 parts-are q f =
@@ -78,6 +78,8 @@ theorems =
       magic-right = magic-right;
       taken-or-refused = taken-or-refused;
       magic-taken-or-refused = magic-taken-or-refused;
+      refused-alike = refused-alike;
+      magic-refused-alike = magic-refused-alike;
       engines-agree = engines-agree;
       parts-listed = parts-listed;
       said-by-all = said-by-all;

@@ -2,18 +2,21 @@
 use Prim.Native.Nat.{ℕ}
 use mathlib.Core.Bool.{Bool, true, false, cond}
 use mathlib.Core.List.{List}
+use mathlib.Core.Logic.{_↔_}
 use mathlib.Core.Path.{_≡_, refl, sym, ap, subst, _∙_}
 use native.Mathlib.Omega.{arith}
 use lib.ListN.{take}
 use Rattle.lists.specs.Member.{every}
 use Rattle.lists.proofs.Test.{T-true}
-use Rattle.search.specs.Machine.{Outcome}
+use Rattle.search.specs.Machine.{Outcome, Satisfied, Refuted, Exhausted}
 use Rattle.problem.specs.Problem.{Problem}
 use Rattle.problem.specs.Layout.{problemIn}
 use Rattle.problem.specs.Table.{Valid, isValid}
 use Rattle.problem.proofs.Theorems.{theorems as tables}
-use Rattle.ground.specs.Verdict.{verdictOf, answerOf}
-use Rattle.relevancy.specs.Engine.{tooShort, fitResult, fitAnswer}
+use Rattle.ground.specs.declared.verdict.Verdict.{Verdict}
+use Rattle.ground.specs.declared.verdict.Verdict.the-variants as verdict
+use Rattle.ground.specs.Verdict.{verdictOf, answerOf, verdictNumbers}
+use Rattle.relevancy.specs.Engine.{outcomeIn, tooShort, fitResult, fitAnswer}
 use Rattle.relevancy.specs.Claims.{Taken}
 use Rattle.relevancy.proofs.EngineLaws as relevancy
 use Rattle.relevancy.proofs.Theorems.{verdict-is, answer-is}
@@ -22,7 +25,7 @@ use Rattle.magic.specs.Claims.{MagicTaken}
 use Rattle.magic.proofs.EngineLaws as magic
 use Rattle.parting.specs.declared.parts.Parting.{Parting}
 use Rattle.parting.specs.declared.parts.Parting.the-variants as parting
-use Rattle.parting.specs.Runs.{runBy, runsOf, saidBy, sumOf, joinedBits, answerBy, partsResult, partsCount, partsAnswer}
+use Rattle.parting.specs.Runs.{runBy, runsOf, saidBy, sumOf, joinedBits, answerBy, partingNumbers, partsResult, partsCount, partsAnswer}
 use Rattle.parting.specs.Listed.{Counted, RunByEngines, CallTells, RefusalKeeps}
 use Rattle.parting.proofs.TallyLaws.{notRefuted, notExhausted}
 use Rattle.parting.proofs.TurnLaws.{magic-run}
@@ -106,6 +109,33 @@ refused-keeps by false tb e h = go (isValid (take 4096 tb)) h
 
 pub refusal-keeps : (by short : Bool) (tb : List ℕ) → RefusalKeeps by short tb
 refusal-keeps by short tb = record { count = λ e h. refused-keeps by short tb e h .0; answer = λ e h. refused-keeps by short tb e h .1 }
+
+-- a walk refuses nothing either
+never-declined : (o : Outcome) (e : ℕ) → verdictOf o ≡ verdict.Refused e → ⊥
+never-declined (Satisfied n bits) e h = let z : _≡_ {A = ℕ} 0 1 = cc in omega arith
+never-declined (Refuted n) e h = let z : _≡_ {A = ℕ} 0 1 = cc in omega arith
+never-declined (Exhausted n) e h = let z : _≡_ {A = ℕ} 0 1 = cc in omega arith
+
+-- so a call by parts and an engine's own run are refused alike: by a buffer too short, by a table that is not valid
+alike : (short v b d : Bool) (o : Outcome) (e : ℕ)
+    → (_≡_ {A = Parting} (cond short (parting.Refused 11) (cond v (saidAs b d) (parting.Refused 31))) (parting.Refused e))
+    ↔ (_≡_ {A = Verdict} (cond short (verdict.Refused 11) (cond v (verdictOf o) (verdict.Refused 31))) (verdict.Refused e))
+alike true v b d o e = (λ s. ap verdict.Refused (ap (λ (r : Parting). (partingNumbers r) .refusal) s), λ s. ap parting.Refused (ap (λ (r : Verdict). (verdictNumbers r) .refusal) s))
+alike false false b d o e = (λ s. ap verdict.Refused (ap (λ (r : Parting). (partingNumbers r) .refusal) s), λ s. ap parting.Refused (ap (λ (r : Verdict). (verdictNumbers r) .refusal) s))
+alike false true b d o e = (λ s. absurd (never-refused b d e s), λ s. absurd (never-declined o e s))
+
+pub refused-alike : (tb answer work : List ℕ) (e : ℕ) → (partsResult false (tooShort tb answer work) tb ≡ parting.Refused e) ↔ (fitResult tb answer work ≡ verdict.Refused e)
+unfolding partsResult fitResult
+refused-alike tb answer work e =
+    let runs = runsOf false (problemIn (take 4096 tb)) in
+    alike (tooShort tb answer work) (isValid (take 4096 tb)) (every notRefuted runs) (every notExhausted runs) (outcomeIn (take 4096 tb)) e
+
+pub magic-refused-alike : (tb rules answer work : List ℕ) (e : ℕ)
+    → (partsResult true (magicTooShort tb rules answer work) tb ≡ parting.Refused e) ↔ (magicResult tb rules answer work ≡ verdict.Refused e)
+unfolding partsResult magicResult
+magic-refused-alike tb rules answer work e =
+    let runs = runsOf true (problemIn (take 4096 tb)) in
+    alike (magicTooShort tb rules answer work) (isValid (take 4096 tb)) (every notRefuted runs) (every notExhausted runs) (magicOutcome (take 4096 tb) (take 16384 rules)) e
 
 -- ---- a run
 

@@ -12,24 +12,26 @@ use Rattle.lists.specs.Key.{natKey}
 use Rattle.lists.specs.Member.{All, Any, In}
 use Rattle.search.specs.Ground.{Model}
 use Rattle.search.specs.Machine.{trail}
+use Rattle.search.specs.Relevancy.{findR}
 use Rattle.problem.specs.Problem.{Problem, Fits, limitOf}
 use Rattle.problem.specs.Layout.{layout, problemIn}
-use Rattle.ground.specs.declared.verdict.Verdict.the-variants.{Satisfied as IsSatisfied}
+use Rattle.ground.specs.declared.verdict.Verdict.the-variants.{Satisfied as IsSatisfied, Refused as IsRefused}
 use Rattle.ground.specs.Instance.{clauseOf, groundOf}
 use Rattle.ground.specs.Verdict.{verdictOf, answerOf}
 use Rattle.judging.specs.declared.judge.Judging.the-variants.{Model as IsModel}
 use Rattle.judging.specs.ModelCheck.{judgeResult}
 use Rattle.judging.specs.Demand2.{groundLent, Demand2}
-use Rattle.relevancy.specs.Engine.{tooShort}
+use Rattle.relevancy.specs.Engine.{tooShort, fitResult}
 use Rattle.relevancy.specs.Claims.{Taken}
+use Rattle.rewriting.specs.Facts.{findIn}
 use Rattle.rewriting.specs.RulesLayout.{rulesLayout}
-use Rattle.magic.specs.Engine.{magicTooShort}
+use Rattle.magic.specs.Engine.{magicTooShort, magicResult}
 use Rattle.magic.specs.Claims.{MagicTaken}
 use Rattle.agreement.specs.Claims.{BothTaken, SameFacts}
 use Rattle.parting.specs.declared.parts.Parting.{Parting}
 use Rattle.parting.specs.declared.parts.Parting.the-variants as parting
 use Rattle.parting.specs.Parts.{predicatesOf, Together, family, touches, withClauses, partOf, isLowest, isBare, partsOf}
-use Rattle.parting.specs.Runs.{findBy, isRefuted, isExhausted, runBy, runsOf, saidBy, sumOf, predicateAt, partsResult, partsCount, partsAnswer}
+use Rattle.parting.specs.Runs.{isRefuted, isExhausted, runBy, runsOf, saidBy, sumOf, predicateAt, partsResult, partsCount, partsAnswer}
 use Rattle.parting.specs.Listed.{PartsListed, SaidByAll, Counted, RunByEngines, BitsJoined, RunWhole, CallTells, RefusalKeeps}
 
 -- ---- what a part is
@@ -79,11 +81,13 @@ pub record PartWalked (p : Problem) : Type 1 where
   -- it is a problem by itself
   pub fits : Fits p
   -- each engine's verdict of it is right by the logic, spent and count are those of the engine's own walk of it
-  pub demand-2 : (magic : Bool) (answer : List ℕ) → 1024 ≤ length answer
-      → Demand2 (findBy magic p) (groundOf p) (limitOf (p .limit)) (layout p) (verdictOf (runBy magic p)) (answerOf (runBy magic p) answer)
+  pub demand-2 : (answer : List ℕ) → 1024 ≤ length answer
+      → Demand2 (findR (groundOf p)) (groundOf p) (limitOf (p .limit)) (layout p) (verdictOf (runBy false p)) (answerOf (runBy false p) answer)
+  pub magic-demand-2 : (answer : List ℕ) → 1024 ≤ length answer
+      → Demand2 (findIn (rulesLayout p)) (groundOf p) (limitOf (p .limit)) (layout p) (verdictOf (runBy true p)) (answerOf (runBy true p) answer)
   -- the two whole trails are one, at every place the facts agree, and so do verdict, count and model
-  pub trails : trail (findBy true p) (limitOf (p .limit)) ≡ trail (findBy false p) (limitOf (p .limit))
-  pub facts : All (λ s. (x : ℕ) → SameFacts (layout p) (rulesLayout p) s x) (trail (findBy false p) (limitOf (p .limit)))
+  pub trails : trail (findIn (rulesLayout p)) (limitOf (p .limit)) ≡ trail (findR (groundOf p)) (limitOf (p .limit))
+  pub facts : All (λ s. (x : ℕ) → SameFacts (layout p) (rulesLayout p) s x) (trail (findR (groundOf p)) (limitOf (p .limit)))
   pub outcomes : runBy true p ≡ runBy false p
 
 -- ---- what the runs say
@@ -124,6 +128,10 @@ pub record Theorems : Type 1 where
   pub magic-taken-or-refused : (tb rules answer work : List ℕ)
       → MagicTaken tb rules answer work ⊎ (partsResult true (magicTooShort tb rules answer work) tb ≡ parting.Refused 11)
       ⊎ (partsResult true (magicTooShort tb rules answer work) tb ≡ parting.Refused 31)
+  -- "refusals 11 and 31 as in a first run": just where the engine's own run is refused, and by the same number
+  pub refused-alike : (tb answer work : List ℕ) (e : ℕ) → (partsResult false (tooShort tb answer work) tb ≡ parting.Refused e) ↔ (fitResult tb answer work ≡ IsRefused e)
+  pub magic-refused-alike : (tb rules answer work : List ℕ) (e : ℕ)
+      → (partsResult true (magicTooShort tb rules answer work) tb ≡ parting.Refused e) ↔ (magicResult tb rules answer work ≡ IsRefused e)
   pub engines-agree : (tb rules answer work₁ work₂ : List ℕ) → BothTaken tb rules answer work₁ work₂ → SameParts tb (tooShort tb answer work₁) (magicTooShort tb rules answer work₂)
   -- one list of parts, one sum and one joined answer
   pub parts-listed : (q : Problem) → PartsListed q
