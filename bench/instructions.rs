@@ -27,7 +27,7 @@ const COUNT: usize = 13;
 const RATIO: usize = 10;
 
 /// What K1 took before issue 20, by each of the library's engines.
-const K1_BEFORE: [f64; 2] = [122_294.0, 175_890.0];
+const K1_BEFORE: [f64; 2] = [32_318.0, 36_549.0];
 
 fn main() -> ExitCode {
     let options = Options::read(&["--seed", "--save", "--against", "--program", "--input"]);
