@@ -102,8 +102,8 @@ module _ (q : Problem) (facts : List ℕ) where
         never = λ n. (λ e. some, λ h. refl);
       }
 
-  spent-means : Meaning q facts assumed.Exhausted
-  spent-means = record { always = λ n. absurd (n refl); sometimes = λ n. absurd (n refl); never = λ n. absurd (n refl) }
+  exhausted-means : Meaning q facts assumed.Exhausted
+  exhausted-means = record { always = λ n. absurd (n refl); sometimes = λ n. absurd (n refl); never = λ n. absurd (n refl) }
 
 -- ---- two runs
 
@@ -152,10 +152,10 @@ module _ (q : Problem) (f : Fits q) (facts : List ℕ) (asks : Assumable q facts
     where
       go : (o : Outcome) → outcome find limit ≡ o → (p : Outcome) → outcome findAll limit ≡ p → Meaning q facts (assumedOf (runs o p))
       go (Refuted n) e p d = always-means q facts (none-each (refuted-none n e))
-      go (Exhausted n) e p d = spent-means q facts
+      go (Exhausted n) e p d = exhausted-means q facts
       go (Satisfied n bits) e (Refuted m) d = sometimes-means q facts (none-some (all-none m d)) (some-some (satisfied-some n bits e))
       go (Satisfied n bits) e (Satisfied m more) d = never-means q facts (some-each (all-some m more d))
-      go (Satisfied n bits) e (Exhausted m) d = spent-means q facts
+      go (Satisfied n bits) e (Exhausted m) d = exhausted-means q facts
 
   -- ---- spent, and the counts, by the walks without a limit
 
@@ -184,12 +184,12 @@ module _ (q : Problem) (f : Fits q) (facts : List ℕ) (asks : Assumable q facts
       two-settled : (n : ℕ) → (verdictOf (outcome findAll limit) ≡ verdict.Satisfied n) ⊎ (verdictOf (outcome findAll limit) ≡ verdict.Refuted n) → (length fs ≤ L) × (n ≡ length fs)
       two-settled n e = second .demand-2 room long .settled fs walk n .0 e
 
-    abbrev Spent : List (Place Instance) → List (Place Instance) → Type 0
-    Spent es fs = (L < length es) ⊎ (HasModel q × (L < length fs))
+    abbrev Exhausts : List (Place Instance) → List (Place Instance) → Type 0
+    Exhausts es fs = (L < length es) ⊎ (HasModel q × (L < length fs))
 
-    pub spent : (es fs : List (Place Instance)) → FullWalk find es → FullWalk findAll fs
-        → (assumedOf (runs (outcome find limit) (outcome findAll limit)) ≡ assumed.Exhausted) ↔ Spent es fs
-    spent es fs w v = go (outcome find limit) refl (outcome findAll limit) refl
+    pub exhausted-when : (es fs : List (Place Instance)) → FullWalk find es → FullWalk findAll fs
+        → (assumedOf (runs (outcome find limit) (outcome findAll limit)) ≡ assumed.Exhausted) ↔ Exhausts es fs
+    exhausted-when es fs w v = go (outcome find limit) refl (outcome findAll limit) refl
       where
         not-one : (n : ℕ) → (verdictOf (outcome find limit) ≡ verdict.Satisfied n) ⊎ (verdictOf (outcome find limit) ≡ verdict.Refuted n) → L < length es → ⊥
         not-one n s l = let within : length es ≤ L = one-settled es w n s .0 in absurd (omega arith)
@@ -197,7 +197,7 @@ module _ (q : Problem) (f : Fits q) (facts : List ℕ) (asks : Assumable q facts
         not-two : (n : ℕ) → (verdictOf (outcome findAll limit) ≡ verdict.Satisfied n) ⊎ (verdictOf (outcome findAll limit) ≡ verdict.Refuted n) → L < length fs → ⊥
         not-two n s l = let within : length fs ≤ L = two-settled fs v n s .0 in absurd (omega arith)
 
-        go : (o : Outcome) → outcome find limit ≡ o → (p : Outcome) → outcome findAll limit ≡ p → (assumedOf (runs o p) ≡ assumed.Exhausted) ↔ Spent es fs
+        go : (o : Outcome) → outcome find limit ≡ o → (p : Outcome) → outcome findAll limit ≡ p → (assumedOf (runs o p) ≡ assumed.Exhausted) ↔ Exhausts es fs
         go (Refuted n) e p d =
             (λ s. absurd (omega (arith, ap numbered s)), λ h. absurd (elim h [ inl l ↦ not-one n (inr (ap verdictOf e)) l | inr s ↦ clash q (refuted-none n e) (s .0) ]))
         go (Exhausted n) e p d = (λ s. inl (one-exhausted es w n e .0), λ h. refl)
@@ -211,8 +211,8 @@ module _ (q : Problem) (f : Fits q) (facts : List ℕ) (asks : Assumable q facts
     settled-count : (n k : ℕ) → (k ≤ L) × (n ≡ k) → n ≡ min L k
     settled-count n k h = h .1 ∙ sym (min-eq-right (h .0))
 
-    spent-count : (n k : ℕ) → (L < k) × (n ≡ L) → n ≡ min L k
-    spent-count n k h = h .1 ∙ sym (min-eq-left (le-of-lt (h .0)))
+    exhausted-count : (n k : ℕ) → (L < k) × (n ≡ L) → n ≡ min L k
+    exhausted-count n k h = h .1 ∙ sym (min-eq-left (le-of-lt (h .0)))
 
     pub first-counted : (es : List (Place Instance)) → FullWalk find es → (held : ℕ) → firstLeft (runs (outcome find limit) (outcome findAll limit)) held ≡ min L (length es)
     first-counted es w held = go (outcome find limit) refl
@@ -220,7 +220,7 @@ module _ (q : Problem) (f : Fits q) (facts : List ℕ) (asks : Assumable q facts
         go : (o : Outcome) → outcome find limit ≡ o → firstLeft (runs o (outcome findAll limit)) held ≡ min L (length es)
         go (Refuted n) e = settled-count n (length es) (one-settled es w n (inr (ap verdictOf e)))
         go (Satisfied n bits) e = settled-count n (length es) (one-settled es w n (inl (ap verdictOf e)))
-        go (Exhausted n) e = spent-count n (length es) (one-exhausted es w n e)
+        go (Exhausted n) e = exhausted-count n (length es) (one-exhausted es w n e)
 
     pub second-counted : (fs : List (Place Instance)) → FullWalk findAll fs → ((n : ℕ) → outcome find limit ≡ Refuted n → ⊥) → (held : ℕ)
         → secondLeft (runs (outcome find limit) (outcome findAll limit)) held ≡ min L (length fs)
@@ -229,7 +229,7 @@ module _ (q : Problem) (f : Fits q) (facts : List ℕ) (asks : Assumable q facts
         told : (p : Outcome) → outcome findAll limit ≡ p → countOf p ≡ min L (length fs)
         told (Refuted n) e = settled-count n (length fs) (two-settled fs v n (inr (ap verdictOf e)))
         told (Satisfied n bits) e = settled-count n (length fs) (two-settled fs v n (inl (ap verdictOf e)))
-        told (Exhausted n) e = spent-count n (length fs) (two-exhausted fs v n e)
+        told (Exhausted n) e = exhausted-count n (length fs) (two-exhausted fs v n e)
 
         go : (o : Outcome) → outcome find limit ≡ o → secondLeft (runs o (outcome findAll limit)) held ≡ min L (length fs)
         go (Refuted n) e = absurd (unclosed n e)

@@ -48,7 +48,7 @@ use Rattle.assuming.specs.Engines.{relevancyRuns, magicRuns}
 use Rattle.assuming.specs.Claims.{problemLent, Assumable, Ran, TwoRuns, RefusalKeeps, ByRelevancy, ByMagic, Theorems}
 use Rattle.assuming.proofs.FactLaws.{assuming-fits}
 use Rattle.assuming.proofs.ModelLaws.{fact-is, added-model, model-added}
-use Rattle.assuming.proofs.MeaningLaws.{all-picked, none-added, next-added, no-fact, choice-fits, means, spent, first-counted, second-counted, not-made}
+use Rattle.assuming.proofs.MeaningLaws.{all-picked, none-added, next-added, no-fact, choice-fits, means, exhausted-when, first-counted, second-counted, not-made}
 
 -- a refusal's number, and that a verdict is one
 abbrev refusalIn : Verdict → ℕ
@@ -235,7 +235,7 @@ module _ (tb facts : List ℕ) (long : 4096 ≤ length tb) (valid : Valid (take 
           first = first-ran;
           second = second-ran;
           meaning = means q fits facts asks find findAll sound sound-all L;
-          exhausted = spent q fits facts asks find findAll sound sound-all L tb longer first-ran second-ran refl;
+          exhausted = exhausted-when q fits facts asks find findAll sound sound-all L tb longer first-ran second-ran refl;
           first-count = first-counted q fits facts asks find findAll sound sound-all L tb longer first-ran second-ran refl;
           second-count = second-counted q fits facts asks find findAll sound sound-all L tb longer first-ran second-ran refl;
           not-made = not-made o p;

@@ -62,14 +62,14 @@ ran-relevancy magic e tb = relevancy-run tb ∙ ap (λ (b : Bool). runBy b (prob
 -- ---- one run more is counted
 
 module _ (verdict count : ℕ) (v : Verdict) (n : ℕ) (small : n < 4294967296) where
-  pub counted-fits : v ≡ IsSatisfied n → Counting verdict count v verdict (count + n)
-  counted-fits e = subst (λ (w : Verdict). Counting verdict count w verdict (count + n)) (sym e) (record { said-is = refl; sum-is = refl; small = omega (arith, small) })
+  pub counted-satisfied : v ≡ IsSatisfied n → Counting verdict count v verdict (count + n)
+  counted-satisfied e = subst (λ (w : Verdict). Counting verdict count w verdict (count + n)) (sym e) (record { said-is = refl; sum-is = refl; small = omega (arith, small) })
 
-  pub counted-none : v ≡ IsRefuted n → Counting verdict count v 0 (count + n)
-  counted-none e = subst (λ (w : Verdict). Counting verdict count w 0 (count + n)) (sym e) (record { said-is = refl; sum-is = refl; small = omega (arith, small) })
+  pub counted-refuted : v ≡ IsRefuted n → Counting verdict count v 0 (count + n)
+  counted-refuted e = subst (λ (w : Verdict). Counting verdict count w 0 (count + n)) (sym e) (record { said-is = refl; sum-is = refl; small = omega (arith, small) })
 
-  pub counted-spent : v ≡ IsExhausted n → Counting verdict count v 2 (count + n)
-  counted-spent e = subst (λ (w : Verdict). Counting verdict count w 2 (count + n)) (sym e) (record { said-is = refl; sum-is = refl; small = omega (arith, small) })
+  pub counted-exhausted : v ≡ IsExhausted n → Counting verdict count v 2 (count + n)
+  counted-exhausted e = subst (λ (w : Verdict). Counting verdict count w 2 (count + n)) (sym e) (record { said-is = refl; sum-is = refl; small = omega (arith, small) })
 
 -- a refusal, which no run gives, counts nothing
 pub counted-refused : (verdict count : ℕ) (v : Verdict) (e : ℕ) → v ≡ Refused e → Counting verdict count v verdict count
