@@ -1,6 +1,7 @@
 pub mod Instances
 pub mod Order
 pub mod AtomLaws
+pub mod ClauseLaws
 pub mod Sides
 pub mod Headings
 pub mod BranchLaws

@@ -14,16 +14,17 @@ use Rattle.lists.proofs.Member.{all-map, all-zip, all-mapped, mapped-all, appen
 use Rattle.search.specs.Ground.{Model}
 use Rattle.problem.specs.Problem.{Atom, Clause, Problem, AtomFits, ClauseFits, Fits}
 use Rattle.ground.specs.Instance.{GroundAtom, valueOf, number, noClause, clauseOf, groundOf}
+use Rattle.ground.proofs.ClauseLaws.{all-places, ClauseKept, model-clauses, clauses-model}
 use Rattle.ground.proofs.Instances.{values-below}
 use Rattle.parting.specs.Parts.{predicatesOf, family, touches, withClauses, partOf, isLowest, isBare, partsOf}
 use Rattle.parting.specs.Runs.{predicateAt}
 use Rattle.parting.specs.Claims.{Has, Within, ModelsJoin}
-use Rattle.parting.proofs.FamilyLaws.{all-places, touched, family-step, part-same}
+use Rattle.parting.proofs.FamilyLaws.{touched, family-step, part-same}
 use Rattle.parting.proofs.MarkLaws.{predicate-is}
 use Rattle.parting.proofs.ClaimOnlyLaws.{only-all, all-only}
 use Rattle.parting.proofs.ClaimEachLaws.{parts-each, bare-part, named-part}
 use Rattle.parting.proofs.ClaimPlaceLaws.{placed}
-use Rattle.parting.proofs.ClaimKeptLaws.{ClauseKept, model-clauses, clauses-model, Agree, Agreed, kept-same}
+use Rattle.parting.proofs.ClaimKeptLaws.{Agree, Agreed, kept-same}
 
 -- ---- a model of the whole
 

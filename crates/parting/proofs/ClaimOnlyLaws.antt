@@ -1,16 +1,13 @@
 -- What holds of the members that pass a test, and what they weigh.
-use Prim.Native.Nat.{ℕ, _+_, _≤_, _<_}
+use Prim.Native.Nat.{ℕ, _+_, _≤_}
 use mathlib.Core.Bool.{Bool, true, false, cond}
 use mathlib.Core.List.{List, [], _∷_}
 use mathlib.Core.Logic.{inl, inr}
-use mathlib.Core.Path.{_≡_, refl, subst}
+use mathlib.Core.Path.{_≡_, refl}
 use native.Mathlib.Omega.{arith}
 use lib.Dec.{T}
 use lib.ListN.{length}
 use Rattle.lists.specs.Member.{All, Any}
-use Rattle.lists.specs.Tabulate.{tabulate}
-use Rattle.lists.proofs.Bytes.{all-at}
-use Rattle.lists.proofs.Tabulate.{tabulate-length, tabulate-at}
 use Rattle.problem.specs.Problem.{Clause, weight, weights}
 use Rattle.parting.specs.Parts.{only}
 
@@ -65,7 +62,3 @@ only-weigh c t (k ∷ ks) = go (t k) (only-weigh c t ks)
     go : (b : Bool) → weights c (only t ks) ≤ weights c ks → weights c (cond b (k ∷ only t ks) (only t ks)) ≤ weight c k + weights c ks
     go true h = omega arith
     go false h = omega arith
-
--- what holds of all of a table's places holds of each
-pub tabulate-all {ℓ} : {A : Type 0} (P : A → Type ℓ) (f : ℕ → A) (n : ℕ) → All P (tabulate f n) → (i : ℕ) → i < n → P (f i)
-tabulate-all P f n a i h = subst P (tabulate-at f (f i) n i h) (all-at P (tabulate f n) (f i) i (omega (arith, tabulate-length f n)) a)

@@ -1,10 +1,9 @@
 -- Both engines say and leave the same, since each part's outcomes are.
 use Prim.Native.Nat.{ℕ}
 use mathlib.Core.Bool.{Bool, true, false}
-use mathlib.Core.List.{List, [], _∷_, map}
-use mathlib.Core.Path.{_≡_, refl, ap, ap₂}
+use mathlib.Core.List.{List}
+use mathlib.Core.Path.{_≡_, ap, ap₂}
 use lib.ListN.{take, getD}
-use Rattle.lists.specs.Member.{All}
 use Rattle.lists.proofs.Member.{all-map}
 use Rattle.lists.proofs.Tabulate.{tabulate-same}
 use Rattle.lists.proofs.Test.{T-true}
@@ -13,15 +12,12 @@ use Rattle.problem.specs.Problem.{Problem, Fits, atomCount}
 use Rattle.problem.specs.Layout.{problemIn}
 use Rattle.problem.specs.Table.{Valid, isValid}
 use Rattle.problem.proofs.Theorems.{theorems as tables}
+use Rattle.ground.proofs.AtomLaws.{map-same}
 use Rattle.parting.specs.Parts.{partOf, partsOf}
 use Rattle.parting.specs.Runs.{runBy, upToRefuted, runsOf, saidBy, sumOf, bitsOf, predicateAt, joinedBits, answerBy, partsResult, partsCount, partsAnswer}
 use Rattle.parting.specs.Claims.{SameParts}
 use Rattle.parting.proofs.ClaimFitLaws.{part-fits, parts-fit}
 use Rattle.parting.proofs.ClaimWalkLaws.{outcomes}
-
-map-same : {A B : Type 0} (f g : A → B) (xs : List A) → All (λ x. f x ≡ g x) xs → map f xs ≡ map g xs
-map-same f g [] a = refl
-map-same f g (x ∷ xs) a = rw (a .0, map-same f g xs (a .1))
 
 module _ (q : Problem) (f : Fits q) where
   runs-same : runsOf true q ≡ runsOf false q

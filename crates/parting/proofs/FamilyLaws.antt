@@ -1,30 +1,26 @@
 -- Families of predicates: they are classes, of predicates that stand in clauses that belong together.
 use Prim.Native.Nat.{ℕ, zero, suc, _≤_, _<_}
-use mathlib.Core.Bool.{Bool, true, false, _||_}
+use mathlib.Core.Bool.{Bool, _||_}
 use mathlib.Core.List.{List, [], _∷_, _++_, map, flatMap}
 use mathlib.Core.Logic.{_↔_, _⊎_, inl, inr}
-use mathlib.Core.Path.{_≡_, refl, sym, ap, subst, _∙_}
+use mathlib.Core.Path.{_≡_, refl, sym, ap, subst}
 use native.Mathlib.Omega.{arith}
 use lib.Dec.{T, leb, le→leb, leb→le}
 use lib.ListN.{length, getD}
 use Rattle.lists.specs.Key.{natKey}
-use Rattle.lists.specs.Member.{All, Any, In, has, every}
+use Rattle.lists.specs.Member.{All, Any, In, has}
 use Rattle.lists.proofs.Bytes.{all-at}
 use Rattle.lists.proofs.Member.{all-map, all-flat, flat-all, all-mapped, mapped-all, all-has, has-all, has-here, has-there, has-cases, every-all, all-every}
-use Rattle.lists.proofs.Test.{or-left, or-right, T-or, same-test, lt-or-le}
+use Rattle.lists.proofs.Test.{or-left, or-right, T-or, same-test}
 use Rattle.search.specs.Closure.{Rule, Closed}
 use Rattle.search.proofs.Closure.{least-seeds, least-closed, least-ind}
 use Rattle.problem.specs.Problem.{Clause, Problem}
 use Rattle.ground.specs.Instance.{clauseOf, noClause}
+use Rattle.ground.proofs.ClauseLaws.{all-places}
 use Rattle.parting.specs.Parts.{predicatesOf, Shares, Through, Together, linksOf, family, only, touches, withClauses, partOf, isLowest}
 use Rattle.parting.specs.Claims.{Has, Joined, Within}
 
 -- ---- members
-
--- what holds at every place holds of all
-pub all-places {ℓ} : {A : Type 0} (P : A → Type ℓ) (d : A) (xs : List A) → ((i : ℕ) → i < length xs → P (getD xs i d)) → All P xs
-all-places P d [] f = tt
-all-places P d (x ∷ xs) f = (f 0 (omega arith), all-places P d xs (λ i h. f (suc i) (omega arith)))
 
 -- some member of which P holds
 pub any-in : (P : ℕ → Type 0) (xs : List ℕ) → Any P xs → (x : ℕ) × (In natKey xs x × P x)
