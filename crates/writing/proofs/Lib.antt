@@ -1,3 +1,4 @@
 pub mod WriteLaws
+pub mod CompareLaws
 pub mod LentLaws
 pub mod Theorems

@@ -141,22 +141,22 @@ module _ {e x : List ℕ} {bs : List ℕ} {m r : ℕ} (p : Put e 0 bs m r x) whe
   pub put-text : take r x ≡ bs
   put-text = rw put-front (take-at bs (drop (length bs) e) r (sym put-count))
 
--- the table printed into x is read into `own`
-module _ (tb x : List ℕ) (n : ℕ) (own : List ℕ) (r : Reading) (text : take n x ≡ print tb) (f : ReadAs (parse (take n x)) r own) where
-  printed : ReadAs (parse (print tb)) r own
-  printed = subst (λ (y : List ℕ). ReadAs (parse y) r own) text f
+-- the table's text is a table's validity
+pub valid-read : (tb x : List ℕ) → x ≡ print tb → readsTo (parse x) tb ≡ isValid tb
+unfolding isValid
+valid-read tb x text = ap (λ (y : List ℕ). readsTo (parse y) tb) text
 
-  pub not-valid : {e line : ℕ} → r ≡ Refused e line → false ≡ isValid tb
-  unfolding isValid
-  not-valid refusal = go (parse (print tb)) (printed .reading)
+-- a text is read into `own`
+module _ (tb x own : List ℕ) (r : Reading) (f : ReadAs (parse x) r own) where
+  pub not-read : {e line : ℕ} → r ≡ Refused e line → false ≡ readsTo (parse x) tb
+  not-read refusal = go (parse x) (f .reading)
     where
       go : (what : Parsed) → r ≡ readingOf what → false ≡ readsTo what tb
       go (refused i l) read = refl
       go (parsed q) read = let z : _≡_ {A = ℕ} 0 1 = cc in absurd (omega arith)
 
-  pub valid-same : r ≡ Accepted → sameList own tb ≡ isValid tb
-  unfolding isValid
-  valid-same accepted = go (parse (print tb)) (printed .reading) (printed .table)
+  pub read-same : r ≡ Accepted → sameList own tb ≡ readsTo (parse x) tb
+  read-same accepted = go (parse x) (f .reading) (f .table)
     where
       go : (what : Parsed) → r ≡ readingOf what → ((q : Problem) → what ≡ parsed q → own ≡ layout q) → sameList own tb ≡ readsTo what tb
       go (refused i l) read table = let z : _≡_ {A = ℕ} 0 1 = cc in absurd (omega arith)

@@ -6,14 +6,17 @@ use text_line::digit::digit_of;
 ghost use mathlib.Core.Path.{_≡_};
 ghost use mathlib.Core.List.{flatMap, _∷_, []};
 ghost use Prim.Native.Nat.{_+_, _*_, _≤_, _<_, min};
-ghost use lib.ListN.{length, getD};
+ghost use lib.ListN.{length, getD, replicate};
+ghost use Rattle.lists.specs.Bytes.{sameList};
 ghost use Rattle.lists.specs.Tabulate.{tabulate};
 ghost use Rattle.problem.specs.Digit.{hexByte, hexLine};
 ghost use Rattle.problem.specs.Layout.{atomIn, clauseIn, aritiesIn, problemIn};
 ghost use Rattle.problem.specs.Print.{atomBytes, headingFrame, arityFrame, clauseFrame, closingFrame, print};
-ghost use Rattle.problem.specs.Table.{isValid};
+ghost use Rattle.problem.specs.Parse.{parse};
+ghost use Rattle.problem.specs.Table.{readsTo, isValid};
 ghost use Rattle.writing.specs.Write.{writeResult, writeLeaves};
 ghost use Rattle.writing.specs.contracts.Printed.{Put};
+ghost use Rattle.writing.specs.contracts.Compared.{Ended};
 
 // What writing says: a refusal's number, or how many bytes were written.
 pub enum Writing {
@@ -67,7 +70,7 @@ fn put_bytes(table: &[u8], from: usize, count: u8, out: &mut [u8], at: usize) ->
 
 // The first line.
 fn put_first(table: &[u8], out: &mut [u8]) -> usize
-    requires { ⌜ (length (now table) ≡ 4096) × (7168 ≤ length (now out)) ⌝ }
+    requires { ⌜ (length (now table) ≡ 4096) × (17 ≤ length (now out)) ⌝ }
     ensures { λ r. ⌜ Put (now (out .entry)) 0 (hexLine (headingFrame (problemIn (now (table .entry))))) 17 r (now (out .exit)) ⌝ }
 {
     let kind = put_byte(out, 0, 1);
@@ -144,8 +147,8 @@ fn put_clause(table: &[u8], from: usize, out: &mut [u8], at: usize) -> usize
 
 // The clause lines.
 fn put_clauses(table: &[u8], out: &mut [u8], at: usize) -> usize
-    requires { ⌜ (length (now table) ≡ 4096) × (at + 4544 ≤ length (now out)) ⌝ }
-    ensures { λ r. ⌜ Put (now (out .entry)) at (flatMap (λ k. hexLine (clauseFrame k)) (tabulate (λ k. clauseIn (aritiesIn (now (table .entry))) (now (table .entry)) (144 + 56 * k)) (min (getD (now (table .entry)) 2 0) 64))) 4544 r (now (out .exit)) ⌝ }
+    requires { ⌜ (length (now table) ≡ 4096) × (at + 71 * min (getD (now table) 2 0) 64 ≤ length (now out)) ⌝ }
+    ensures { λ r. ⌜ Put (now (out .entry)) at (flatMap (λ k. hexLine (clauseFrame k)) (tabulate (λ k. clauseIn (aritiesIn (now (table .entry))) (now (table .entry)) (144 + 56 * k)) (min (getD (now (table .entry)) 2 0) 64))) (71 * min (getD (now (table .entry)) 2 0) 64) r (now (out .exit)) ⌝ }
 {
     let count = at_most(table[2], 64);
     let mut next = at;
@@ -167,10 +170,10 @@ fn put_last(table: &[u8], out: &mut [u8], at: usize) -> usize
     put_end(out, count)
 }
 
-// Any 4,096 bytes as text.
+// Any 4,096 bytes as text: 71 bytes at most for a clause, and 182 beside.
 pub fn print_table(table: &[u8], out: &mut [u8]) -> usize
-    requires { ⌜ (length (now table) ≡ 4096) × (7168 ≤ length (now out)) ⌝ }
-    ensures { λ r. ⌜ Put (now (out .entry)) 0 (print (now (table .entry))) 4726 r (now (out .exit)) ⌝ }
+    requires { ⌜ (length (now table) ≡ 4096) × (182 + 71 * min (getD (now table) 2 0) 64 ≤ length (now out)) ⌝ }
+    ensures { λ r. ⌜ Put (now (out .entry)) 0 (print (now (table .entry))) (182 + 71 * min (getD (now (table .entry)) 2 0) 64) r (now (out .exit)) ⌝ }
 {
     let first = put_first(table, out);
     let arities = put_arities(table, out, first);
@@ -178,19 +181,75 @@ pub fn print_table(table: &[u8], out: &mut [u8]) -> usize
     put_last(table, out, clauses)
 }
 
+// Whether every byte is 0. No byte ends the loop, so that many are looked at at a time.
+fn all_zero(a: &[u8]) -> bool
+    ensures { λ r. ⌜ r ≡ sameList (replicate (length (now (a .entry))) 0) (now (a .entry)) ⌝ }
+{
+    let mut all = true;
+    let mut i: usize = 0;
+    while i < a.len() {
+        if a[i] != 0 {
+            all = false;
+        }
+        i += 1;
+    }
+    all
+}
+
+// Whether a table that has nothing after its clauses is the same as these bytes.
+fn same_table(own: &[u8], table: &[u8]) -> bool
+    requires { ⌜ Ended (now own) × (length (now table) ≡ 4096) ⌝ }
+    ensures { λ r. ⌜ r ≡ sameList (now (own .entry)) (now (table .entry)) ⌝ }
+{
+    let end = 144 + 56 * (own[2] as usize);
+    if !lists::same(&own[..end], &table[..end]) {
+        return false;
+    }
+    all_zero(&table[end..])
+}
+
+// Whether a text is accepted and reads to these bytes.
+fn reads_to(text: &[u8], table: &[u8]) -> bool
+    requires { ⌜ length (now table) ≡ 4096 ⌝ }
+    ensures { λ r. ⌜ r ≡ readsTo (parse (now (text .entry))) (now (table .entry)) ⌝ }
+{
+    let mut own = [0u8; 4096];
+    let reading = read_text(text, &mut own);
+    match reading {
+        Reading::Refused(_, _) => false,
+        Reading::Accepted => same_table(&own, table),
+    }
+}
+
+// Whether a table of few clauses is valid, with less room to make zero for its text.
+fn few_valid(table: &[u8]) -> bool
+    requires { ⌜ (length (now table) ≡ 4096) × (getD (now table) 2 0 ≤ 8) ⌝ }
+    ensures { λ r. ⌜ r ≡ isValid (now (table .entry)) ⌝ }
+{
+    let mut text = [0u8; 750];
+    let n = print_table(table, &mut text);
+    reads_to(&text[..n], table)
+}
+
+// The same with room for the text of any table.
+fn any_valid(table: &[u8]) -> bool
+    requires { ⌜ length (now table) ≡ 4096 ⌝ }
+    ensures { λ r. ⌜ r ≡ isValid (now (table .entry)) ⌝ }
+{
+    let mut text = [0u8; 4726];
+    let n = print_table(table, &mut text);
+    reads_to(&text[..n], table)
+}
+
 // Whether some accepted text reads to these 4,096 bytes.
 pub fn valid(table: &[u8]) -> bool
     requires { ⌜ length (now table) ≡ 4096 ⌝ }
     ensures { λ r. ⌜ r ≡ isValid (now (table .entry)) ⌝ }
 {
-    let mut text = [0u8; 7168];
-    let n = print_table(table, &mut text);
-    let mut own = [0u8; 4096];
-    let reading = read_text(&text[..n], &mut own);
-    match reading {
-        Reading::Refused(_, _) => false,
-        Reading::Accepted => lists::same(&own, table),
+    if table[2] <= 8 {
+        return few_valid(table);
     }
+    any_valid(table)
 }
 
 // Writes a lent table out as text. A refusal leaves the text out as it was.

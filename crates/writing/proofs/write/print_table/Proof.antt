@@ -1,12 +1,12 @@
 -- `writing::write::print_table` meets its contract.
-use Prim.Native.Nat.{ℕ, _≤_}
+use Prim.Native.Nat.{ℕ, _+_, _*_, _≤_, min}
 use mathlib.Core.List.{List}
 use native.Mathlib.Omega.{arith}
 use borrow.Author.Needs.{needs}
-use lib.ListN.{length}
+use lib.ListN.{length, getD}
 use Rattle.problem.specs.Layout.{problemIn}
 use Rattle.problem.specs.Print.{textOf, print}
-use Rattle.writing.proofs.WriteLaws.{put-then}
+use Rattle.writing.proofs.WriteLaws.{put-then, put-most}
 use Rattle.writing.proofs.write.print_table.Statement.{statement}
 use Rattle.writing.proofs.write.print_table.Tie as tie
 
@@ -27,7 +27,8 @@ print-table-spec =
     let first = arities .before .before .before .before in
     let s = first .before .before .before .before in
     let x : List ℕ = s .args .out .now in
-    let room : 7168 ≤ length x = s .pre .1 in
+    let tb : List ℕ = s .args .table .now in
+    let room : 182 + 71 * min (getD tb 2 0) 64 ≤ length x = s .pre .1 in
     let two = put-then (first .put-first .ensures) (omega arith) (arities .put-arities .ensures) in
     let three = put-then two (omega arith) (clauses .put-clauses .ensures) in
-    put-then three (omega arith) (last .put-last .ensures)))  -- returns
+    put-most (put-then three (omega arith) (last .put-last .ensures)) (omega arith)))  -- returns

@@ -53,4 +53,4 @@ put-clauses-spec =
     (λ c.
     let l = c .before .loop in
     let tb : List ℕ = c .before .before .before .before .before .before .args .table .now in
-    puts-done line (clauseAt tb) 71 (l .k) (min (getD tb 2 0) 64) 4544 (l .inv .1) (omega arith) (omega arith)))  -- returns
+    puts-done line (clauseAt tb) 71 (l .k) (min (getD tb 2 0) 64) (71 * min (getD tb 2 0) 64) (l .inv .1) (omega arith) (omega arith)))  -- returns
