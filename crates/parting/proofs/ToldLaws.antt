@@ -8,7 +8,7 @@ use native.Mathlib.Omega.{arith}
 use lib.ListN.{take}
 use Rattle.lists.specs.Member.{every}
 use Rattle.lists.proofs.Test.{T-true}
-use Rattle.search.specs.Machine.{Outcome, Satisfied, Refuted, Exhausted}
+use Rattle.search.specs.Machine.{Outcome}
 use Rattle.problem.specs.Problem.{Problem}
 use Rattle.problem.specs.Layout.{problemIn}
 use Rattle.problem.specs.Table.{Valid, isValid}
@@ -110,19 +110,13 @@ refused-keeps by false tb e h = go (isValid (take 4096 tb)) h
 pub refusal-keeps : (by short : Bool) (tb : List ℕ) → RefusalKeeps by short tb
 refusal-keeps by short tb = record { count = λ e h. refused-keeps by short tb e h .0; answer = λ e h. refused-keeps by short tb e h .1 }
 
--- a walk refuses nothing either
-never-declined : (o : Outcome) (e : ℕ) → verdictOf o ≡ verdict.Refused e → ⊥
-never-declined (Satisfied n bits) e h = let z : _≡_ {A = ℕ} 0 1 = cc in omega arith
-never-declined (Refuted n) e h = let z : _≡_ {A = ℕ} 0 1 = cc in omega arith
-never-declined (Exhausted n) e h = let z : _≡_ {A = ℕ} 0 1 = cc in omega arith
-
--- so a call by parts and an engine's own run are refused alike: by a buffer too short, by a table that is not valid
+-- a walk refuses nothing either, so a call by parts and an engine's own run are refused alike: by a buffer too short, by a table that is not valid
 alike : (short v b d : Bool) (o : Outcome) (e : ℕ)
     → (_≡_ {A = Parting} (cond short (parting.Refused 11) (cond v (saidAs b d) (parting.Refused 31))) (parting.Refused e))
     ↔ (_≡_ {A = Verdict} (cond short (verdict.Refused 11) (cond v (verdictOf o) (verdict.Refused 31))) (verdict.Refused e))
 alike true v b d o e = (λ s. ap verdict.Refused (ap (λ (r : Parting). (partingNumbers r) .refusal) s), λ s. ap parting.Refused (ap (λ (r : Verdict). (verdictNumbers r) .refusal) s))
 alike false false b d o e = (λ s. ap verdict.Refused (ap (λ (r : Parting). (partingNumbers r) .refusal) s), λ s. ap parting.Refused (ap (λ (r : Verdict). (verdictNumbers r) .refusal) s))
-alike false true b d o e = (λ s. absurd (never-refused b d e s), λ s. absurd (never-declined o e s))
+alike false true b d o e = (λ s. absurd (never-refused b d e s), λ s. absurd (relevancy.never-declined o e s))
 
 pub refused-alike : (tb answer work : List ℕ) (e : ℕ) → (partsResult false (tooShort tb answer work) tb ≡ parting.Refused e) ↔ (fitResult tb answer work ≡ verdict.Refused e)
 unfolding partsResult fitResult

@@ -5,18 +5,20 @@ use mathlib.Core.List.{List, [], _++_}
 use mathlib.Core.Path.{_≡_, refl, sym, ap, subst, _∙_}
 use native.Mathlib.Omega.{arith}
 use lib.Dec.{T, ltb}
-use lib.ListN.{length, take, drop, replicate}
+use lib.ListN.{length, take, drop, replicate, length-replicate}
 use borrow.Author.Tests.{lt-ltb, le-ltb, ltb-false}
 use Rattle.lists.specs.Key.{natKey}
 use Rattle.lists.specs.Member.{In}
+use Rattle.lists.proofs.Bytes.{zeros-at}
 use Rattle.search.specs.Relevancy.{isRelevant, findR}
+use Rattle.search.specs.Machine.{Outcome, Satisfied, Refuted, Exhausted}
 use Rattle.search.specs.Session.{firstSession}
 use Rattle.problem.specs.Problem.{limitOf}
 use Rattle.problem.specs.Layout.{problemIn}
 use Rattle.problem.specs.Table.{Lawful, isValid}
 use Rattle.writing.specs.contracts.Lent.{refusalOf}
 use Rattle.writing.proofs.LentLaws.{refused-says, Taken, taken}
-use Rattle.store.specs.contracts.Store.{logged}
+use Rattle.store.specs.contracts.Store.{Store, logged}
 use Rattle.store.proofs.Laws.{store-flag}
 use Rattle.ground.specs.declared.verdict.Verdict.{Verdict}
 use Rattle.ground.specs.declared.verdict.Verdict.the-variants.{Refused}
@@ -29,6 +31,7 @@ use Rattle.walk.specs.contracts.Path.{pathIn}
 use Rattle.walk.specs.contracts.Place.{factsOf, Beginning}
 use Rattle.walk.specs.declared.answer.Found.{Found as Told}
 use Rattle.walk.specs.declared.answer.Found.the-variants.{Closed, Open, Split}
+use Rattle.walk.proofs.WalkLaws.{blank-store}
 use Rattle.session.specs.declared.record.Moved.{Moved}
 use Rattle.session.specs.declared.record.Reply.{Reply}
 use Rattle.session.specs.Record.{laid}
@@ -47,12 +50,22 @@ or-none : (a b : Bool) → (a || b) ≡ false → (a ≡ false) × (b ≡ false)
 or-none true b e = let z : _≡_ {A = ℕ} 0 1 = cc in absurd (omega arith)
 or-none false b e = (refl, e)
 
+-- zeros hold no fact
+pub no-facts : Store 2050 (replicate 6150 0) 0
+no-facts = blank-store 2050 (replicate 6150 0) (length-replicate {A = ℕ} 6150 0) (λ a l. zeros-at 6150 a)
+
 -- whether the answer or the work buffer is too short, asked one after the other
 pub small-yes : (a w : ℕ) → a < 1024 → true ≡ (ltb a 1024 || ltb w 65536)
 small-yes a w l = rw (lt-ltb a 1024 l)
 
 pub small-no : (a w : ℕ) → 1024 ≤ a → ltb w 65536 ≡ (ltb a 1024 || ltb w 65536)
 small-no a w l = rw (le-ltb a 1024 l)
+
+-- a walk refuses nothing
+pub never-declined : (o : Outcome) (e : ℕ) → verdictOf o ≡ Refused e → ⊥
+never-declined (Satisfied n bits) e h = let z : _≡_ {A = ℕ} 0 1 = cc in omega arith
+never-declined (Refuted n) e h = let z : _≡_ {A = ℕ} 0 1 = cc in omega arith
+never-declined (Exhausted n) e h = let z : _≡_ {A = ℕ} 0 1 = cc in omega arith
 
 -- all that is lent is taken
 pub record AllTaken (tb answer work : List ℕ) : Type 0 where

@@ -14,17 +14,17 @@ ghost use Rattle.session.specs.contracts.End.{Replied};
 ghost use Rattle.relevancy_walk.specs.contracts.Place.{relevancyWalker};
 ghost use Rattle.relevancy.specs.Engine.{outcomeIn, deepestIn};
 
-// The run of a valid table under its own limit, in a buffer for its facts.
-fn decide(table: &[u8], answer: &mut [u8], facts: &mut [u8]) -> Reply
+// The run of a valid table under its own limit, in a buffer for its path.
+fn decide(table: &[u8], answer: &mut [u8], path: &mut [u8]) -> Reply
     requires { ⌜ Lawful (now table) ⌝ }
-    requires { ⌜ (1024 ≤ length (now answer)) × (length (now facts) ≡ 6150) ⌝ }
+    requires { ⌜ (1024 ≤ length (now answer)) × (length (now path) ≡ 9227) ⌝ }
     ensures { λ r. ⌜ Replied (relevancyWalker (now (table .entry))) (limitOf ((problemIn (now (table .entry))) .limit)) (now (answer .entry)) r (now (answer .exit)) ⌝ }
 {
-    let mut path = [0u8; 9227];
+    let mut facts = [0u8; 6150];
     let limit = limit_in(table);
-    let whole = walk_whole(table, facts, &mut path, limit);
+    let whole = walk_whole(table, &mut facts, path, limit);
     let walked = whole.walked;
-    reply(table, facts, &path, answer, walked, limit)
+    reply(table, &facts, path, answer, walked, limit)
 }
 
 // The same, in the first part of the work buffer, which is left zero.
@@ -33,7 +33,7 @@ pub fn run(table: &[u8], answer: &mut [u8], work: &mut [u8]) -> Reply
     requires { ⌜ (1024 ≤ length (now answer)) × (length (now work) ≡ 65536) ⌝ }
     ensures { λ r. ⌜ (r .verdict ≡ verdictOf (outcomeIn (now (table .entry)))) × (r .deepest ≡ deepestIn (now (table .entry))) × (now (answer .exit) ≡ answerOf (outcomeIn (now (table .entry))) (now (answer .entry))) × (now (work .exit) ≡ replicate 65536 0) ⌝ }
 {
-    let reply = decide(table, answer, &mut work[0..6150]);
+    let reply = decide(table, answer, &mut work[0..9227]);
     lists::zero(work);
     reply
 }

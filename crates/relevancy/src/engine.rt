@@ -27,17 +27,17 @@ ghost use Rattle.session.specs.Calls.{verdictTold, recordLeft, answerLeft, work
 ghost use Rattle.relevancy.specs.Engine.{outcomeIn, fitResult, fitDeepest, fitAnswer, fitWork};
 ghost use Rattle.relevancy.specs.Sessions.{begun, resumed};
 
-// The run of a valid table under its own limit, in a buffer for its facts.
-fn decide(table: &[u8], answer: &mut [u8], facts: &mut [u8]) -> Moved
+// The run of a valid table under its own limit, in a buffer for its path.
+fn decide(table: &[u8], answer: &mut [u8], path: &mut [u8]) -> Moved
     requires { ⌜ Lawful (now table) ⌝ }
-    requires { ⌜ (1024 ≤ length (now answer)) × (length (now facts) ≡ 6150) ⌝ }
+    requires { ⌜ (1024 ≤ length (now answer)) × (length (now path) ≡ 9227) ⌝ }
     ensures { λ r. ⌜ (r .verdict ≡ verdictOf (outcomeIn (now (table .entry)))) × (r .session ≡ laid (firstSession (findR (groundIn (now (table .entry)))) (limitOf ((problemIn (now (table .entry))) .limit)))) × (now (answer .exit) ≡ answerOf (outcomeIn (now (table .entry))) (now (answer .entry))) ⌝ }
 {
-    let mut path = [0u8; 9227];
+    let mut facts = [0u8; 6150];
     let limit = limit_in(table);
-    let whole = walk_whole(table, facts, &mut path, limit);
+    let whole = walk_whole(table, &mut facts, path, limit);
     let walked = whole.walked;
-    conclude(table, facts, &path, answer, walked, limit, whole.used)
+    conclude(table, &facts, path, answer, walked, limit, whole.used)
 }
 
 // The same, in the first part of the work buffer, which is left zero.
@@ -46,13 +46,13 @@ fn run(table: &[u8], answer: &mut [u8], work: &mut [u8]) -> Moved
     requires { ⌜ (1024 ≤ length (now answer)) × (length (now work) ≡ 65536) ⌝ }
     ensures { λ r. ⌜ (r .verdict ≡ verdictOf (outcomeIn (now (table .entry)))) × (r .session ≡ laid (firstSession (findR (groundIn (now (table .entry)))) (limitOf ((problemIn (now (table .entry))) .limit)))) × (now (answer .exit) ≡ answerOf (outcomeIn (now (table .entry))) (now (answer .entry))) × (now (work .exit) ≡ replicate 65536 0) ⌝ }
 {
-    let moved = decide(table, answer, &mut work[0..6150]);
+    let moved = decide(table, answer, &mut work[0..9227]);
     lists::zero(work);
     moved
 }
 
 // Whether an answer or a work buffer of so many bytes is too short.
-fn too_small(answer: usize, work: usize) -> bool
+pub fn too_small(answer: usize, work: usize) -> bool
     ensures { λ r. ⌜ r ≡ (ltb answer 1024 || ltb work 65536) ⌝ }
 {
     if answer < 1024 {

@@ -10,9 +10,9 @@ use Rattle.relevancy.proofs.EngineLaws.{run-replied}
 use Rattle.relevancy.proofs.alone.run.Statement.{statement}
 use Rattle.relevancy.proofs.alone.run.Tie as tie
 
--- the facts lie in the first part of the work buffer
-part : (s : tie.Start) → length (take 6150 (s .args .work .now)) ≡ 6150
-part s = length-take-le 6150 (s .args .work .now) (omega (arith, s .pre .1 .1))
+-- the path lies in the first part of the work buffer
+part : (s : tie.Start) → length (take 9227 (s .args .work .now)) ≡ 9227
+part s = length-take-le 9227 (s .args .work .now) (omega (arith, s .pre .1 .1))
 
 pub run-spec : {M : Type 1} → statement M
 run-spec =
@@ -29,5 +29,5 @@ run-spec =
     let s = c .before .before .before .before .before .before .before .before .before .before .before .before .before .before in
     let d = c .before .before .before .before .before .before .before .before .decide in
     let told = run-replied (s .args .table .now) (s .args .answer .now) (d .result) (d .last .1 .0) (d .ensures) in
-    let size = put-size 6150 65536 (omega arith) (s .args .work .now) (s .pre .1 .1) (d .last .1 .1 .0) (d .kept .1 .1 .0 ∙ part s) in
+    let size = put-size 9227 65536 (omega arith) (s .args .work .now) (s .pre .1 .1) (d .last .1 .1 .0) (d .kept .1 .1 .0 ∙ part s) in
     (told .0, told .1, told .2, (c .before .before) .zero .ensures ∙ ap (λ (m : ℕ). replicate m 0) size)))  -- returns

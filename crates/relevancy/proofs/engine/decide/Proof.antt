@@ -7,7 +7,7 @@ use Rattle.ground.proofs.AtomLaws.{table-size}
 use Rattle.ground.proofs.VerdictLaws.{limit-of}
 use Rattle.walk.specs.contracts.Walker.{fromRoot}
 use Rattle.relevancy_walk.specs.contracts.Place.{relevancyWalker}
-use Rattle.relevancy.proofs.EngineLaws.{first-run}
+use Rattle.relevancy.proofs.EngineLaws.{no-facts, first-run}
 use Rattle.relevancy.proofs.engine.decide.Statement.{statement}
 use Rattle.relevancy.proofs.engine.decide.Tie as tie
 
@@ -17,15 +17,15 @@ decide-spec =
     (tie.spec
     (λ c κs. let s = c .before .before .before in table-size (s .args .table .now) (s .pre .0))  -- limit-in-requires
     (λ c. search needs)  -- slice-aggregate-walk-whole
-    (λ c κs. search needs)  -- walk-whole-requires
+    (λ c κs. let s = c .before .before .before .before .before .before in (s .pre .0, (no-facts, s .pre .1 .1)))  -- walk-whole-requires
     (λ c. search needs)  -- slice-aggregate-conclude
     (λ c κs.
     let s = c .before .before .before .before .before .before .before .before .before .before .before .before .before in
     let w = c .before .before .before .before .before .before .walk-whole in (
       s .pre .0,
       (
-        w .kept .1 .1 .0 ∙ length-replicate {A = ℕ} 9227 0,
-        (w .ensures .0, ((s .pre .1 .0, w .kept .1 .0 ∙ s .pre .1 .1), (fromRoot (relevancyWalker (s .args .table .now)) 0 ((c .before .before .before .before .before .before .before .before .before) .limit-in .result), (refl, w .ensures .1)))),
+        w .kept .1 .1 .0 ∙ s .pre .1 .1,
+        (w .ensures .0, ((s .pre .1 .0, w .kept .1 .0 ∙ length-replicate {A = ℕ} 6150 0), (fromRoot (relevancyWalker (s .args .table .now)) 0 ((c .before .before .before .before .before .before .before .before .before) .limit-in .result), (refl, w .ensures .1)))),
       ),
     ))  -- conclude-requires
     (λ c. search needs)  -- same-length

@@ -9,9 +9,9 @@ use Rattle.store.proofs.Lent.{put-size}
 use Rattle.relevancy.proofs.engine.run.Statement.{statement}
 use Rattle.relevancy.proofs.engine.run.Tie as tie
 
--- the facts lie in the first part of the work buffer
-part : (s : tie.Start) → length (take 6150 (s .args .work .now)) ≡ 6150
-part s = length-take-le 6150 (s .args .work .now) (omega (arith, s .pre .1 .1))
+-- the path lies in the first part of the work buffer
+part : (s : tie.Start) → length (take 9227 (s .args .work .now)) ≡ 9227
+part s = length-take-le 9227 (s .args .work .now) (omega (arith, s .pre .1 .1))
 
 pub run-spec : {M : Type 1} → statement M
 run-spec =
@@ -28,5 +28,5 @@ run-spec =
     let s = c .before .before .before .before .before .before .before .before .before .before .before .before .before .before in
     let d = c .before .before .before .before .before .before .before .before .decide in
     let z = c .before .before .zero in
-    let size = put-size 6150 65536 (omega arith) (s .args .work .now) (s .pre .1 .1) (d .last .1 .1 .0) (d .kept .1 .1 .0 ∙ part s) in
+    let size = put-size 9227 65536 (omega arith) (s .args .work .now) (s .pre .1 .1) (d .last .1 .1 .0) (d .kept .1 .1 .0 ∙ part s) in
     (d .ensures .0, d .ensures .1, d .ensures .2, z .ensures ∙ ap (λ (m : ℕ). replicate m 0) size)))  -- returns

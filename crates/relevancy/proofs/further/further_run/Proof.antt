@@ -6,19 +6,17 @@ use mathlib.Core.Path.{_≡_, refl, sym, _∙_}
 use native.Mathlib.Omega.{arith}
 use borrow.Author.Needs.{needs}
 use lib.ListN.{length, replicate, length-replicate}
-use Rattle.lists.proofs.Bytes.{zeros-at}
 use Rattle.search.specs.Relevancy.{findR}
 use Rattle.search.specs.Session.{Called}
 use Rattle.problem.specs.Layout.{problemIn}
 use Rattle.ground.specs.Instance.{groundIn}
 use Rattle.ground.proofs.Instances.{atoms-few}
 use Rattle.walk.specs.contracts.Path.{deepestAt}
-use Rattle.walk.proofs.WalkLaws.{blank-store}
 use Rattle.session.specs.Calls.{calledIn}
 use Rattle.session.proofs.CallLaws.{isKeptOver, is-kept}
 use Rattle.session.proofs.EndLaws.{left-refused, further-nowhere, further-walks, further-concluded}
 use Rattle.relevancy_walk.specs.contracts.Place.{relevancyWalker}
-use Rattle.relevancy.proofs.EngineLaws.{root-flags}
+use Rattle.relevancy.proofs.EngineLaws.{no-facts, root-flags}
 use Rattle.relevancy.proofs.further.further_run.Statement.{statement}
 use Rattle.relevancy.proofs.further.further_run.Tie as tie
 
@@ -63,7 +61,7 @@ further-run-spec =
       s .pre .0,
       (
         ((c .before .before .before .before .before .before .before .before .before .before .before .before .before) .build .ensures, (c .before .before .before .before .before .before .before .before .before .before .before .before) .build2 .ensures),
-        (blank-store 2050 (replicate 6150 0) (length-replicate {A = ℕ} 6150 0) (λ a l. zeros-at 6150 a), record { size = c .before .before .before .before .before .bring .kept .0 ∙ length-replicate {A = ℕ} 9227 0; deep = omega arith }),
+        (no-facts, record { size = c .before .before .before .before .before .bring .kept .0 ∙ length-replicate {A = ℕ} 9227 0; deep = omega arith }),
       ),
     ))  -- root-requires
     (λ c. search needs)  -- slice-aggregate-root-alternatives

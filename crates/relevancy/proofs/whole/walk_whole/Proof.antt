@@ -1,66 +1,40 @@
 -- `relevancy::whole::walk_whole` meets its contract.
 use Prim.Native.Nat.{ℕ}
-use mathlib.Core.List.{_++_}
-use mathlib.Core.Path.{_≡_, refl, sym, ap, subst, _∙_}
+use mathlib.Core.Path.{_≡_, refl, subst, _∙_}
 use native.Mathlib.Omega.{arith}
 use borrow.Author.Needs.{needs}
-use lib.ListN.{length, take, drop, length-replicate}
-use lib.Seq.{length-take-le}
-use Rattle.lists.proofs.Bytes.{zeros-at}
-use Rattle.store.proofs.Lent.{put-size}
 use Rattle.walk.specs.contracts.Walker.{fromRoot}
-use Rattle.walk.specs.contracts.Path.{deepestAt}
 use Rattle.walk.specs.contracts.Walk.{Walks}
-use Rattle.walk.proofs.WalkLaws.{cleared-store}
 use Rattle.relevancy_walk.specs.contracts.Place.{relevancyWalker}
 use Rattle.relevancy.proofs.EngineLaws.{root-flags}
 use Rattle.relevancy.proofs.whole.walk_whole.Statement.{statement}
 use Rattle.relevancy.proofs.whole.walk_whole.Tie as tie
 
--- the path is blank, and has no entry
-none-entered : (s : tie.Start) → deepestAt (s .args .path .now) ≡ 0
-none-entered s = ap deepestAt (s .pre .1 .1) ∙ omega (arith, zeros-at 9227 9225, zeros-at 9227 9226)
-
--- the flags come first, and they alone are lent to be made zero
-flags : (s : tie.Start) → length (take 2050 (s .args .facts .now)) ≡ 2050
-flags s = length-take-le 2050 (s .args .facts .now) (omega (arith, s .pre .1 .0))
-
-room : (z : tie.After-zero) → length (z .zero .last .0 ++ drop 2050 (z .before .before .before .before .before .before .before .args .facts .now)) ≡ length (z .before .before .before .before .before .before .before .args .facts .now)
-room z =
-    let s = z .before .before .before .before .before .before .before in
-    put-size 2050 (length (s .args .facts .now)) (omega (arith, s .pre .1 .0)) (s .args .facts .now) refl (z .zero .last .0) (z .zero .kept .0 ∙ flags s)
-
 pub walk-whole-spec : {M : Type 1} → statement M
 walk-whole-spec =
     tie.close
     (tie.spec
-    (λ c κs. search needs)  -- build-requires
-    (λ c κs. search needs)  -- build-requires-2
-    (λ c. let s = c .before .before .before .before .before in omega (arith, s .pre .1 .0))  -- slice-relend-prefix-zero
-    (λ c. sym (flags (c .before .before .before .before .before .before)))  -- slice-aggregate-zero
-    (λ c κs. search needs)  -- zero-requires
+    (λ c. search needs)  -- slice-aggregate-slots
+    (λ c κs. let s = c .before .before .before .before in (s .pre .0, refl))  -- slots-requires
+    (λ c. search needs)  -- slice-aggregate-slots-2
+    (λ c κs. let s = c .before .before .before .before .before .before .before in (s .pre .0, refl))  -- slots-requires-2
+    (λ c κs. let s = c .before .before .before .before .before .before .before .before .before .before in (s .pre .1 .1, omega arith))  -- bring-requires
     (λ c κs.
-    let s = c .before .before .before .before .before .before .before .before .before .before .before .before .before in
-    let z = c .before .before .before .before .before .before .zero in (
-      s .pre .0,
-      (
-        ((c .before .before .before .before .before .before .before .before .before) .build .ensures, (c .before .before .before .before .before .before .before .before) .build2 .ensures),
-        (cleared-store 2050 (s .args .facts .now) (z .last .0) (s .pre .1 .0) (z .ensures), record { size = ap length (s .pre .1 .1) ∙ length-replicate {A = ℕ} 9227 0; deep = omega arith }),
-      ),
-    ))  -- root-requires
-    (λ c κs. let s = c .before .before .before .before .before .before .before .before .before .before .before .before .before .before .before .before .before .before .before in let b = c .before .before .before .before .before .root in (s .pre .0, (b .last .1 .1 .1 .0, b .ensures .0)))  -- root-alternatives-requires
+    let s = c .before .before .before .before .before .before .before .before .before .before .before .before .before .before .before .before .before in
+    (s .pre .0, (((c .before .before .before .before .before .before .before .before .before .before .before .before) .slots .ensures, (c .before .before .before .before .before .before .before .before .before) .slots2 .ensures), (s .pre .1 .0, record { size = c .before .before .before .before .before .before .bring .kept .0 ∙ s .pre .1 .1; deep = omega arith }))))  -- root-requires
+    (λ c κs. let s = c .before .before .before .before .before .before .before .before .before .before .before .before .before .before .before .before .before .before .before .before .before .before .before in let b = c .before .before .before .before .before .root in (s .pre .0, (b .last .1 .1 .1 .0, b .ensures .0)))  -- root-alternatives-requires
     (λ c. search needs)  -- slice-aggregate-build
     (λ c κs.
-    let s = c .before .before .before .before .before .before .before .before .before .before .before .before .before .before .before .before .before .before .before .before .before .before in
+    let s = c .before .before .before .before .before .before .before .before .before .before .before .before .before .before .before .before .before .before .before .before .before .before .before .before .before .before in
     let b = c .before .before .before .before .before .before .before .before .root in
-    (s .pre .0, ((b .kept .1 .1 .1 .0 ∙ room (c .before .before .before .before .before .before .before .before .before .before .before .before .before .before .before) ∙ s .pre .1 .0, root-flags (s .args .table .now) (s .pre .0) _ (b .last .1 .1 .1 .0) (b .last .1 .1 .1 .1 .0) (b .ensures .0)), refl)))  -- build-requires-3
-    (λ c κs. let s = c .before .before .before .before .before .before .before .before .before .before .before .before .before .before .before .before .before .before .before .before .before .before .before .before .before .before .before .before .before in (s .pre .0, (((c .before .before .before .before .before .before .before .before .before .before .before .before .before .before .before .before .before .before .before .before .before .before .before .before .before) .build .ensures, (c .before .before .before .before .before .before .before .before .before .before .before .before .before .before .before .before .before .before .before .before .before .before .before .before) .build2 .ensures, (c .before .before .before .before .before .before) .build3 .ensures), (c .before .before .before .before .before .before .before .before .before .before .before .before .before .before .before) .root .ensures .0)))  -- from-root-requires
-    (λ c. (c .before .before .before .before) .from-root .kept .1 .1 .1 .1 .0 ∙ (c .before .before .before .before .before .before .before .before .before .before .before .before .before .before .before .before .before .before .before .before) .root .kept .1 .1 .1 .0 ∙ room (c .before .before .before .before .before .before .before .before .before .before .before .before .before .before .before .before .before .before .before .before .before .before .before .before .before .before .before))  -- same-length
-    (λ c. (c .before .before .before .before) .from-root .kept .1 .1 .1 .1 .1 .0 ∙ (c .before .before .before .before .before .before .before .before .before .before .before .before .before .before .before .before .before .before .before .before) .root .kept .1 .1 .1 .1 .0)  -- same-length-2
+    (s .pre .0, ((b .kept .1 .1 .1 .0 ∙ s .pre .1 .0 .room, root-flags (s .args .table .now) (s .pre .0) _ (b .last .1 .1 .1 .0) (b .last .1 .1 .1 .1 .0) (b .ensures .0)), refl)))  -- build-requires
+    (λ c κs. let s = c .before .before .before .before .before .before .before .before .before .before .before .before .before .before .before .before .before .before .before .before .before .before .before .before .before .before .before .before .before .before .before .before .before in (s .pre .0, (((c .before .before .before .before .before .before .before .before .before .before .before .before .before .before .before .before .before .before .before .before .before .before .before .before .before .before .before .before) .slots .ensures, (c .before .before .before .before .before .before .before .before .before .before .before .before .before .before .before .before .before .before .before .before .before .before .before .before .before) .slots2 .ensures, (c .before .before .before .before .before .before) .build .ensures), (c .before .before .before .before .before .before .before .before .before .before .before .before .before .before .before) .root .ensures .0)))  -- from-root-requires
+    (λ c. (c .before .before .before .before) .from-root .kept .1 .1 .1 .1 .0 ∙ (c .before .before .before .before .before .before .before .before .before .before .before .before .before .before .before .before .before .before .before .before) .root .kept .1 .1 .1 .0)  -- same-length
+    (λ c. (c .before .before .before .before) .from-root .kept .1 .1 .1 .1 .1 .0 ∙ (c .before .before .before .before .before .before .before .before .before .before .before .before .before .before .before .before .before .before .before .before) .root .kept .1 .1 .1 .1 .0 ∙ (c .before .before .before .before .before .before .before .before .before .before .before .before .before .before .before .before .before .before .before .before .before .before .before .before .before .before .before) .bring .kept .0)  -- same-length-2
     (λ c.
-    let s = c .before .before .before .before .before .before .before .before .before .before .before .before .before .before .before .before .before .before .before .before .before .before .before .before .before .before .before .before .before .before .before .before .before .before in
+    let s = c .before .before .before .before .before .before .before .before .before .before .before .before .before .before .before .before .before .before .before .before .before .before .before .before .before .before .before .before .before .before .before .before .before .before .before .before .before .before in
     let w = relevancyWalker (s .args .table .now) in
     let f = c .before .before .before .before .from-root in (
       (c .before .before .before .before .before .before .before .before .before .before .before .before .before .before) .root-alternatives .ensures,
-      subst (λ (d : ℕ). Walks w (fromRoot w d (s .args .limit)) (f .result) (f .last .1 .1 .1 .1 .0) (f .last .1 .1 .1 .1 .1 .0)) ((c .before .before .before .before .before .before .before .before .before .before .before .before .before .before .before .before .before .before .before .before) .root .ensures .1 ∙ none-entered s) (f .ensures),
+      subst (λ (d : ℕ). Walks w (fromRoot w d (s .args .limit)) (f .result) (f .last .1 .1 .1 .1 .0) (f .last .1 .1 .1 .1 .1 .0)) ((c .before .before .before .before .before .before .before .before .before .before .before .before .before .before .before .before .before .before .before .before) .root .ensures .1 ∙ (c .before .before .before .before .before .before .before .before .before .before .before .before .before .before .before .before .before .before .before .before .before .before .before .before .before .before .before) .bring .ensures .0) (f .ensures),
     )))  -- returns
