@@ -5,14 +5,16 @@ use mathlib.Core.List.{List, _++_}
 use mathlib.Core.Path.{_≡_, refl, sym, ap, subst, _∙_}
 use native.Mathlib.Omega.{arith}
 use lib.Dec.{ltb}
-use lib.ListN.{length, take, drop, replicate}
+use lib.ListN.{length, take, drop, replicate, length-replicate}
 use borrow.Author.Tests.{lt-ltb, le-ltb, ltb-false}
+use Rattle.lists.proofs.Bytes.{zeros-at}
 use Rattle.search.specs.Machine.{deepestUnder}
 use Rattle.search.specs.Session.{firstSession}
 use Rattle.problem.specs.Layout.{problemIn}
 use Rattle.problem.specs.Table.{Lawful, isValid}
 use Rattle.writing.specs.contracts.Lent.{refusalOf}
 use Rattle.writing.proofs.LentLaws.{refused-says, Taken, taken}
+use Rattle.store.specs.contracts.Store.{Store}
 use Rattle.ground.specs.declared.verdict.Verdict.{Verdict}
 use Rattle.ground.specs.declared.verdict.Verdict.the-variants.{Refused}
 use Rattle.ground.specs.Verdict.{verdictOf, answerOf}
@@ -21,6 +23,7 @@ use Rattle.rewriting.specs.Facts.{findIn}
 use Rattle.rewriting.specs.contracts.Ruled.{Ruled}
 use Rattle.rewriting.specs.Rewrite.{rulesOver}
 use Rattle.walk.specs.contracts.Walker.{fromRoot}
+use Rattle.walk.proofs.WalkLaws.{blank-store}
 use Rattle.session.specs.declared.record.Moved.{Moved}
 use Rattle.session.specs.declared.record.Reply.{Reply}
 use Rattle.session.specs.Record.{laid}
@@ -28,6 +31,10 @@ use Rattle.session.specs.contracts.End.{Replied, Concluded}
 use Rattle.session.proofs.EndLaws.{first-concluded}
 use Rattle.magic_walk.specs.contracts.Place.{magicWalker}
 use Rattle.magic.specs.Engine.{rulesOutcome, magicTooShort, magicOutcome, magicDeepestIn, magicResult, magicDeepest, magicRules, magicAnswer, magicWork}
+
+-- zeros hold no fact
+pub no-facts : Store 2050 (replicate 6150 0) 0
+no-facts = blank-store 2050 (replicate 6150 0) (length-replicate {A = ℕ} 6150 0) (λ a l. zeros-at 6150 a)
 
 -- the rules of a valid table are the rules of its problem
 pub ruled : (tb rules : List ℕ) → Lawful tb → length (rulesOver tb rules) ≡ 16384 → Ruled (rulesOver tb rules)

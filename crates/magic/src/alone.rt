@@ -15,16 +15,16 @@ ghost use Rattle.session.specs.contracts.End.{Replied};
 ghost use Rattle.magic_walk.specs.contracts.Place.{magicWalker};
 ghost use Rattle.magic.specs.Engine.{magicOutcome, magicDeepestIn};
 
-// The run by the rules of a buffer under a limit, in a buffer for its facts.
-fn decide(rules: &[u8], limit: u32, answer: &mut [u8], facts: &mut [u8]) -> Reply
+// The run by the rules of a buffer under a limit, in a buffer for its path.
+fn decide(rules: &[u8], limit: u32, answer: &mut [u8], path: &mut [u8]) -> Reply
     requires { ⌜ Ruled (now rules) ⌝ }
-    requires { ⌜ (1024 ≤ length (now answer)) × (length (now facts) ≡ 6150) ⌝ }
+    requires { ⌜ (1024 ≤ length (now answer)) × (length (now path) ≡ 9227) ⌝ }
     ensures { λ r. ⌜ Replied (magicWalker (now (rules .entry))) limit (now (answer .entry)) r (now (answer .exit)) ⌝ }
 {
-    let mut path = [0u8; 9227];
-    let whole = walk_whole(rules, facts, &mut path, limit);
+    let mut facts = [0u8; 6150];
+    let whole = walk_whole(rules, &mut facts, path, limit);
     let walked = whole.walked;
-    reply(rules, facts, &path, answer, walked, limit)
+    reply(rules, &facts, path, answer, walked, limit)
 }
 
 // Rewrites a valid table, runs by the rules alone in the first part of the work buffer, and leaves it zero.
@@ -35,7 +35,7 @@ pub fn run(table: &[u8], rules: &mut [u8], answer: &mut [u8], work: &mut [u8]) -
 {
     write_rules(table, rules);
     let limit = limit_in(table);
-    let reply = decide(rules, limit, answer, &mut work[0..6150]);
+    let reply = decide(rules, limit, answer, &mut work[0..9227]);
     lists::zero(work);
     reply
 }

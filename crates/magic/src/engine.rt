@@ -30,16 +30,16 @@ ghost use Rattle.session.specs.Calls.{verdictTold, recordLeft, answerLeft, work
 ghost use Rattle.magic.specs.Engine.{rulesOutcome, magicOutcome, magicResult, magicDeepest, magicRules, magicAnswer, magicWork};
 ghost use Rattle.magic.specs.Sessions.{magicBegun, magicResumed, rulesLeft};
 
-// The run by the rules of a buffer under a limit, in a buffer for its facts.
-fn decide(rules: &[u8], limit: u32, answer: &mut [u8], facts: &mut [u8]) -> Moved
+// The run by the rules of a buffer under a limit, in a buffer for its path.
+fn decide(rules: &[u8], limit: u32, answer: &mut [u8], path: &mut [u8]) -> Moved
     requires { ⌜ Ruled (now rules) ⌝ }
-    requires { ⌜ (1024 ≤ length (now answer)) × (length (now facts) ≡ 6150) ⌝ }
+    requires { ⌜ (1024 ≤ length (now answer)) × (length (now path) ≡ 9227) ⌝ }
     ensures { λ r. ⌜ (r .verdict ≡ verdictOf (rulesOutcome (now (rules .entry)) limit)) × (r .session ≡ laid (firstSession (findIn (now (rules .entry))) limit)) × (now (answer .exit) ≡ answerOf (rulesOutcome (now (rules .entry)) limit) (now (answer .entry))) ⌝ }
 {
-    let mut path = [0u8; 9227];
-    let whole = walk_whole(rules, facts, &mut path, limit);
+    let mut facts = [0u8; 6150];
+    let whole = walk_whole(rules, &mut facts, path, limit);
     let walked = whole.walked;
-    conclude(rules, facts, &path, answer, walked, limit, whole.used)
+    conclude(rules, &facts, path, answer, walked, limit, whole.used)
 }
 
 // Rewrites a valid table, walks by the rules alone in the first part of the work buffer, and leaves it zero.
@@ -50,7 +50,7 @@ fn run(table: &[u8], rules: &mut [u8], answer: &mut [u8], work: &mut [u8]) -> Mo
 {
     write_rules(table, rules);
     let limit = limit_in(table);
-    let moved = decide(rules, limit, answer, &mut work[0..6150]);
+    let moved = decide(rules, limit, answer, &mut work[0..9227]);
     lists::zero(work);
     moved
 }

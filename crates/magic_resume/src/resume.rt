@@ -18,7 +18,7 @@ ghost use mathlib.Core.Path.{_≡_};
 ghost use Prim.Native.Nat.{_≤_};
 ghost use lib.ListN.{length};
 ghost use Rattle.rewriting.specs.contracts.Ruled.{Ruled};
-ghost use Rattle.magic_node.specs.contracts.Index.{RulesIndexed};
+ghost use Rattle.magic_rule.specs.contracts.Index.{RulesIndexed};
 ghost use Rattle.ground.specs.Instance.{Instance};
 ghost use Rattle.search.specs.Session.{pathOf, placeOf};
 ghost use Rattle.walk.specs.contracts.Walker.{Run};

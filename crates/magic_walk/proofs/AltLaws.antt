@@ -22,10 +22,10 @@ use Rattle.ground.proofs.AtomLaws.{number-takes, value-fits}
 use Rattle.rewriting.specs.Rules.{RuleGives, onward, alternatives}
 use Rattle.rewriting.specs.RulesLayout.{givenAtoms}
 use Rattle.rewriting.specs.contracts.Ruled.{Ruled, ruleAt, theRule}
-use Rattle.magic_node.specs.contracts.Choosing.{headsBy, ruleHeads}
-use Rattle.magic_node.specs.contracts.Applied.{siteWith, Applied}
-use Rattle.magic_node.specs.contracts.Watch.{sitePlace}
-use Rattle.magic_node.proofs.RuledLaws.{givenAtom, RuleRead, rule-read, ruled-few}
+use Rattle.magic_rule.specs.contracts.Choosing.{headsBy, ruleHeads}
+use Rattle.magic_rule.specs.contracts.Applied.{siteWith, Applied}
+use Rattle.magic_rule.specs.contracts.Watch.{sitePlace}
+use Rattle.magic_rule.proofs.RuledLaws.{givenAtom, RuleRead, rule-read, ruled-few}
 use Rattle.walk.specs.contracts.Walker.{Site}
 use Rattle.walk.specs.contracts.Path.{numberAt, fourAt, siteAt, altsAt}
 use Rattle.magic_walk.specs.contracts.Place.{ruleSite, siteAlts, Splitting, magicWalker}

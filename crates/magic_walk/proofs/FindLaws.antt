@@ -9,9 +9,9 @@ use Rattle.store.specs.contracts.Store.{logged}
 use Rattle.store.proofs.Laws.{store-few}
 use Rattle.ground.specs.Instance.{Instance}
 use Rattle.rewriting.specs.contracts.Ruled.{Ruled}
-use Rattle.magic_node.specs.contracts.Node.{HeldOpening, ClosedByRules, OpenByRules, SplitByRules, HeldSettled}
-use Rattle.magic_node.specs.declared.node.Node.{Node}
-use Rattle.magic_node.proofs.RuledLaws.{rule-read, ruled-few}
+use Rattle.magic_rule.specs.contracts.Node.{HeldOpening, ClosedByRules, OpenByRules, SplitByRules, HeldSettled}
+use Rattle.magic_rule.specs.declared.answer.Node.{Node}
+use Rattle.magic_rule.proofs.RuledLaws.{rule-read, ruled-few}
 use Rattle.walk.specs.contracts.Walker.{Site, Walker}
 use Rattle.walk.specs.contracts.Path.{Room, markAt, pathIn, siteAt, Noted}
 use Rattle.walk.specs.contracts.Place.{Finding}

@@ -15,9 +15,9 @@ use Rattle.ground.specs.Instance.{Instance}
 use Rattle.rewriting.specs.Facts.{falseIn, findIn}
 use Rattle.rewriting.specs.contracts.Ruled.{Ruled}
 use Rattle.rewriting.specs.contracts.Numbered.{relevantFact}
-use Rattle.magic_node.specs.contracts.Watch.{sitePlace, neededAt, siteGoals, Met}
-use Rattle.magic_node.specs.contracts.Node.{HeldOpening, HeldStarted, HeldSeeded}
-use Rattle.magic_node.proofs.WatchLaws.{met-grows}
+use Rattle.magic_rule.specs.contracts.Watch.{sitePlace, neededAt, siteGoals, Met}
+use Rattle.magic_rule.specs.contracts.Node.{HeldOpening, HeldStarted, HeldSeeded}
+use Rattle.magic_rule.proofs.WatchLaws.{met-grows}
 use Rattle.walk.specs.contracts.Walker.{Walker}
 use Rattle.walk.specs.contracts.Path.{Room, nextAt, markAt, Passed, siteAt, altsAt, entryAt, pathIn}
 use Rattle.walk.specs.contracts.Place.{Parted, Finding, Making}

@@ -17,8 +17,8 @@ use Rattle.rewriting.specs.Facts.{falseIn, findIn}
 use Rattle.rewriting.specs.contracts.Ruled.{Ruled}
 use Rattle.rewriting.proofs.LayoutLaws.{rules-back}
 use Rattle.rewriting.proofs.RegroupLaws.{rules-sound}
-use Rattle.magic_node.specs.contracts.Choosing.{ruleHeads}
-use Rattle.magic_node.proofs.FactLaws.{ruled-known, heads-small}
+use Rattle.magic_rule.specs.contracts.Choosing.{ruleHeads}
+use Rattle.magic_rule.proofs.FactLaws.{ruled-known, heads-small}
 use Rattle.walk.specs.contracts.Walker.{Site, Sound}
 use Rattle.walk.proofs.PathLaws.{genuine-enters}
 use Rattle.magic_walk.specs.contracts.Place.{ruleSite, siteAlts, Splitting, magicWalker}

@@ -26,8 +26,8 @@ use Rattle.rewriting.specs.Facts.{falseIn, magicIn, findIn}
 use Rattle.rewriting.specs.contracts.Ruled.{Ruled, ruleCount, theRule}
 use Rattle.rewriting.specs.contracts.Numbered.{headNumbers}
 use Rattle.rewriting.proofs.LayoutLaws.{noRule, counted}
-use Rattle.magic_node.specs.contracts.Choosing.{siteOf, headsBy, ruleHeads, RuleSite, ListedSite}
-use Rattle.magic_node.proofs.FactLaws.{rule-found, sites, ruleFor, magic-sites, sites-listed, heads-same}
+use Rattle.magic_rule.specs.contracts.Choosing.{siteOf, headsBy, ruleHeads, RuleSite, ListedSite}
+use Rattle.magic_rule.proofs.FactLaws.{rule-found, sites, ruleFor, magic-sites, sites-listed, heads-same}
 use Rattle.walk.specs.contracts.Left.{Tied}
 use Rattle.magic_walk.specs.contracts.Place.{magicWalker}
 

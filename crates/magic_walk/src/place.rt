@@ -1,10 +1,10 @@
 // A place of the walk: making the next one, from the path and the next alternative at each node.
 use ground::branch::NextBranch;
 use ground::branch::branch_after;
-use magic_node::close::start;
-use magic_node::fact::place_at;
-use magic_node::node::Node;
+use magic_close::close::start;
 use magic_node::node::settle;
+use magic_rule::answer::Node;
+use magic_rule::fact::place_at;
 use store::add;
 use walk::alternatives::Alternatives;
 use walk::answer::Found;
@@ -18,9 +18,9 @@ ghost use mathlib.Core.Path.{_≡_};
 ghost use Prim.Native.Nat.{ℕ, _+_, _<_};
 ghost use Rattle.store.specs.contracts.Store.{Store};
 ghost use Rattle.rewriting.specs.contracts.Ruled.{Ruled};
-ghost use Rattle.magic_node.specs.contracts.Index.{RulesIndexed};
-ghost use Rattle.magic_node.specs.contracts.Watch.{sitePlace};
-ghost use Rattle.magic_node.specs.contracts.Node.{HeldOpening};
+ghost use Rattle.magic_rule.specs.contracts.Index.{RulesIndexed};
+ghost use Rattle.magic_rule.specs.contracts.Watch.{sitePlace};
+ghost use Rattle.magic_rule.specs.contracts.Node.{HeldOpening};
 ghost use Rattle.ground.specs.contracts.Branching.{NextOf};
 ghost use Rattle.ground.specs.declared.branch.NextBranch.the-variants.{Atom};
 ghost use Rattle.walk.specs.contracts.Alternatives.{listed, Listing};

@@ -9,7 +9,7 @@ use walk::node::mark;
 ghost use mathlib.Core.Path.{_≡_};
 ghost use Prim.Native.Nat.{_≤_};
 ghost use Rattle.rewriting.specs.contracts.Ruled.{Ruled};
-ghost use Rattle.magic_node.specs.contracts.Index.{RulesIndexed};
+ghost use Rattle.magic_rule.specs.contracts.Index.{RulesIndexed};
 ghost use Rattle.ground.specs.Instance.{Instance};
 ghost use Rattle.walk.specs.contracts.Walker.{Run, fromRoot};
 ghost use Rattle.walk.specs.contracts.Path.{markAt, deepestAt};

@@ -12,10 +12,10 @@ use Rattle.search.specs.Machine.{entered, Genuine}
 use Rattle.ground.specs.Instance.{Instance}
 use Rattle.rewriting.specs.Facts.{falseIn, findIn}
 use Rattle.rewriting.specs.contracts.Ruled.{theRule}
-use Rattle.magic_node.specs.contracts.Choosing.{siteOf, ruleHeads, RuleSite, ListedSite}
-use Rattle.magic_node.specs.contracts.Watch.{sitePlace, Rested}
-use Rattle.magic_node.specs.contracts.Implied.{extended}
-use Rattle.magic_node.specs.contracts.Node.{HeldStands, Following, HeldSeeded}
+use Rattle.magic_rule.specs.contracts.Choosing.{siteOf, ruleHeads, RuleSite, ListedSite}
+use Rattle.magic_rule.specs.contracts.Watch.{sitePlace, Rested}
+use Rattle.magic_rule.specs.contracts.Implied.{extended}
+use Rattle.magic_rule.specs.contracts.Node.{HeldStands, Following, HeldSeeded}
 use Rattle.walk.specs.contracts.Walker.{Site, Walker}
 use Rattle.walk.specs.contracts.Path.{markAt, pathIn}
 use Rattle.walk.specs.contracts.Place.{NodesNamed}

@@ -28,12 +28,12 @@ wrote l = l .before .before .before
 abbrev begun : tie.After-limit-in → tie.Start
 begun l = l .before .before .before .before .before .before .before .before .before
 
--- the facts lie in the first part of the work buffer
-part : (s : tie.Start) → length (take 6150 (s .args .work .now)) ≡ 6150
-part s = length-take-le 6150 (s .args .work .now) (omega (arith, s .pre .1 .2))
+-- the path lies in the first part of the work buffer
+part : (s : tie.Start) → length (take 9227 (s .args .work .now)) ≡ 9227
+part s = length-take-le 9227 (s .args .work .now) (omega (arith, s .pre .1 .2))
 
-whole : (d : tie.After-decide) → let s = begun (d .before .before .before .before) in length (d .decide .last .1 .1 .1 .0 ++ drop 6150 (s .args .work .now)) ≡ 65536
-whole d = let s = begun (d .before .before .before .before) in put-size 6150 65536 (omega arith) (s .args .work .now) (s .pre .1 .2) (d .decide .last .1 .1 .1 .0) (d .decide .kept .1 .1 .1 .0 ∙ part s)
+whole : (d : tie.After-decide) → let s = begun (d .before .before .before .before) in length (d .decide .last .1 .1 .1 .0 ++ drop 9227 (s .args .work .now)) ≡ 65536
+whole d = let s = begun (d .before .before .before .before) in put-size 9227 65536 (omega arith) (s .args .work .now) (s .pre .1 .2) (d .decide .last .1 .1 .1 .0) (d .decide .kept .1 .1 .1 .0 ∙ part s)
 
 -- it walks by the rules written, under the table's limit
 same : (l : tie.After-limit-in) (X : Type 0) (f : List ℕ → ℕ → X) → let s = begun l in f (wrote l .write-rules .last .1 .0) (l .limit-in .result) ≡ f (rulesOver (s .args .table .now) (s .args .rules .now)) (limitOf ((problemIn (s .args .table .now)) .limit))

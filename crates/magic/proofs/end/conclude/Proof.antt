@@ -6,7 +6,7 @@ use native.Mathlib.Omega.{arith}
 use borrow.Author.Needs.{needs}
 use Rattle.rewriting.specs.Facts.{falseIn}
 use Rattle.session.proofs.EndLaws.{ends-within, concluded}
-use Rattle.magic_node.proofs.RuledLaws.{ruled-headed, ruled-false}
+use Rattle.magic_rule.proofs.RuledLaws.{ruled-headed, ruled-false}
 use Rattle.magic_walk.specs.contracts.Place.{magicWalker}
 use Rattle.magic_walk.proofs.TiedLaws.{magic-tied}
 use Rattle.magic.proofs.end.conclude.Statement.{statement}

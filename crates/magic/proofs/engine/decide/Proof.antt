@@ -5,7 +5,7 @@ use borrow.Author.Needs.{needs}
 use lib.ListN.{length-replicate}
 use Rattle.walk.specs.contracts.Walker.{fromRoot}
 use Rattle.magic_walk.specs.contracts.Place.{magicWalker}
-use Rattle.magic.proofs.EngineLaws.{first-run}
+use Rattle.magic.proofs.EngineLaws.{no-facts, first-run}
 use Rattle.magic.proofs.engine.decide.Statement.{statement}
 use Rattle.magic.proofs.engine.decide.Tie as tie
 
@@ -14,15 +14,15 @@ decide-spec =
     tie.close
     (tie.spec
     (λ c. search needs)  -- slice-aggregate-walk-whole
-    (λ c κs. search needs)  -- walk-whole-requires
+    (λ c κs. let s = c .before .before .before .before .before in (s .pre .0, (no-facts, s .pre .1 .1)))  -- walk-whole-requires
     (λ c. search needs)  -- slice-aggregate-conclude
     (λ c κs.
     let s = c .before .before .before .before .before .before .before .before .before .before .before .before in
     let w = c .before .before .before .before .before .before .walk-whole in (
       s .pre .0,
       (
-        w .kept .1 .1 .0 ∙ length-replicate {A = ℕ} 9227 0,
-        ((s .pre .1 .0, w .kept .1 .0 ∙ s .pre .1 .1), ((fromRoot (magicWalker (s .args .rules .now)) 0 (s .args .limit), (refl, w .ensures .1)), w .ensures .0)),
+        w .kept .1 .1 .0 ∙ s .pre .1 .1,
+        ((s .pre .1 .0, w .kept .1 .0 ∙ length-replicate {A = ℕ} 6150 0), ((fromRoot (magicWalker (s .args .rules .now)) 0 (s .args .limit), (refl, w .ensures .1)), w .ensures .0)),
       ),
     ))  -- conclude-requires
     (λ c. search needs)  -- same-length

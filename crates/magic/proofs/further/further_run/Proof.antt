@@ -6,15 +6,14 @@ use mathlib.Core.Path.{_≡_, refl, sym, ap, _∙_}
 use native.Mathlib.Omega.{arith}
 use borrow.Author.Needs.{needs}
 use lib.ListN.{length, replicate, length-replicate}
-use Rattle.lists.proofs.Bytes.{zeros-at}
 use Rattle.rewriting.specs.Facts.{findIn}
 use Rattle.walk.specs.contracts.Path.{deepestAt}
-use Rattle.walk.proofs.WalkLaws.{blank-store}
 use Rattle.session.specs.Calls.{calledIn}
 use Rattle.session.proofs.CallLaws.{isKeptOver, is-kept}
 use Rattle.session.proofs.EndLaws.{further-nowhere, further-walks, further-concluded}
 use Rattle.magic_walk.specs.contracts.Place.{magicWalker}
 use Rattle.magic.proofs.FurtherLaws.{says-declined}
+use Rattle.magic.proofs.EngineLaws.{no-facts}
 use Rattle.magic.proofs.further.further_run.Statement.{statement}
 use Rattle.magic.proofs.further.further_run.Tie as tie
 
@@ -54,7 +53,7 @@ further-run-spec =
     (λ c κs.
     let s = c .before .before .before .before .before .before .before .before .before .before .before .before .before .before .before in
     let size : length ((c .before .before .before .before) .bring .last .0) ≡ 9227 = c .before .before .before .before .bring .kept .0 ∙ length-replicate {A = ℕ} 9227 0 in
-    (s .pre .0, ((c .before .before .before .before .before .before .before .before .before .before .before) .build .ensures, (blank-store 2050 (replicate 6150 0) (length-replicate {A = ℕ} 6150 0) (λ a l. zeros-at 6150 a), record { size = size; deep = omega arith }))))  -- root-requires
+    (s .pre .0, ((c .before .before .before .before .before .before .before .before .before .before .before) .build .ensures, (no-facts, record { size = size; deep = omega arith }))))  -- root-requires
     (λ c. search needs)  -- slice-aggregate-root-alternatives
     (λ c κs.
     let s = c .before .before .before .before .before .before .before .before .before .before .before .before .before .before .before .before .before .before .before in

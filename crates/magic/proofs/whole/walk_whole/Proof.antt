@@ -1,66 +1,29 @@
 -- `magic::whole::walk_whole` meets its contract.
 use Prim.Native.Nat.{ℕ}
-use mathlib.Core.List.{_++_}
-use mathlib.Core.Path.{_≡_, refl, sym, ap, subst, _∙_}
+use mathlib.Core.Path.{_≡_, subst, _∙_}
 use native.Mathlib.Omega.{arith}
 use borrow.Author.Needs.{needs}
-use lib.ListN.{length, take, drop, length-replicate}
-use lib.Seq.{length-take-le}
-use Rattle.lists.proofs.Bytes.{zeros-at}
-use Rattle.store.proofs.Lent.{put-size}
 use Rattle.walk.specs.contracts.Walker.{fromRoot}
-use Rattle.walk.specs.contracts.Path.{deepestAt}
 use Rattle.walk.specs.contracts.Walk.{Walks}
-use Rattle.walk.proofs.WalkLaws.{cleared-store}
 use Rattle.magic_walk.specs.contracts.Place.{magicWalker}
 use Rattle.magic.proofs.whole.walk_whole.Statement.{statement}
 use Rattle.magic.proofs.whole.walk_whole.Tie as tie
-
--- the path is blank, and has no entry
-none-entered : (s : tie.Start) → deepestAt (s .args .path .now) ≡ 0
-none-entered s = ap deepestAt (s .pre .1 .1) ∙ omega (arith, zeros-at 9227 9225, zeros-at 9227 9226)
-
--- the flags come first, and they alone are lent to be made zero
-flags : (s : tie.Start) → length (take 2050 (s .args .facts .now)) ≡ 2050
-flags s = length-take-le 2050 (s .args .facts .now) (omega (arith, s .pre .1 .0))
-
-room : (z : tie.After-zero) → length (z .zero .last .0 ++ drop 2050 (z .before .before .before .before .before .before .before .args .facts .now)) ≡ length (z .before .before .before .before .before .before .before .args .facts .now)
-room z =
-    let s = z .before .before .before .before .before .before .before in
-    put-size 2050 (length (s .args .facts .now)) (omega (arith, s .pre .1 .0)) (s .args .facts .now) refl (z .zero .last .0) (z .zero .kept .0 ∙ flags s)
 
 pub walk-whole-spec : {M : Type 1} → statement M
 walk-whole-spec =
     tie.close
     (tie.spec
     (λ c κs. search needs)  -- build-requires
-    (λ c. let s = c .before .before .before .before .before in omega (arith, s .pre .1 .0))  -- slice-relend-prefix-zero
-    (λ c. sym (flags (c .before .before .before .before .before .before)))  -- slice-aggregate-zero
-    (λ c κs. search needs)  -- zero-requires
-    (λ c κs.
-    let s = c .before .before .before .before .before .before .before .before .before .before .before .before in
-    let z = c .before .before .before .before .before .zero in (
-      s .pre .0,
-      (
-        (c .before .before .before .before .before .before .before) .build .ensures,
-        (cleared-store 2050 (s .args .facts .now) (z .last .0) (s .pre .1 .0) (z .ensures), record { size = ap length (s .pre .1 .1) ∙ length-replicate {A = ℕ} 9227 0; deep = omega arith }),
-      ),
-    ))  -- root-requires
-    (λ c κs.
-    let s = c .before .before .before .before .before .before .before .before .before .before .before .before .before .before .before .before .before .before in
-    let b = c .before .before .before .before .before .root in
-    (s .pre .0, (b .last .1 .1 .0, b .ensures .0)))  -- root-alternatives-requires
-    (λ c κs.
-    let s = c .before .before .before .before .before .before .before .before .before .before .before .before .before .before .before .before .before .before .before .before .before .before in
-    let b = c .before .before .before .before .before .before .before .before .before .root in
-    (s .pre .0, ((c .before .before .before .before .before .before .before .before .before .before .before .before .before .before .before .before .before) .build .ensures, (b .ensures .0, b .ensures .1))))  -- from-root-requires
+    (λ c κs. let s = c .before .before .before .before .before .before in (s .pre .1 .1, omega arith))  -- bring-requires
+    (λ c κs. let s = c .before .before .before .before .before .before .before .before .before .before .before .before in (s .pre .0, ((c .before .before .before .before .before .before .before) .build .ensures, (s .pre .1 .0, record { size = c .before .before .before .before .before .bring .kept .0 ∙ s .pre .1 .1; deep = omega arith }))))  -- root-requires
+    (λ c κs. let s = c .before .before .before .before .before .before .before .before .before .before .before .before .before .before .before .before .before .before in let b = c .before .before .before .before .before .root in (s .pre .0, (b .last .1 .1 .0, b .ensures .0)))  -- root-alternatives-requires
+    (λ c κs. let s = c .before .before .before .before .before .before .before .before .before .before .before .before .before .before .before .before .before .before .before .before .before .before in let b = c .before .before .before .before .before .before .before .before .before .root in (s .pre .0, ((c .before .before .before .before .before .before .before .before .before .before .before .before .before .before .before .before .before) .build .ensures, (b .ensures .0, b .ensures .1))))  -- from-root-requires
     (λ c. search needs)  -- same-length
     (λ c. search needs)  -- same-length-2
     (λ c.
     let s = c .before .before .before .before .before .before .before .before .before .before .before .before .before .before .before .before .before .before .before .before .before .before .before .before .before .before .before in
-    let b = c .before .before .before .before .before .before .before .before .before .before .before .before .before .before .root in
     let w = magicWalker (s .args .rules .now) in
     let f = c .before .before .before .before .from-root in (
       (c .before .before .before .before .before .before .before .before) .root-alternatives .ensures,
-      subst (λ (d : ℕ). Walks w (fromRoot w d (s .args .limit)) (f .result) (f .last .1 .1 .0) (f .last .1 .1 .1 .0)) (b .ensures .2 ∙ none-entered s) (f .ensures),
+      subst (λ (d : ℕ). Walks w (fromRoot w d (s .args .limit)) (f .result) (f .last .1 .1 .0) (f .last .1 .1 .1 .0)) ((c .before .before .before .before .before .before .before .before .before .before .before .before .before .before) .root .ensures .2 ∙ (c .before .before .before .before .before .before .before .before .before .before .before .before .before .before .before .before .before .before .before .before) .bring .ensures .0) (f .ensures),
     )))  -- returns

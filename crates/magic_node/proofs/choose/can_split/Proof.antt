@@ -1,7 +1,7 @@
 -- `magic_node::choose::can_split` meets its contract.
 use mathlib.Core.Path.{sym}
 use borrow.Author.Tests.{not-true, not-false}
-use Rattle.magic_node.proofs.AskLaws.{ready-unmet, ready-rest}
+use Rattle.magic_rule.proofs.AskLaws.{ready-unmet, ready-rest}
 use Rattle.magic_node.proofs.choose.can_split.Statement.{statement}
 use Rattle.magic_node.proofs.choose.can_split.Tie as tie
 

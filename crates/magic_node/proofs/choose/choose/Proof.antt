@@ -4,8 +4,8 @@ use mathlib.Core.Path.{sym, _∙_}
 use native.Mathlib.Omega.{arith}
 use borrow.Author.Needs.{needs}
 use Rattle.rewriting.specs.contracts.Ruled.{ruleCount}
-use Rattle.magic_node.specs.contracts.Watch.{Unready}
-use Rattle.magic_node.proofs.ChooseLaws.{choice-other, choose-begins, choose-found, choose-next, choose-over}
+use Rattle.magic_rule.specs.contracts.Watch.{Unready}
+use Rattle.magic_rule.proofs.ChooseLaws.{choice-other, choose-begins, choose-found, choose-next, choose-over}
 use Rattle.magic_node.proofs.choose.choose.Statement.{statement}
 use Rattle.magic_node.proofs.choose.choose.Tie as tie
 

@@ -9,11 +9,11 @@ use Rattle.lists.specs.Member.{All}
 use Rattle.ground.specs.contracts.Placed.{Stepped}
 use Rattle.ground.proofs.Sites.{turning-below, turning-on}
 use Rattle.rewriting.specs.contracts.Ruled.{theRule}
-use Rattle.magic_node.specs.contracts.Choosing.{readySite}
-use Rattle.magic_node.specs.contracts.Applied.{ownValues}
-use Rattle.magic_node.proofs.FactLaws.{pair-at}
-use Rattle.magic_node.proofs.RuledLaws.{RuleRead, rule-read}
-use Rattle.magic_node.proofs.ChooseLaws.{siteWith, RuleTurn, choose-never, choose-past, choose-from, choose-here, choose-none}
+use Rattle.magic_rule.specs.contracts.Choosing.{readySite}
+use Rattle.magic_rule.specs.contracts.Applied.{ownValues}
+use Rattle.magic_rule.proofs.FactLaws.{pair-at}
+use Rattle.magic_rule.proofs.RuledLaws.{RuleRead, rule-read}
+use Rattle.magic_rule.proofs.ChooseLaws.{siteWith, RuleTurn, choose-never, choose-past, choose-from, choose-here, choose-none}
 use Rattle.magic_node.proofs.choose.choose_of.Statement.{statement}
 use Rattle.magic_node.proofs.choose.choose_of.Tie as tie
 

@@ -7,11 +7,11 @@ use Rattle.lists.specs.Member.{every}
 use Rattle.lists.specs.Tabulate.{tabulate}
 use Rattle.lists.specs.Bytes.{isSet}
 use Rattle.ground.proofs.AtomLaws.{every-more, every-stops}
-use Rattle.magic_node.specs.contracts.Choosing.{ruleHeads}
-use Rattle.magic_node.specs.contracts.Applied.{ownValues}
-use Rattle.magic_node.specs.contracts.Rule.{givenCount, givenNumber}
-use Rattle.magic_node.proofs.RuledLaws.{RuleRead, rule-read}
-use Rattle.magic_node.proofs.AskLaws.{given-in, heads-row}
+use Rattle.magic_rule.specs.contracts.Choosing.{ruleHeads}
+use Rattle.magic_rule.specs.contracts.Applied.{ownValues}
+use Rattle.magic_rule.specs.contracts.Rule.{givenCount, givenNumber}
+use Rattle.magic_rule.proofs.RuledLaws.{RuleRead, rule-read}
+use Rattle.magic_rule.proofs.AskLaws.{given-in, heads-row}
 use Rattle.magic_node.proofs.choose.none_true.Statement.{statement}
 use Rattle.magic_node.proofs.choose.none_true.Tie as tie
 

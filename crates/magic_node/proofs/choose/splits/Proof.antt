@@ -1,7 +1,7 @@
 -- `magic_node::choose::splits` meets its contract.
 use native.Mathlib.Omega.{arith}
-use Rattle.magic_node.proofs.RuledLaws.{rule-read}
-use Rattle.magic_node.proofs.AskLaws.{onward-whole, few-whole, splits-not, splits-so}
+use Rattle.magic_rule.proofs.RuledLaws.{rule-read}
+use Rattle.magic_rule.proofs.AskLaws.{onward-whole, few-whole, splits-not, splits-so}
 use Rattle.magic_node.proofs.choose.splits.Statement.{statement}
 use Rattle.magic_node.proofs.choose.splits.Tie as tie
 

@@ -4,8 +4,8 @@ use mathlib.Core.Path.{sym}
 use native.Mathlib.Omega.{arith}
 use lib.ListN.{replicate, getD}
 use lib.Seq.{length-take-le}
-use Rattle.magic_node.proofs.RuledLaws.{RuleRead, rule-read}
-use Rattle.magic_node.proofs.ChooseLaws.{spelled-ranked}
+use Rattle.magic_rule.proofs.RuledLaws.{RuleRead, rule-read}
+use Rattle.magic_rule.proofs.ChooseLaws.{spelled-ranked}
 use Rattle.magic_node.proofs.choose.values_at.Statement.{statement}
 use Rattle.magic_node.proofs.choose.values_at.Tie as tie
 

@@ -2,7 +2,7 @@
 use Prim.Native.Nat.{_<_}
 use native.Mathlib.Omega.{arith}
 use borrow.Author.Needs.{needs}
-use Rattle.magic_node.proofs.RuledLaws.{ruled-headed}
+use Rattle.magic_rule.proofs.RuledLaws.{ruled-headed}
 use Rattle.magic_walk.proofs.AltLaws.{read-few, read-slots, read-next}
 use Rattle.magic_walk.proofs.place.alternative_at.Statement.{statement}
 use Rattle.magic_walk.proofs.place.alternative_at.Tie as tie

@@ -1,7 +1,7 @@
 -- `magic_walk::place::find` meets its contract.
 use mathlib.Core.Path.{_∙_}
 use borrow.Author.Needs.{needs}
-use Rattle.magic_node.specs.contracts.Node.{SplitByRules, HeldSettled}
+use Rattle.magic_rule.specs.contracts.Node.{SplitByRules, HeldSettled}
 use Rattle.magic_walk.proofs.FindLaws.{settled-as, split-few, node-closed, node-open, node-split}
 use Rattle.magic_walk.proofs.place.find.Statement.{statement}
 use Rattle.magic_walk.proofs.place.find.Tie as tie
