@@ -16,15 +16,16 @@ use Rattle.search.specs.Ground.{Ground, Found, closed, opened, split}
 use Rattle.search.specs.Relevancy.{isTrue, isRelevant, splittable, branches, modelBits, foundAs, withAlts, findR}
 use Rattle.search.specs.Choice.{CanSplit, FirstSplit}
 use Rattle.search.specs.Staged.{stepMarks, nextStage, stageOf, firstSplit, markFrom, marking, findS}
-use Rattle.search.specs.StagedClaims.{Over, markedAt, Unsplit, StageSplit, StagedChoice}
+use Rattle.search.specs.StagedClaims.{Over, markedAt, Unsplit, StageSplit, MarkingIs, StagedChoice}
 use Rattle.search.proofs.Found.{foundAs-closed, foundAs-closes, foundAs-opened, foundAs-split, withAlts-none, withAlts-some, findR-opened}
 use Rattle.search.proofs.Choice.{first-can, none-can}
 use Rattle.search.proofs.Staged.{left, left-length, left-still, still-over, stage-relevant, marking-ends}
 
 module _ {I : Type 0} (p : Ground I) (t : ℕ → Bool) where
-  -- marking ended at the first stage with an instance that can be split
-  pub record SplitStage (i : I) : Type 0 where
+  -- marking ended, with the marks s, at the first stage with an instance that can be split
+  pub record SplitStage (i : I) (s : List ℕ) : Type 0 where
     pub stage : ℕ
+    pub marks-are : s ≡ stageOf p t stage
     pub there : firstSplit p t (stageOf p t stage) ≡ some i
     pub before : (k : ℕ) → k < stage → firstSplit p t (stageOf p t k) ≡ none
 
@@ -34,9 +35,10 @@ module _ {I : Type 0} (p : Ground I) (t : ℕ → Bool) where
     pub marks-are : s ≡ stageOf p t stage
     pub over : Over p t stage
     pub unsplit : firstSplit p t (stageOf p t stage) ≡ none
+    pub before : (k : ℕ) → k < stage → firstSplit p t (stageOf p t k) ≡ none
 
   Ended : Option I → List ℕ → Type 0
-  Ended (some i) s = SplitStage i
+  Ended (some i) s = SplitStage i s
   Ended none s = OverStage s
 
   -- marking from stage k on ends so, if no stage before it could be split and the fuel is enough
@@ -46,8 +48,8 @@ module _ {I : Type 0} (p : Ground I) (t : ℕ → Bool) where
   ended zero k h b = go (firstSplit p t (stageOf p t k)) refl
     where
       go : (o : Option I) → firstSplit p t (stageOf p t k) ≡ o → Ended o (stageOf p t k)
-      go (some i) e = record { stage = k; there = e; before = b }
-      go none e = record { stage = k; marks-are = refl; over = still-over p t k (left-still p t (stageOf p t k) (omega arith)); unsplit = e }
+      go (some i) e = record { stage = k; marks-are = refl; there = e; before = b }
+      go none e = record { stage = k; marks-are = refl; over = still-over p t k (left-still p t (stageOf p t k) (omega arith)); unsplit = e; before = b }
   ended (suc n) k h b = go (firstSplit p t (stageOf p t k)) refl (ended n (suc k))
     where
       Later : Type 0
@@ -70,7 +72,7 @@ module _ {I : Type 0} (p : Ground I) (t : ℕ → Bool) where
 
       stepped : firstSplit p t (stageOf p t k) ≡ none → Later → (d : Bool) → every (has natKey (stageOf p t k)) (stepMarks p t (stageOf p t k)) ≡ d
           → Ended ((result none d) .0) ((result none d) .1)
-      stepped e later true q = record { stage = k; marks-are = refl; over = still-over p t k (every-all (has natKey (stageOf p t k)) (stepMarks p t (stageOf p t k)) (subst T (sym q) tt)); unsplit = e }
+      stepped e later true q = record { stage = k; marks-are = refl; over = still-over p t k (every-all (has natKey (stageOf p t k)) (stepMarks p t (stageOf p t k)) (subst T (sym q) tt)); unsplit = e; before = b }
       stepped e later false q = later (less (lt-or-le (left p t (stageOf p t (suc k))) (left p t (stageOf p t k)))) (none-yet e)
         where
           less : (left p t (stageOf p t (suc k)) < left p t (stageOf p t k)) ⊎ (left p t (stageOf p t k) ≤ left p t (stageOf p t (suc k))) → left p t (stageOf p t (suc k)) ≤ n
@@ -79,13 +81,13 @@ module _ {I : Type 0} (p : Ground I) (t : ℕ → Bool) where
 
       go : (o : Option I) → firstSplit p t (stageOf p t k) ≡ o → Later
           → Ended ((result o (every (has natKey (stageOf p t k)) (stepMarks p t (stageOf p t k)))) .0) ((result o (every (has natKey (stageOf p t k)) (stepMarks p t (stageOf p t k)))) .1)
-      go (some i) e later = record { stage = k; there = e; before = b }
+      go (some i) e later = record { stage = k; marks-are = refl; there = e; before = b }
       go none e later = stepped e later (every (has natKey (stageOf p t k)) (stepMarks p t (stageOf p t k))) refl
 
   marking-ended : Ended ((marking p t) .0) ((marking p t) .1)
   marking-ended = ended (length (p .instances)) 0 (left-length p t (stageOf p t 0)) (λ j l. absurd (omega arith))
 
-  marking-split : (i : I) → (marking p t) .0 ≡ some i → SplitStage i
+  marking-split : (i : I) → (marking p t) .0 ≡ some i → SplitStage i ((marking p t) .1)
   unfolding Ended
   marking-split i e = subst (λ (o : Option I). Ended o ((marking p t) .1)) e marking-ended
 
@@ -119,7 +121,7 @@ module _ {I : Type 0} (p : Ground I) (l : List ℕ) where
   unfolding findS
   findS-closes t = foundAs-closes (isTrue p l (p .atoms)) _ _ t
 
-  pub findS-split : (i : I) (ds : List ℕ) → findS p l ≡ split i ds → SplitStage p (isTrue p l) i × (ds ≡ branches (p .alts i))
+  pub findS-split : (i : I) (ds : List ℕ) → findS p l ≡ split i ds → SplitStage p (isTrue p l) i ((marking p (isTrue p l)) .1) × (ds ≡ branches (p .alts i))
   unfolding findS
   findS-split i ds e =
       let f = (foundAs-split (isTrue p l (p .atoms)) _ _ i ds e) .1 in
@@ -153,8 +155,8 @@ module _ {I : Type 0} (p : Ground I) (l : List ℕ) where
       let f = findS-opened bits e in
       none-less p (isTrue p l) (markedAt p l k) (markedAt p l (f .stage)) (f .over k) (none-can p (isTrue p l) (markedAt p l (f .stage)) (f .unsplit))
 
-  stage-split : (i : I) → SplitStage p (isTrue p l) i → StageSplit p l i
-  stage-split i s =
+  stage-split : (i : I) (m : List ℕ) → SplitStage p (isTrue p l) i m → StageSplit p l i
+  stage-split i m s =
       record {
         stage = s .stage;
         first-there = first-can p (isTrue p l) (markedAt p l (s .stage)) i (s .there);
@@ -190,14 +192,37 @@ module _ {I : Type 0} (p : Ground I) (l : List ℕ) where
       go closed q = absurd (T-not (isTrue p l (p .atoms)) (o .0) (findS-closed q))
       go (opened b) q = let same : opened b ≡ opened bits = sym (opened-to b q) ∙ e in q ∙ same
       go (split i ds) q =
-          let s = stage-split i ((findS-split i ds q) .0) in
+          let s = stage-split i ((marking p (isTrue p l)) .1) ((findS-split i ds q) .0) in
           absurd (first-barred p (isTrue p l) (markedAt p l (s .stage)) i (s .first-there) (unsplit (s .stage)))
+
+  pub marking-is : MarkingIs p l
+  unfolding Ended
+  marking-is = go ((marking p (isTrue p l)) .0) (marking-ended p (isTrue p l))
+    where
+      unsplit : (k : ℕ) → firstSplit p (isTrue p l) (stageOf p (isTrue p l) k) ≡ none → Unsplit p l k
+      unsplit k = none-can p (isTrue p l) (markedAt p l k)
+
+      go : (o : Option I) → Ended p (isTrue p l) o ((marking p (isTrue p l)) .1) → MarkingIs p l
+      go (some i) s =
+          record {
+            stage = s .stage;
+            marks-are = s .marks-are;
+            none-before = λ k h. unsplit k (s .before k h);
+            ends = inl (i, first-can p (isTrue p l) (markedAt p l (s .stage)) i (s .there));
+          }
+      go none s =
+          record {
+            stage = s .stage;
+            marks-are = s .marks-are;
+            none-before = λ k h. unsplit k (s .before k h);
+            ends = inr (s .over, unsplit (s .stage) (s .unsplit));
+          }
 
   pub staged-chooses : StagedChoice p l
   staged-chooses =
       record {
         closed-exactly = (findS-closed, findS-closes);
-        split-first = λ i ds e. let f = findS-split i ds e in (stage-split i (f .0), f .1);
+        split-first = λ i ds e. let f = findS-split i ds e in (stage-split i ((marking p (isTrue p l)) .1) (f .0), f .1);
         opened-unsplit = λ bits e.
             let f = findS-opened bits e in
             (never-split bits e, record { stage = f .stage; over = f .over; bits-are = f .bits-are });

@@ -13,6 +13,7 @@ use Rattle.search.specs.Closure.{Rule}
 use Rattle.search.specs.Ground.{Ground, Found}
 use Rattle.search.specs.Relevancy.{findR}
 use Rattle.search.specs.Magic.{rewriting, findM}
+use Rattle.search.specs.Staged.{findS}
 use Rattle.search.specs.Machine.{entered, Satisfied, last, root, trail, outcome}
 use Rattle.search.specs.Trails.{SameFacts, OneTrail}
 use Rattle.search.specs.Claims.{Smallest, AnyWalk, lastPlace, modelAt, ByHolding, Theorems}
@@ -26,7 +27,7 @@ use Rattle.search.proofs.Choice.{relevancy-chooses, magic-chooses}
 use Rattle.search.proofs.Relevancy.{asks-by}
 use Rattle.search.proofs.Model.{relevancy-sound}
 use Rattle.search.proofs.Staged.{stages, marking-ends}
-use Rattle.search.proofs.StagedChoice.{staged-chooses}
+use Rattle.search.proofs.StagedChoice.{opened-to, marking-is, staged-chooses}
 use Rattle.search.proofs.StagedSound.{staged-sound, never-contradict}
 use Rattle.search.proofs.OneTrail.{magic-same, same-facts, trail-same, outcome-same}
 use Rattle.search.proofs.MagicPath.{magic-sound}
@@ -49,6 +50,11 @@ any-walk find =
 
 model-given : {I : Type 0} (p : Ground I) (limit n : ℕ) (bits : List Bool) → outcome (findR p) limit ≡ Satisfied n bits → bits ≡ modelAt p (lastPlace (findR p) limit)
 model-given p limit n bits e = sym ((findR-opened p (entered ((lastPlace (findR p) limit) .path)) bits ((last-opened (findR p) limit n bits e) .1)) .2)
+
+staged-model-given : {I : Type 0} (p : Ground I) (limit n : ℕ) (bits : List Bool) → outcome (findS p) limit ≡ Satisfied n bits → bits ≡ modelAt p (lastPlace (findS p) limit)
+staged-model-given p limit n bits e =
+    let l = entered ((lastPlace (findS p) limit) .path) in
+    sym ((findR-opened p l bits (opened-to p l bits ((last-opened (findS p) limit n bits e) .1))) .2)
 
 one-trail : {I : Type 0} (k : Key I) (p : Ground I) (limit : ℕ) → OneTrail k p limit
 one-trail k p limit =
@@ -88,8 +94,10 @@ theorems =
       staged-chooses = staged-chooses;
       stages = stages;
       marking-ends = marking-ends;
+      marking-is = marking-is;
       entered-once = each-once natKey;
       model-given = model-given;
+      staged-model-given = staged-model-given;
       one-trail = one-trail;
       by-holding = by-holding;
       one-walk-kept = one-walk-kept;

@@ -9,6 +9,7 @@ use Rattle.lists.specs.Tabulate.{tabulate}
 use Rattle.search.specs.Ground.{Ground, Found}
 use Rattle.search.specs.Relevancy.{findR}
 use Rattle.search.specs.Magic.{rewriting, findM}
+use Rattle.search.specs.Staged.{findS}
 use Rattle.search.specs.Machine.{Outcome, Satisfied, Refuted, Exhausted, outcome, deepestUnder}
 
 -- an instance: its conditions, and its alternatives
@@ -90,6 +91,71 @@ cases =
     ∷ deepThenShallow
     ∷ []
 
+abbrev pub stagedFind : Case → List ℕ → Found ℕ
+stagedFind k = findS (problemOf k)
+
+-- where marking in stages shows; expected by U12
+abbrev pub stagedCases : List Case
+stagedCases =
+    -- Document 000's example 7, p q a f e b as 0 to 5. "a gives p or q" can be split a stage before "a gives e or f" can; marking that goes on past it makes 6 entries, as the
+    -- relevancy walk does, so is spent
+    record {
+      atoms = 6;
+      instances = (0 ∷ [], []) ∷ (1 ∷ [], []) ∷ (3 ∷ [], 2 ∷ []) ∷ (4 ∷ [], 2 ∷ []) ∷ (5 ∷ [], 2 ∷ []) ∷ ([], 5 ∷ []) ∷ (2 ∷ [], 4 ∷ 3 ∷ []) ∷ (2 ∷ [], 0 ∷ 1 ∷ []) ∷ [];
+      limit = 3;
+      expected = Refuted 2;
+    }
+    -- 3 or 0. 2 gives 0 or 1. 3 gives 2 or 0. 2 or 1. Not 0. Not 1. A step that looks at marks made in the same step makes 6 entries
+    ∷ record {
+      atoms = 4;
+      instances = ([], 3 ∷ 0 ∷ []) ∷ (2 ∷ [], 0 ∷ 1 ∷ []) ∷ (3 ∷ [], 2 ∷ 0 ∷ []) ∷ ([], 2 ∷ 1 ∷ []) ∷ (0 ∷ [], []) ∷ (1 ∷ [], []) ∷ [];
+      limit = 100;
+      expected = Refuted 4;
+    }
+    -- 2 and 3 give 0 or 1. Not 0. Not 1. A later condition marked early takes atom 3 out of the model
+    ∷ record {
+      atoms = 4;
+      instances = (2 ∷ 3 ∷ [], 0 ∷ 1 ∷ []) ∷ (0 ∷ [], []) ∷ (1 ∷ [], []) ∷ [];
+      limit = 100;
+      expected = Satisfied 0 (false ∷ false ∷ false ∷ true ∷ []);
+    }
+    -- 3 or 0. 2 gives 0 or 1. 3 gives 0 or 1. 2 or 0 or 1. Not 0. Not 1. A step by its first instance alone makes 5 entries
+    ∷ record {
+      atoms = 4;
+      instances = ([], 3 ∷ 0 ∷ []) ∷ (2 ∷ [], 0 ∷ 1 ∷ []) ∷ (3 ∷ [], 0 ∷ 1 ∷ []) ∷ ([], 2 ∷ 0 ∷ 1 ∷ []) ∷ (0 ∷ [], []) ∷ (1 ∷ [], []) ∷ [];
+      limit = 100;
+      expected = Refuted 4;
+    }
+    -- 3 or 0. 2 gives 0 or 1. 3 gives 2. 2 or 0 or 1. Not 0. Not 1. A stage that does not take in the chains, or looks for a split before it does, makes 5
+    ∷ record {
+      atoms = 4;
+      instances = ([], 3 ∷ 0 ∷ []) ∷ (2 ∷ [], 0 ∷ 1 ∷ []) ∷ (3 ∷ [], 2 ∷ []) ∷ ([], 2 ∷ 0 ∷ 1 ∷ []) ∷ (0 ∷ [], []) ∷ (1 ∷ [], []) ∷ [];
+      limit = 100;
+      expected = Refuted 4;
+    }
+    -- 3 or 0. 3 gives 2 or 0. 2 gives 0 or 1. 3 gives 0 or 1. Not 0. Not 1. Marks kept from the node above make 6
+    ∷ record {
+      atoms = 4;
+      instances = ([], 3 ∷ 0 ∷ []) ∷ (3 ∷ [], 2 ∷ 0 ∷ []) ∷ (2 ∷ [], 0 ∷ 1 ∷ []) ∷ (3 ∷ [], 0 ∷ 1 ∷ []) ∷ (0 ∷ [], []) ∷ (1 ∷ [], []) ∷ [];
+      limit = 100;
+      expected = Refuted 4;
+    }
+    -- 5 gives 4 or 0. 4 gives 2 or 3. 2 gives 0 or 1. 3 gives 0 or 1. Not 0. Not 1. Marking that is over after one step or two leaves 4 or 5 in the model
+    ∷ record {
+      atoms = 6;
+      instances = (5 ∷ [], 4 ∷ 0 ∷ []) ∷ (4 ∷ [], 2 ∷ 3 ∷ []) ∷ (2 ∷ [], 0 ∷ 1 ∷ []) ∷ (3 ∷ [], 0 ∷ 1 ∷ []) ∷ (0 ∷ [], []) ∷ (1 ∷ [], []) ∷ [];
+      limit = 100;
+      expected = Satisfied 0 (false ∷ false ∷ false ∷ false ∷ false ∷ false ∷ []);
+    }
+    -- 2. 2 and 3 give 0 or 1. Not 0. Not 1. A step that marks the first condition alone leaves 3 in the model
+    ∷ record {
+      atoms = 4;
+      instances = ([], 2 ∷ []) ∷ (2 ∷ 3 ∷ [], 0 ∷ 1 ∷ []) ∷ (0 ∷ [], []) ∷ (1 ∷ [], []) ∷ [];
+      limit = 100;
+      expected = Satisfied 0 (false ∷ false ∷ true ∷ false ∷ []);
+    }
+    ∷ []
+
 abbrev pub AsExpected : (Case → List ℕ → Found ℕ) → Type 0
 AsExpected find = map (λ k. outcome (find k) (k .limit)) cases ≡ map (λ k. k .expected) cases
 
@@ -102,5 +168,7 @@ DeepAsExpected find = map (deepestUnder (find deepThenShallow)) (0 ∷ 1 ∷ 2 �
 pub record CasesHold : Type 0 where
   pub relevancy : AsExpected relevancyFind
   pub magic : AsExpected magicFind
+  pub staged : AsExpected stagedFind
+  pub staged-apart : map (λ k. outcome (stagedFind k) (k .limit)) stagedCases ≡ map (λ k. k .expected) stagedCases
   pub relevancy-deepest : DeepAsExpected relevancyFind
   pub magic-deepest : DeepAsExpected magicFind

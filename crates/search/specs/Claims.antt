@@ -19,7 +19,7 @@ use Rattle.search.specs.Deepest.{Exact, Bounds}
 use Rattle.search.specs.SessionRight.{ShortPaths, AnySession}
 use Rattle.search.specs.Choice.{RelevancyChoice, MagicChoice}
 use Rattle.search.specs.Staged.{findS}
-use Rattle.search.specs.StagedClaims.{Stages, MarkingEnds, StagedChoice}
+use Rattle.search.specs.StagedClaims.{Stages, MarkingEnds, MarkingIs, StagedChoice}
 use Rattle.search.specs.Sound.{SoundFind}
 use Rattle.search.specs.Machine.{Place, entered, Satisfied, Refuted, Exhausted, answer, last, root, entries, trail, proceed, outcome, FullWalk}
 use Rattle.search.specs.Cases.{CasesHold}
@@ -99,10 +99,13 @@ pub record Theorems : Type 1 where
   -- U12's stages, whatever is true
   pub stages : {I : Type 0} (p : Ground I) (t : ℕ → Bool) → Stages p t
   pub marking-ends : {I : Type 0} (p : Ground I) (t : ℕ → Bool) → MarkingEnds p t
+  pub marking-is : {I : Type 0} (p : Ground I) (l : List ℕ) → MarkingIs p l
   -- what is entered at a split, whatever its alternatives: each of them once, in order of first appearance
   pub entered-once : (ds : List ℕ) → EachOnce natKey ds (branches ds)
   -- the model that the relevancy walk gives is that of its open place; by `one-trail` so is the magic walk's
   pub model-given : {I : Type 0} (p : Ground I) (limit n : ℕ) (bits : List Bool) → outcome (findR p) limit ≡ Satisfied n bits → bits ≡ modelAt p (lastPlace (findR p) limit)
+  -- and so is the staged walk's of its own
+  pub staged-model-given : {I : Type 0} (p : Ground I) (limit n : ℕ) (bits : List Bool) → outcome (findS p) limit ≡ Satisfied n bits → bits ≡ modelAt p (lastPlace (findS p) limit)
   pub one-trail : {I : Type 0} (k : Key I) (p : Ground I) (limit : ℕ) → OneTrail k p limit
   pub by-holding : ByHolding
   -- a walk in pieces, by both engines in turn, is the whole walk; so is one from where a session of other origin stands; and a session of any origin goes on alike in both

@@ -2,7 +2,7 @@
 use Prim.Native.Nat.{ℕ, suc, _≤_, _<_}
 use mathlib.Core.Bool.{Bool}
 use mathlib.Core.List.{List}
-use mathlib.Core.Logic.{_↔_}
+use mathlib.Core.Logic.{_↔_, _⊎_}
 use mathlib.Core.Path.{_≡_}
 use lib.Dec.{T}
 use lib.ListN.{length}
@@ -11,7 +11,7 @@ use Rattle.lists.specs.Member.{All, has, In}
 use Rattle.search.specs.Ground.{Ground, closed, opened, split, goals}
 use Rattle.search.specs.Relevancy.{asked, relevantSet, isTrue, branches, modelBits, findR}
 use Rattle.search.specs.Choice.{CanSplit, FirstSplit}
-use Rattle.search.specs.Staged.{stageOf, findS}
+use Rattle.search.specs.Staged.{stageOf, marking, findS}
 
 -- t tells what is true
 module _ {I : Type 0} (p : Ground I) (t : ℕ → Bool) where
@@ -60,6 +60,13 @@ module _ {I : Type 0} (p : Ground I) (l : List ℕ) where
     pub stage : ℕ
     pub first-there : FirstSplit p (isTrue p l) (markedAt stage) i
     pub none-before : (k : ℕ) → k < stage → Unsplit k
+
+  -- which marks a node has: those of the first stage at which an instance can be split, where marking ends; else of one at which it is over
+  pub record MarkingIs : Type 0 where
+    pub stage : ℕ
+    pub marks-are : (marking p (isTrue p l)) .1 ≡ stageOf p (isTrue p l) stage
+    pub none-before : (k : ℕ) → k < stage → Unsplit k
+    pub ends : ((i : I) × FirstSplit p (isTrue p l) (markedAt stage) i) ⊎ (Over p (isTrue p l) stage × Unsplit stage)
 
   pub record OpenMarks (bits : List Bool) : Type 0 where
     pub stage : ℕ

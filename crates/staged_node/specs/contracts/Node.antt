@@ -20,6 +20,7 @@ use Rattle.relevancy_node.specs.contracts.Node.{Facts, Unmarked, TrueOpening, T
 use Rattle.relevancy_node.specs.declared.choose.Choice.the-variants.{At}
 use Rattle.relevancy_node.specs.declared.node.Node.{Node}
 use Rattle.relevancy_node.specs.declared.node.Node.the-variants.{Closed as ClosedAt, Open, Split}
+use Rattle.staged_node.specs.contracts.Stages.{MarksHeld}
 
 -- n facts, of which the first `done` are worked off, and nothing is marked
 pub record StagesOpening (tb r : List ℕ) (n done : ℕ) : Type 0 where
@@ -37,6 +38,7 @@ pub record TruthsRest (tb left : List ℕ) (m : ℕ) : Type 0 where
 -- "false" is true, and nothing is marked
 pub record ClosedByStages (tb r : List ℕ) (n m : ℕ) (left : List ℕ) : Type 0 where
   pub leaves : Leaves 2050 r n left m
+  pub facts : Facts tb left m
   pub unmarked : Unmarked (logged left 2050 m)
   pub held : (l : List ℕ) → TrueSeeded tb l r n → TrueHeld tb l (logged left 2050 m)
   pub found : (l : List ℕ) → TrueSeeded tb l r n → findS (groundIn tb) l ≡ closed
@@ -44,18 +46,22 @@ pub record ClosedByStages (tb r : List ℕ) (n m : ℕ) (left : List ℕ) : Type
 -- marking is over and no instance can be split: the set has what is true, and the marks
 pub record OpenByStages (tb r : List ℕ) (n m : ℕ) (left : List ℕ) : Type 0 where
   pub leaves : Leaves 2050 r n left m
+  pub facts : Facts tb left m
   pub held : (l : List ℕ) → TrueSeeded tb l r n → TrueHeld tb l (logged left 2050 m)
+  pub marked : (l : List ℕ) → TrueSeeded tb l r n → MarksHeld tb l (logged left 2050 m)
   pub found : (l : List ℕ) → TrueSeeded tb l r n → findS (groundIn tb) l ≡ opened (modelBits ((groundIn tb) .atoms) (isSet left) (λ a. isSet left (1025 + a)))
 
 -- an instance is split. The first t facts are the node's own: what is true, none of the alternatives among it. Behind them are the marks where marking ended
 pub record SplitByStages (tb r : List ℕ) (n m t k a b c d : ℕ) (left : List ℕ) : Type 0 where
   pub leaves : Leaves 2050 r n left m
+  pub facts : Facts tb left m
   pub more : n ≤ t
   pub part : t ≤ m
   pub rests : TruthsRest tb left t
   pub entered : (l : List ℕ) → TrueSeeded tb l r n → All (In natKey (logged left 2050 t)) l
   pub stands : (l : List ℕ) → TrueSeeded tb l r n → TrueStands tb l left t
   pub held : (l : List ℕ) → TrueSeeded tb l r n → TrueHeld tb l (logged left 2050 m)
+  pub marked : (l : List ℕ) → TrueSeeded tb l r n → MarksHeld tb l (logged left 2050 m)
   pub site : Instance
   pub named : instanceChoice (some site) ≡ At k a b c d
   pub listed : InstanceOf (problemIn tb) site
