@@ -1,20 +1,21 @@
 -- A node just entered is found.
 use Prim.Native.Nat.{ℕ, _≤_, _<_}
 use mathlib.Core.List.{List}
+use mathlib.Core.Option.{some}
 use mathlib.Core.Path.{_≡_, sym, subst}
 use native.Mathlib.Omega.{arith}
 use lib.ListN.{length, getD}
 use Rattle.search.specs.Machine.{entered}
 use Rattle.store.specs.contracts.Store.{logged}
 use Rattle.store.proofs.Laws.{store-few}
-use Rattle.problem.specs.Layout.{problemIn}
 use Rattle.problem.specs.Table.{Lawful}
-use Rattle.ground.specs.Instance.{clauseOf}
+use Rattle.ground.specs.Instance.{Instance}
 use Rattle.ground.proofs.AtomLaws.{clause-fits}
-use Rattle.relevancy_node.specs.contracts.Node.{ClosedByClauses, OpenByClauses, SplitByClauses, TrueSettled}
+use Rattle.relevancy_node.specs.contracts.Node.{instanceChoice, ClosedByClauses, OpenByClauses, SplitByClauses, TrueSettled}
+use Rattle.relevancy_node.specs.declared.choose.Choice.the-variants.{At}
 use Rattle.relevancy_node.specs.declared.node.Node.{Node}
 use Rattle.relevancy_node.specs.declared.node.Node.the-variants.{Closed, Open, Split}
-use Rattle.walk.specs.contracts.Walker.{Site}
+use Rattle.walk.specs.contracts.Walker.{Site, Walker}
 use Rattle.walk.specs.contracts.Path.{markAt, pathIn, siteAt, Noted}
 use Rattle.walk.specs.contracts.Place.{Finding}
 use Rattle.walk.specs.declared.answer.Found.{Found as Told}
@@ -23,6 +24,24 @@ use Rattle.walk.proofs.PathLaws.{site-back}
 use Rattle.walk.proofs.PlaceLaws.{found-here, found-split}
 use Rattle.relevancy_walk.specs.contracts.Place.{TrueAtSplit, relevancyWalker, TrueFresh, NodeTold, OwnFew}
 use Rattle.relevancy_walk.proofs.SoundLaws.{sound}
+
+-- a node that is not split is told as it was found, and the path is as it was
+pub told-here : {I : Type 0} (w : Walker I) (facts path : List ℕ) (depth n done : ℕ) (left-facts : List ℕ) (y x : Told) (left : List ℕ)
+    → Finding w facts path depth n done y left-facts path → x ≡ y → left ≡ path → Finding w facts path depth n done x left-facts left
+told-here w facts path depth n done left-facts y x left f e same =
+    subst (λ (z : Told). Finding w facts path depth n done z left-facts left) (sym e)
+    (subst (λ (p : List ℕ). Finding w facts path depth n done y left-facts p) (sym same) f)
+
+-- the record that is written of a split names the instance
+pub site-written : {I : Type 0} (w : Walker I) (i : Instance) (path left : List ℕ) (depth k a b c d t : ℕ) → length (i .values) ≡ w .vars (i .clause) → w .vars (i .clause) ≤ 4
+    → instanceChoice (some i) ≡ At k a b c d → Noted path depth k a b c d t left → _≡_ {A = Site} (siteAt w left depth) (record { number = i .clause; values = i .values })
+site-written w i path left depth k a b c d t count few named wrote =
+    let ek : i .clause ≡ k = cc in
+    let ea : getD (i .values) 0 0 ≡ a = cc in
+    let eb : getD (i .values) 1 0 ≡ b = cc in
+    let ec : getD (i .values) 2 0 ≡ c = cc in
+    let ed : getD (i .values) 3 0 ≡ d = cc in
+    site-back w path left depth k a b c d t (record { number = i .clause; values = i .values }) count few ek ea eb ec ed wrote
 
 module _ (tb : List ℕ) (h : Lawful tb) (facts path : List ℕ) (depth n done : ℕ) (fresh : TrueFresh tb facts path depth n done) (left-facts : List ℕ) where
   abbrev l : List ℕ
@@ -38,12 +57,6 @@ module _ (tb : List ℕ) (h : Lawful tb) (facts path : List ℕ) (depth n done :
       found-here (relevancyWalker tb) facts path depth n done (ToldOpen m) left-facts (fresh .room) (fresh .kept) (fresh .named) (node .found l (fresh .seeded)) (node .leaves .store)
       (node .held l (fresh .seeded)) (omega (arith, node .leaves .grows, fresh .opening .part)) (node .leaves .kept)
 
-  told-here : (y x : Told) (left : List ℕ) → Finding (relevancyWalker tb) facts path depth n done y left-facts path → x ≡ y → left ≡ path
-      → Finding (relevancyWalker tb) facts path depth n done x left-facts left
-  told-here y x left f e same =
-      subst (λ (z : Told). Finding (relevancyWalker tb) facts path depth n done z left-facts left) (sym e)
-      (subst (λ (p : List ℕ). Finding (relevancyWalker tb) facts path depth n done y left-facts p) (sym same) f)
-
   -- the node is split, and written down
   module _ (m t k a b c d : ℕ) (node : SplitByClauses tb facts n m t k a b c d left-facts) where
     few-facts : t < 65536
@@ -55,15 +68,8 @@ module _ (tb : List ℕ) (h : Lawful tb) (facts path : List ℕ) (depth n done :
     module _ (left : List ℕ) (size : length left ≡ 9227) (wrote : Noted path depth k a b c d t left) where
       site-is : siteAt (relevancyWalker tb) left depth ≡ site
       site-is =
-          let i = node .site in
-          let named = node .named in
-          let ek : i .clause ≡ k = cc in
-          let ea : getD (i .values) 0 0 ≡ a = cc in
-          let eb : getD (i .values) 1 0 ≡ b = cc in
-          let ec : getD (i .values) 2 0 ≡ c = cc in
-          let ed : getD (i .values) 3 0 ≡ d = cc in
-          let few : (clauseOf (problemIn tb) (i .clause)) .vars ≤ 4 = (clause-fits tb h (i .clause) (node .listed .known)) .few-vars in
-          site-back (relevancyWalker tb) path left depth k a b c d t site (node .listed .each-variable) few ek ea eb ec ed wrote
+          site-written (relevancyWalker tb) (node .site) path left depth k a b c d t (node .listed .each-variable)
+          ((clause-fits tb h (node .site .clause) (node .listed .known)) .few-vars) (node .named) wrote
 
       rests : TrueAtSplit tb site l (logged left-facts 2050 (markAt left depth))
       rests =
@@ -92,7 +98,7 @@ module _ (tb : List ℕ) (h : Lawful tb) (facts path : List ℕ) (depth n done :
   -- the node is told as it was settled
   pub node-told : (node : Node) → TrueSettled tb facts n node left-facts → (x : Told) (left : List ℕ) → length left ≡ 9227 → NodeTold node path depth x left
       → Finding (relevancyWalker tb) facts path depth n done x left-facts left
-  node-told (Closed m) node x left size told = told-here (ToldClosed m) x left (node-closed m node) (told .0) (told .1)
-  node-told (Open m) node x left size told = told-here (ToldOpen m) x left (node-open m node) (told .0) (told .1)
+  node-told (Closed m) node x left size told = told-here (relevancyWalker tb) facts path depth n done left-facts (ToldClosed m) x left (node-closed m node) (told .0) (told .1)
+  node-told (Open m) node x left size told = told-here (relevancyWalker tb) facts path depth n done left-facts (ToldOpen m) x left (node-open m node) (told .0) (told .1)
   node-told (Split m t k a b c d) node x left size told =
       subst (λ (y : Told). Finding (relevancyWalker tb) facts path depth n done y left-facts left) (sym (told .0)) (node-split m t k a b c d node left size (told .1))

@@ -14,11 +14,12 @@ use Rattle.search.specs.Relevancy.{hornRules, trueSet}
 use Rattle.search.specs.Machine.{Branch, entered}
 use Rattle.search.proofs.Closure.{least-ind}
 use Rattle.store.specs.contracts.Store.{Added, logged}
+use Rattle.store.specs.contracts.Worked.{Worked}
 use Rattle.store.proofs.Laws.{added-in}
 use Rattle.store.proofs.Lent.{added-carries, added-each, added-worked}
 use Rattle.problem.specs.Table.{Lawful}
 use Rattle.ground.specs.Instance.{Instance, groundIn}
-use Rattle.relevancy_node.specs.contracts.Node.{RootMarked, TrueOpening, RootOpening, TrueStarted, TrueSeeded}
+use Rattle.relevancy_node.specs.contracts.Node.{Facts, RootMarked, TrueOpening, RootOpening, TrueStarted, TrueSeeded, TrueStands}
 use Rattle.relevancy_node.proofs.HornLaws.{root-adds}
 use Rattle.walk.specs.contracts.Path.{Room, nextAt, markAt, Passed, siteAt, altsAt, entryAt, pathIn}
 use Rattle.walk.specs.contracts.Place.{Parted}
@@ -26,6 +27,33 @@ use Rattle.walk.proofs.PathLaws.{path-deep, path-entered}
 use Rattle.walk.proofs.PlaceLaws.{named-entered, entered-kept}
 use Rattle.relevancy_walk.specs.contracts.Place.{TrueAtSplit, relevancyWalker, TrueFresh}
 use Rattle.relevancy_walk.proofs.SoundLaws.{sound}
+
+-- an atom is put into facts, the truths among which are those under the entered atoms l
+module _ (tb l facts : List ℕ) (mark atom : ℕ) (left : List ℕ) (n : ℕ) (put : Added 2050 facts mark atom left n) where
+  inside : TrueStands tb l facts mark → (c : List ℕ) → Closed (hornRules (groundIn tb)) (In natKey c) → All (In natKey c) l → All (λ f. f < 1025 → In natKey c f) (logged facts 2050 mark)
+  unfolding trueSet
+  inside stands c closed held =
+      all-has natKey (λ f. f < 1025 → In natKey c f) (logged facts 2050 mark)
+      (λ x t low. least-ind natKey (hornRules (groundIn tb)) l (In natKey c) closed held x (subst T (stands x low) t))
+
+  pub added-seeded : All (In natKey (logged facts 2050 mark)) l → TrueStands tb l facts mark → TrueSeeded tb (atom ∷ l) left n
+  added-seeded holds stands =
+      record {
+        seeds = (
+          added-in put,
+          all-map (In natKey (logged facts 2050 mark)) (In natKey (logged left 2050 n)) (added-carries 2050 facts mark atom left n put) l holds,
+        );
+        inside = λ c closed held. added-each 2050 facts mark atom left n put (λ f. f < 1025 → In natKey c f) (λ low. held .0) (inside stands c closed (held .1));
+      }
+
+  pub added-opening : Facts tb facts mark → Worked (hornRules (groundIn tb)) (logged facts 2050 mark) (logged facts 2050 mark) → atom < (groundIn tb) .atoms → TrueOpening tb left n mark
+  added-opening kind worked small =
+      record {
+        store = put .store;
+        facts = added-each 2050 facts mark atom left n put (λ x. x ≤ 1025 + (groundIn tb) .atoms) (omega (arith, small)) kind;
+        part = put .grows;
+        worked = added-worked 2050 facts mark atom left n put (hornRules (groundIn tb)) worked;
+      }
 
 module _ (tb : List ℕ) (h : Lawful tb) (facts path : List ℕ) (depth : ℕ) (node : Parted (relevancyWalker tb) facts path depth)
     (some-left : nextAt path depth < length (altsAt (relevancyWalker tb) path depth)) where
@@ -44,33 +72,8 @@ module _ (tb : List ℕ) (h : Lawful tb) (facts path : List ℕ) (depth : ℕ) (
   pub next-small : getD (altsAt (relevancyWalker tb) path depth) (nextAt path depth) 0 < (groundIn tb) .atoms
   next-small = (sound tb h) .small (entryAt (relevancyWalker tb) path depth) (pathIn (relevancyWalker tb) path depth) (node .at-split .enters (nextAt path depth) some-left)
 
-  inside : (c : List ℕ) → Closed (hornRules (groundIn tb)) (In natKey c) → All (In natKey c) l → All (λ f. f < 1025 → In natKey c f) (logged facts 2050 mark)
-  unfolding trueSet
-  inside c closed held =
-      all-has natKey (λ f. f < 1025 → In natKey c f) (logged facts 2050 mark)
-      (λ x t low. least-ind natKey (hornRules (groundIn tb)) l (In natKey c) closed held x (subst T (rests .stands x low) t))
-
   -- the next alternative is put into the set
   module _ (left : List ℕ) (n : ℕ) (put : Added 2050 facts (markAt path depth) (getD (altsAt (relevancyWalker tb) path depth) (nextAt path depth) 0) left n) where
-    added-seeded : TrueSeeded tb (atom ∷ l) left n
-    added-seeded =
-        record {
-          seeds = (
-            added-in put,
-            all-map (In natKey (logged facts 2050 mark)) (In natKey (logged left 2050 n)) (added-carries 2050 facts mark atom left n put) l (rests .holds),
-          );
-          inside = λ c closed held. added-each 2050 facts mark atom left n put (λ f. f < 1025 → In natKey c f) (λ low. held .0) (inside c closed (held .1));
-        }
-
-    added-opening : TrueOpening tb left n mark
-    added-opening =
-        record {
-          store = put .store;
-          facts = added-each 2050 facts mark atom left n put (λ x. x ≤ 1025 + (groundIn tb) .atoms) (omega (arith, next-small)) (rests .kind);
-          part = put .grows;
-          worked = added-worked 2050 facts mark atom left n put (hornRules (groundIn tb)) (rests .worked);
-        }
-
     -- the marks are those of the root
     pub entered-marked : RootMarked tb (logged left 2050 n)
     entered-marked = subst (RootMarked tb) (sym (put .list)) (go (has natKey (logged facts 2050 mark) atom))
@@ -86,8 +89,9 @@ module _ (tb : List ℕ) (h : Lawful tb) (facts path : List ℕ) (depth : ℕ) (
           room = record { size = size; deep = path-deep (relevancyWalker tb) (sound tb h) went (depth + 1) kept };
           kept = kept;
           named = named-entered (relevancyWalker tb) facts path depth went p node;
-          opening = added-opening;
-          seeded = subst (λ (bs : List (Branch Instance)). TrueSeeded tb (entered bs) left n) (sym (path-entered (relevancyWalker tb) path went depth p)) added-seeded;
+          opening = added-opening tb l facts mark atom left n put (rests .kind) (rests .worked) next-small;
+          seeded = subst (λ (bs : List (Branch Instance)). TrueSeeded tb (entered bs) left n) (sym (path-entered (relevancyWalker tb) path went depth p))
+              (added-seeded tb l facts mark atom left n put (rests .holds) (rests .stands));
         }
 
 -- the root, once the goals of the instances without conditions are in

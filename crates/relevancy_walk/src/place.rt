@@ -70,7 +70,7 @@ pub fn alternative(table: &[u8], path: &[u8], depth: usize) -> NextBranch
 }
 
 // Tells how the node at `depth` is settled, and writes a split down.
-fn tell(path: &mut [u8], depth: usize, node: Node) -> Found
+pub fn tell(path: &mut [u8], depth: usize, node: Node) -> Found
     requires { ⌜ Room (now path) depth × OwnFew node ⌝ }
     ensures { λ x. ⌜ NodeTold node (now (path .entry)) depth x (now (path .exit)) ⌝ }
 {

@@ -1,0 +1,3 @@
+// The staged engine's operation.
+pub mod engine;
+pub mod whole;
