@@ -1,3 +1,4 @@
+pub mod StagedLaws
 pub mod Narrow
 pub mod CallLaws
 pub mod AssumeLaws

@@ -16,7 +16,8 @@ use Rattle.lists.proofs.Member.{all-map, every-all, has-all, first-some}
 use Rattle.search.specs.Ground.{Found}
 use Rattle.search.specs.Machine.{Place, advance, root, entries, proceed}
 use Rattle.search.specs.Relevancy.{findR}
-use Rattle.search.specs.Session.{Session, standsIn, sessionAfter, Called, declined, told, called}
+use Rattle.search.specs.Staged.{findS}
+use Rattle.search.specs.Session.{Session, standsIn, firstSession, sessionAfter, Called, declined, told, called}
 use Rattle.search.specs.SessionRight.{countOf, ShortPaths}
 use Rattle.search.specs.Sound.{SoundFind}
 use Rattle.search.proofs.Machine.{entries-zero, entries-none, entries-some}
@@ -61,6 +62,7 @@ use Rattle.session.specs.Calls.{calledIn, begunBy, screened}
 use Rattle.session.proofs.CallLaws.{called-held, called-none}
 use Rattle.relevancy.specs.Engine.{tooShort}
 use Rattle.relevancy.specs.Sessions.{begun, resumed}
+use Rattle.staged.specs.Engine.{stagedOutcome}
 use Rattle.rewriting.specs.declared.rewrite.Rewriting.{Rewriting}
 use Rattle.rewriting.specs.declared.rewrite.Rewriting.the-variants as rewriting
 use Rattle.rewriting.specs.Rules.{rewritingOf}
@@ -313,6 +315,16 @@ module _ (tb answer work : List ℕ) where
   narrow-resumed r further =
       narrow-screened (tooShort tb answer work) (isValid own) (calledIn findOwn ((groundIn own) .atoms) r further)
       (λ v. narrow-called (problemIn own) (fits-own v) findOwn (relevancy-sound v) r further)
+
+  -- the staged engine's run, with the session that it would leave
+  pub narrow-staged : NarrowCall
+      (screened (tooShort tb answer work) (isValid (take 4096 tb))
+      (told (stagedOutcome (take 4096 tb)) (firstSession (findS (groundIn (take 4096 tb))) (limitOf ((problemIn (take 4096 tb)) .limit)))))
+  unfolding stagedOutcome
+  narrow-staged =
+      narrow-screened (tooShort tb answer work) (isValid own) (begunBy (findS (groundIn own)) (limitOf ((problemIn own) .limit)))
+      (λ v.
+      narrow-first (problemIn own) (fits-own v) (findS (groundIn own)) (walks .staged-sound (groundIn own) (ground-proper (problemIn own) (fits-own v))))
 
   module _ (rules : List ℕ) where
     abbrev findBy : List ℕ → Found Instance

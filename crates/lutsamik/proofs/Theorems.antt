@@ -1,14 +1,20 @@
 -- The claims of `specs/Claims.antt`, proved: numbers that have room in their bits are taken apart again, and each answer is what its numbers say.
 use Prim.Native.Nat.{ℕ, _+_, _*_, _/_, _%_, _<_}
-use mathlib.Core.List.{[], _∷_}
-use mathlib.Core.Path.{_≡_, refl, sym, ap, _∙_}
+use mathlib.Core.List.{List, [], _∷_}
+use mathlib.Core.Path.{_≡_, refl, sym, ap, subst, _∙_}
 use native.Mathlib.Nat.{mod-eq-of-lt}
 use native.Mathlib.Omega.{arith}
 use borrow.Author.Tests.{ne-eqb}
 use lib.Arith.{digits-div, digits-mod}
+use lib.ListN.{take}
 use Rattle.lists.proofs.Digits.{digits-horner, horner-below}
-use Rattle.search.specs.Machine.{Satisfied, Refuted, Exhausted}
-use Rattle.search.specs.Session.{Called, declined, told}
+use Rattle.search.specs.Machine.{Outcome, Satisfied, Refuted, Exhausted}
+use Rattle.search.specs.Session.{Session, firstSession, Called, declined, told}
+use Rattle.search.specs.SessionRight.{countOf}
+use Rattle.search.specs.Staged.{findS}
+use Rattle.problem.specs.Problem.{limitOf}
+use Rattle.problem.specs.Layout.{problemIn}
+use Rattle.problem.specs.Table.{isValid}
 use Rattle.problem.specs.Numbers.{Numbers, refusedAt, answered}
 use Rattle.reading.specs.declared.read.Reading.{Reading}
 use Rattle.reading.specs.declared.read.Reading.the-variants as reading
@@ -21,6 +27,8 @@ use Rattle.offering.specs.declared.offer.Offering.the-variants as offering
 use Rattle.offering.specs.Offer.{offerResult, setResult}
 use Rattle.ground.specs.declared.verdict.Verdict.{Verdict}
 use Rattle.ground.specs.declared.verdict.Verdict.the-variants as verdict
+use Rattle.ground.specs.Verdict.{verdictOf}
+use Rattle.ground.specs.Instance.{groundIn}
 use Rattle.judging.specs.declared.judge.Judging.{Judging}
 use Rattle.judging.specs.declared.judge.Judging.the-variants as judging
 use Rattle.judging.specs.ModelCheck.{judgeResult, judgingNumbers}
@@ -30,16 +38,19 @@ use Rattle.judging.specs.Holding.{holdingResult}
 use Rattle.rewriting.specs.declared.rewrite.Rewriting.{Rewriting}
 use Rattle.rewriting.specs.declared.rewrite.Rewriting.the-variants as rewriting
 use Rattle.rewriting.specs.Rewrite.{rewriteResult}
-use Rattle.session.specs.Calls.{verdictTold, deepestTold}
+use Rattle.session.specs.Calls.{screened, verdictTold, deepestTold}
+use Rattle.relevancy.specs.Engine.{tooShort}
 use Rattle.relevancy.specs.Sessions.{begun, resumed}
 use Rattle.relevancy.proofs.Theorems.{theorems as relevancy}
+use Rattle.staged.specs.Engine.{stagedOutcome, stagedResult}
 use Rattle.magic.specs.Sessions.{magicBegun, magicResumed}
 use Rattle.magic.proofs.Theorems.{theorems as magic}
 use Rattle.lutsamik.specs.Pack.{packed, packReading, packWriting, packOffering, packJudging, packHolding, withDeepest, packVerdict, packRewriting, unpacked, asReading, asWriting, asOffering, violatedBy, asJudging, asHolding, verdictBy, asVerdict, asRewriting}
 use Rattle.lutsamik.specs.Claims.{Narrow, VerdictBack, Theorems}
 use Rattle.lutsamik.proofs.AssumeLaws.{relevancy-assumed-back, magic-assumed-back}
 use Rattle.lutsamik.proofs.PartsLaws.{parted-back}
-use Rattle.lutsamik.proofs.Narrow.{NarrowReading, NarrowWriting, NarrowOffering, NarrowJudging, NarrowHolding, NarrowCall, NarrowRewriting, narrow-reading, narrow-writing, narrow-offer, narrow-set, narrow-judging, narrow-holding, narrow-begun, narrow-resumed, narrow-magic-begun, narrow-magic-resumed, narrow-rewriting}
+use Rattle.lutsamik.proofs.StagedLaws.{figure-none, staged-told}
+use Rattle.lutsamik.proofs.Narrow.{NarrowReading, NarrowWriting, NarrowOffering, NarrowJudging, NarrowHolding, NarrowCall, NarrowRewriting, narrow-reading, narrow-writing, narrow-offer, narrow-set, narrow-judging, narrow-holding, narrow-begun, narrow-resumed, narrow-staged, narrow-magic-begun, narrow-magic-resumed, narrow-rewriting}
 
 -- a part of a number, between what stands above it and what stands below
 part : (n above w q m below : ℕ) → n ≡ (above * w + q) * m + below → q < w → below < m → n / m % w ≡ q
@@ -101,15 +112,33 @@ told-back v k n d is so hk hn hd =
     let value : m / 4294967296 % 4294967296 ≡ n = part m 0 4294967296 n 4294967296 (256 * k + 65536 * d) (omega (arith, e)) hn (omega (arith, hk, hd)) in
     record { verdict-back = rw (refusal, number, value) (sym so); deepest-back = part m n 65536 d 65536 (256 * k) (omega (arith, e)) hd (omega (arith, hk)) }
 
-call-back : (c : Called) → NarrowCall c → VerdictBack (verdictTold c) (deepestTold c)
-call-back (declined e) h =
+outcome-back : (o : Outcome) (d : ℕ) → countOf o < 4294967296 → d < 65536 → VerdictBack (verdictOf o) d
+outcome-back (Satisfied n bits) d h l = told-back (verdict.Satisfied n) 1 n d refl refl (omega arith) h l
+outcome-back (Refuted n) d h l = told-back (verdict.Refuted n) 0 n d refl refl (omega arith) h l
+outcome-back (Exhausted n) d h l = told-back (verdict.Exhausted n) 2 n d refl refl (omega arith) h l
+
+refusal-back : (e : ℕ) → 0 < e → e < 256 → VerdictBack (verdict.Refused e) 0
+refusal-back e some-number small =
     record {
-      verdict-back = ap asVerdict (parts-back (refusedAt e 0) (refused-narrow e 0 (h .1) (omega arith))) ∙ rw (ne-eqb e 0 (omega arith));
-      deepest-back = part (packed (refusedAt e 0)) 0 65536 0 65536 e (omega arith) (omega arith) (omega (arith, h .1));
+      verdict-back = ap asVerdict (parts-back (refusedAt e 0) (refused-narrow e 0 small (omega arith))) ∙ rw (ne-eqb e 0 (omega arith));
+      deepest-back = part (packed (refusedAt e 0)) 0 65536 0 65536 e (omega arith) (omega arith) (omega (arith, small));
     }
-call-back (told (Satisfied n bits) s) h = told-back (verdict.Satisfied n) 1 n (s .deepest) refl refl (omega arith) (h .0) (h .1)
-call-back (told (Refuted n) s) h = told-back (verdict.Refuted n) 0 n (s .deepest) refl refl (omega arith) (h .0) (h .1)
-call-back (told (Exhausted n) s) h = told-back (verdict.Exhausted n) 2 n (s .deepest) refl refl (omega arith) (h .0) (h .1)
+
+call-back : (c : Called) → NarrowCall c → VerdictBack (verdictTold c) (deepestTold c)
+call-back (declined e) h = refusal-back e (h .0) (h .1)
+call-back (told o s) h = outcome-back o (s .deepest) (h .0) (h .1)
+
+-- the verdict of a call alone
+alone-back : (c : Called) → NarrowCall c → VerdictBack (verdictTold c) 0
+alone-back (declined e) h = refusal-back e (h .0) (h .1)
+alone-back (told o s) h = outcome-back o 0 (h .0) (omega arith)
+
+staged-back : (tb answer work : List ℕ) → VerdictBack (stagedResult tb answer work) 0
+staged-back tb answer work =
+    let t = take 4096 tb in
+    let s : Session = firstSession (findS (groundIn t)) (limitOf ((problemIn t) .limit)) in
+    subst (λ (v : Verdict). VerdictBack v 0) (staged-told tb answer work s)
+    (alone-back (screened (tooShort tb answer work) (isValid t) (told (stagedOutcome t) s)) (narrow-staged tb answer work))
 
 rewriting-back : (r : Rewriting) → NarrowRewriting r → asRewriting (unpacked (packRewriting r)) ≡ r
 rewriting-back (rewriting.Refused e) h = ap asRewriting (parts-back (refusedAt e 0) (refused-narrow e 0 (h .1) (omega arith))) ∙ rw (ne-eqb e 0 (omega arith))
@@ -131,6 +160,8 @@ theorems =
       magic-back = λ tb rules answer work.
           rw (← (magic .begun-same tb rules answer work .0), ← (magic .begun-shows tb rules answer work))
           (call-back (magicBegun tb rules answer work) (narrow-magic-begun tb answer work rules));
+      staged-back = λ tb answer work. rw (figure-none (stagedResult tb answer work)) (staged-back tb answer work .verdict-back);
+      staged-figureless = λ tb answer work. rw (figure-none (stagedResult tb answer work)) (staged-back tb answer work .deepest-back);
       relevancy-resumed-back = λ r further tb answer work. call-back (resumed r further tb answer work) (narrow-resumed tb answer work r further);
       magic-resumed-back = λ r further tb rules answer work. call-back (magicResumed r further tb rules answer work) (narrow-magic-resumed tb answer work rules r further);
       relevancy-assumed-back = relevancy-assumed-back;

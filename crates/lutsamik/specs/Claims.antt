@@ -15,12 +15,13 @@ use Rattle.session.specs.declared.record.Session.{Session as Record}
 use Rattle.session.specs.Calls.{verdictTold, deepestTold}
 use Rattle.relevancy.specs.Engine.{fitResult, fitDeepest}
 use Rattle.relevancy.specs.Sessions.{resumed}
+use Rattle.staged.specs.Engine.{stagedResult}
 use Rattle.magic.specs.Engine.{magicResult, magicDeepest}
 use Rattle.magic.specs.Sessions.{magicResumed}
 use Rattle.assuming.specs.Assume.{assumedOf}
 use Rattle.assuming.specs.Engines.{relevancyRuns, magicRuns}
 use Rattle.parting.specs.Runs.{partsResult}
-use Rattle.lutsamik.specs.Pack.{packed, packReading, packWriting, packOffering, packJudging, packHolding, packVerdict, packRewriting, packAssumed, packParting, unpacked, deepestOf, asReading, asWriting, asOffering, asJudging, asHolding, asVerdict, asRewriting, asAssumed, asParting}
+use Rattle.lutsamik.specs.Pack.{packed, packReading, packWriting, packOffering, packJudging, packHolding, packVerdict, packStaged, packRewriting, packAssumed, packParting, unpacked, deepestOf, asReading, asWriting, asOffering, asJudging, asHolding, asVerdict, asRewriting, asAssumed, asParting}
 
 -- numbers that have room in their bits
 pub record Narrow (a : Numbers) : Type 0 where
@@ -46,6 +47,9 @@ pub record Theorems : Type 0 where
   -- an engine's verdict, and its deepest figure, which is 0 where it is refused
   pub relevancy-back : (tb answer work : List ℕ) → VerdictBack (fitResult tb answer work) (fitDeepest tb answer work)
   pub magic-back : (tb rules answer work : List ℕ) → VerdictBack (magicResult tb rules answer work) (magicDeepest tb rules answer work)
+  -- the staged engine's verdict; the figure's bits are 0
+  pub staged-back : (tb answer work : List ℕ) → asVerdict (unpacked (packStaged (stagedResult tb answer work))) ≡ stagedResult tb answer work
+  pub staged-figureless : (tb answer work : List ℕ) → deepestOf (packStaged (stagedResult tb answer work)) ≡ 0
   -- the calls that go on with a session
   pub relevancy-resumed-back : (r : Record) (further : ℕ) (tb answer work : List ℕ)
       → VerdictBack (verdictTold (resumed r further tb answer work)) (deepestTold (resumed r further tb answer work))

@@ -63,6 +63,10 @@ packVerdict (verdict.Refuted n) d = withDeepest (verdictNumbers (verdict.Refuted
 packVerdict (verdict.Satisfied n) d = withDeepest (verdictNumbers (verdict.Satisfied n)) d
 packVerdict (verdict.Exhausted n) d = withDeepest (verdictNumbers (verdict.Exhausted n)) d
 
+-- a verdict without a figure: the staged engine's
+abbrev pub packStaged : Verdict → ℕ
+packStaged v = packed (verdictNumbers v)
+
 abbrev pub packRewriting : Rewriting → ℕ
 packRewriting r = packed (rewritingNumbers r)
 
