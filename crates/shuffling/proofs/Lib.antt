@@ -1,0 +1,9 @@
+pub mod Cases
+pub mod PermutedLaws
+pub mod RenumberLaws
+pub mod OneToOneLaws
+pub mod ShuffledLaws
+pub mod FitLaws
+pub mod MoveLaws
+pub mod VerdictLaws
+pub mod Theorems

@@ -1,0 +1,3 @@
+pub mod Shuffled
+pub mod Cases
+pub mod Claims
