@@ -1,4 +1,4 @@
-//! The engines that are measured, each called in one way: the library's two; the tests' walk, which repeats passes over
+//! The engines that are measured, each called in one way: the library's two whose walk is one, and the staged one; the tests' walk, which repeats passes over
 //! all instances at each node; and two in Rust made for speed. The library's times have checking the table and
 //! rewriting in them, the others' have grounding.
 #![allow(dead_code)] // each program uses its own part
@@ -18,6 +18,7 @@ pub enum Engine {
     Straightforward,
     Optimised,
     Faster,
+    Staged,
 }
 
 impl Engine {
@@ -27,7 +28,7 @@ impl Engine {
     pub const ALL: [Engine; 5] = [Engine::Relevancy, Engine::Magic, Engine::Straightforward, Engine::Optimised, Engine::Faster];
 
     pub fn name(self) -> &'static str {
-        ["relevancy", "magic", "straightforward", "optimised", "faster"][self as usize]
+        ["relevancy", "magic", "straightforward", "optimised", "faster", "staged"][self as usize]
     }
 }
 
@@ -52,6 +53,7 @@ impl Lent<'_> {
         let (given, took) = match engine {
             Engine::Relevancy => repeated(times, || library::fit_relevancy(table, answer, work)),
             Engine::Magic => repeated(times, || library::fit_magic(table, rules, answer, work)),
+            Engine::Staged => repeated(times, || library::fit_staged(table, answer, work)),
             Engine::Straightforward => return repeated(times, || walk(&Relevancy::new(ticket), u32::from_be_bytes(ticket.limit), &mut |_, _| {})),
             Engine::Optimised => return repeated(times, || grounded::fit(black_box(ticket))),
             Engine::Faster => return repeated(times, || faster::fit(black_box(ticket))),

@@ -1,5 +1,5 @@
-/* Lutsamik: reads and writes tickets, adds rules to them, fits them by two engines, in one go, in slices, by parts, or
- * where facts are not yet known, rewrites them, and judges answers to them.
+/* Lutsamik: reads and writes tickets, adds rules to them, fits them by three engines, by two of them also in slices, by
+ * parts, or where facts are not yet known, rewrites them, and judges answers to them.
  *
  * Link with liblutsamik.a, for x86-64: `make install` puts it, this header and a pkg-config file in place.
  * The library keeps no state, takes no memory and calls nothing but memcpy and memset: an operation works on the
@@ -34,6 +34,7 @@
  *                                                                         work: 65,536 times 0
  *   lutsamik_fit_magic        table; writes rules,         11, 31         rules: as lutsamik_rewrite does;
  *                             answer, work                                answer, work: as lutsamik_fit_relevancy
+ *   lutsamik_fit_staged       table; writes answer, work   11, 31         answer, work: as lutsamik_fit_relevancy
  *   lutsamik_begin_relevancy  table; writes session,       11, 31         session: all its bytes, 0 past the path;
  *                             answer, work                                answer, work: as lutsamik_fit_relevancy
  *   lutsamik_begin_magic      table; writes session,       11, 31         session: as lutsamik_begin_relevancy does;
@@ -61,15 +62,17 @@
  *
  * An engine runs until its walk ends or has made as many entries as the ticket or a further limit allows, however
  * long that takes. It calls itself along its path of up to 1,024 entries, that of a session too: leave it 1 MB of
- * stack, in which the tests walk such paths. lutsamik_deepest tells the longest path that was entered: the same call
- * again needs no more stack than a path of that length does; going on with a spent ticket may go deeper. So many bytes
- * of stack were measured:
+ * stack, in which the tests walk such paths. lutsamik_deepest tells the longest path that was entered; after
+ * lutsamik_fit_staged, and by parts, the figure is 0, whatever path that was. The same call again needs no more stack
+ * than a path as long as that one does; going on with a spent ticket may go deeper. So many bytes of stack were
+ * measured:
  *
  *   entries on the path             0       64      256    1,024
- *   a first run by relevancy   22,000   51,000  143,000  512,000
- *   a first run by magic       36,000   63,000  146,000  478,000
- *   going on by relevancy      45,000   68,000  160,000  529,000
- *   going on by magic          67,000   88,000  174,000  519,000
+ *   a first run by relevancy   20,000   46,000  138,000  506,000
+ *   a first run by magic       25,000   52,000  135,000  466,000
+ *   a run by stages            27,000   45,000  109,000  367,000
+ *   going on by relevancy      44,000   65,000  157,000  526,000
+ *   going on by magic          69,000   88,000  174,000  518,000
  *
  * With open facts a call needs up to 7,000 more than a first run on a path of that length, and by parts up to 24,000
  * more.
@@ -244,6 +247,17 @@ uint64_t lutsamik_fit_relevancy(const uint8_t *table, size_t table_len, uint8_t 
 uint64_t lutsamik_fit_magic(const uint8_t *table, size_t table_len, uint8_t *rules, size_t rules_len,
                             uint8_t *answer, size_t answer_len, uint8_t *work, size_t work_len);
 
+/* Fits the ticket in a table, by the staged engine: at each node it marks what is wanted afresh and in stages, and only
+ * until an instance is found to split. Where rules depend on each other its walk is often shorter than that of the
+ * other two engines; it can be longer.
+ *
+ * lutsamik_count and LUTSAMIK_SPENT are those of its own walk. LUTSAMIK_NONE and LUTSAMIK_FITS are right even where
+ * another engine is spent, so its verdict never contradicts another's; but the fitting may be another one. All else is
+ * as in lutsamik_fit_relevancy, except that lutsamik_deepest is 0, and that no call leaves a session of this walk or
+ * goes on with one. */
+uint64_t lutsamik_fit_staged(const uint8_t *table, size_t table_len, uint8_t *answer, size_t answer_len,
+                             uint8_t *work, size_t work_len);
+
 /* Fits the ticket in a table, by the relevancy engine, and leaves a session: a first run. Verdict, count, deepest
  * figure, answer and work are those of lutsamik_fit_relevancy, which is a first run whose session is not kept. What
  * the session held does not matter. */
@@ -352,7 +366,7 @@ static inline uint32_t lutsamik_rules(uint64_t result) { return (uint32_t)(resul
 static inline unsigned lutsamik_verdict(uint64_t result) { return (unsigned)(result >> 8 & 0xFF); }
 
 /* Bits 16 to 31 of an engine's result: how many entries the longest path had that was entered, A at most; with a
- * session, in all calls since the first run, and then it is the session's deepest. */
+ * session, in all calls since the first run, and then it is the session's deepest; 0 by the staged engine. */
 static inline uint32_t lutsamik_deepest(uint64_t result) { return (uint32_t)(result >> 16 & 0xFFFF); }
 
 /* Bits 32 to 63 of an engine's result: the number of search entries made, the root not among them; with a session, in

@@ -5,8 +5,9 @@ use crate::mangle::mangle;
 use crate::random::Random;
 use crate::reference::{self, clause_frame, Ticket, ANSWER, SLIP, TABLE};
 use crate::slip::{filled, ROOM};
+use crate::stages::Staged;
 use crate::tickets;
-use crate::walk::{walk, Relevancy, Verdict};
+use crate::walk::{walk, Engine, Relevancy, Verdict};
 
 /// Longer than any text that is accepted.
 const LONGEST_TEXT: usize = 6000;
@@ -23,12 +24,14 @@ pub fn ticket(random: &mut Random) -> Ticket {
     Ticket { limit: limit.to_be_bytes(), ..ticket }
 }
 
-/// The ticket's limit; where its walk is longer than this many entries, or than fewer where the ticket is large, one that cuts it.
+/// The ticket's limit; where its walk, also the staged one, is longer than this many entries, or than fewer where the ticket is large, one that cuts it.
 pub fn quick_limit(ticket: &Ticket, most: u64) -> u32 {
     let limit = u32::from_be_bytes(ticket.limit);
     let marks: u64 = ticket.clauses.iter().map(|clause| ticket.marks(clause)).sum();
     let cut = (1 + 200 * most / (1 + marks)).min(most) as u32;
-    if limit > cut && walk(&Relevancy::new(ticket), cut, &mut |_, _| {}).verdict == Verdict::Spent { cut } else { limit }
+    let engines: [&dyn Engine; 2] = [&Relevancy::new(ticket), &Staged::new(ticket)];
+    let is_long = |engine: &&dyn Engine| walk(*engine, cut, &mut |_, _| {}).verdict == Verdict::Spent;
+    if limit > cut && engines.iter().any(is_long) { cut } else { limit }
 }
 
 /// A ticket's text, whole or changed, also of a ticket near a limit; or any bytes.

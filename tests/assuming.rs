@@ -20,6 +20,7 @@ mod report;
 mod rules;
 mod session;
 mod slip;
+mod stages;
 mod threads;
 mod tickets;
 mod unrelated;

@@ -19,6 +19,7 @@ mod report;
 mod rules;
 mod session;
 mod slip;
+mod stages;
 mod tamper;
 mod tickets;
 mod walk;
@@ -149,7 +150,7 @@ impl Day {
 
     /// One call by the library, and what it must answer and leave.
     fn call(&mut self, operation: Operation, met: &mut Met) -> Result<(), Report> {
-        if matches!(operation, FitRelevancy | FitMagic | BeginRelevancy | BeginMagic | AssumeRelevancy | AssumeMagic | PartsRelevancy | PartsMagic) {
+        if matches!(operation, FitRelevancy | FitMagic | FitStaged | BeginRelevancy | BeginMagic | AssumeRelevancy | AssumeMagic | PartsRelevancy | PartsMagic) {
             self.cut_long_walk();
         }
         let lent = self.lend(operation, met);
@@ -276,7 +277,9 @@ impl Met {
 /// The answers that are no refusals, by their bits 8 to 15.
 fn said_by(operation: Operation) -> &'static [&'static str] {
     match operation {
-        FitRelevancy | FitMagic | BeginRelevancy | BeginMagic | ResumeRelevancy | ResumeMagic | PartsRelevancy | PartsMagic => &["none", "fits", "spent"],
+        FitRelevancy | FitMagic | FitStaged | BeginRelevancy | BeginMagic | ResumeRelevancy | ResumeMagic | PartsRelevancy | PartsMagic => {
+            &["none", "fits", "spent"]
+        }
         Judge => &["", "fitting", "violated"],
         AssumeRelevancy | AssumeMagic => &["none always", "none never", "spent", "none with some"],
         _ => &["done"],

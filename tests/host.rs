@@ -20,7 +20,7 @@ pub struct Host {
     pub count: u64,
 }
 
-/// The engines by name.
+/// The engines by name whose walk is one.
 pub const ENGINES: [(&str, fn(&mut Host) -> u64); 2] = [("relevancy", Host::fit_relevancy), ("magic", Host::fit_magic)];
 
 /// Their calls with open facts.
@@ -69,6 +69,10 @@ impl Host {
 
     pub fn fit_magic(&mut self) -> u64 {
         library::fit_magic(&self.table, &mut self.rules, &mut self.answer, &mut self.work)
+    }
+
+    pub fn fit_staged(&mut self) -> u64 {
+        library::fit_staged(&self.table, &mut self.answer, &mut self.work)
     }
 
     pub fn begin_relevancy(&mut self) -> u64 {

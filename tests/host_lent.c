@@ -31,6 +31,7 @@ static const struct {
     {"rewriting", 1 << TABLE | 1 << RULES},
     {"the relevancy engine", 1 << TABLE | 1 << ANSWER | 1 << WORK},
     {"the magic engine", 1 << TABLE | 1 << RULES | 1 << ANSWER | 1 << WORK},
+    {"the staged engine", 1 << TABLE | 1 << ANSWER | 1 << WORK},
     {"a first run of the relevancy engine", 1 << TABLE | 1 << SESSION | 1 << ANSWER | 1 << WORK},
     {"a first run of the magic engine", 1 << TABLE | 1 << SESSION | 1 << RULES | 1 << ANSWER | 1 << WORK},
     {"the relevancy engine with a session", 1 << TABLE | 1 << SESSION | 1 << ANSWER | 1 << WORK},
@@ -187,6 +188,8 @@ uint64_t call(enum operation operation, const struct lent *lent) {
     case MAGIC:
         return lutsamik_fit_magic(table->bytes, table->len, rules->bytes, rules->len, answer->bytes, answer->len,
                                   work->bytes, work->len);
+    case STAGED:
+        return lutsamik_fit_staged(table->bytes, table->len, answer->bytes, answer->len, work->bytes, work->len);
     case BEGIN_RELEVANCY:
         return lutsamik_begin_relevancy(session_of(lent), table->bytes, table->len, answer->bytes, answer->len,
                                         work->bytes, work->len);

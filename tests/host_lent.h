@@ -17,6 +17,7 @@ enum operation {
     REWRITE,
     RELEVANCY,
     MAGIC,
+    STAGED,
     BEGIN_RELEVANCY,
     BEGIN_MAGIC,
     RESUME_RELEVANCY,

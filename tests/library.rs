@@ -21,6 +21,7 @@ extern "C" {
         work: *mut u8,
         work_len: usize,
     ) -> u64;
+    fn lutsamik_fit_staged(table: *const u8, table_len: usize, answer: *mut u8, answer_len: usize, work: *mut u8, work_len: usize) -> u64;
     fn lutsamik_begin_relevancy(
         session: *mut Session,
         table: *const u8,
@@ -169,6 +170,10 @@ pub fn fit_magic(table: &[u8], rules: &mut [u8], answer: &mut [u8], work: &mut [
     let (rules, rules_len) = (rules.as_mut_ptr(), rules.len());
     let (answer, answer_len) = (answer.as_mut_ptr(), answer.len());
     unsafe { lutsamik_fit_magic(table.as_ptr(), table.len(), rules, rules_len, answer, answer_len, work.as_mut_ptr(), work.len()) }
+}
+
+pub fn fit_staged(table: &[u8], answer: &mut [u8], work: &mut [u8]) -> u64 {
+    unsafe { lutsamik_fit_staged(table.as_ptr(), table.len(), answer.as_mut_ptr(), answer.len(), work.as_mut_ptr(), work.len()) }
 }
 
 pub fn begin_relevancy(session: &mut Session, table: &[u8], answer: &mut [u8], work: &mut [u8]) -> u64 {

@@ -12,6 +12,7 @@ mod random;
 mod reference;
 mod report;
 mod slip;
+mod stages;
 mod threads;
 mod tickets;
 mod walk;

@@ -1,4 +1,4 @@
-//! The library's seventeen operations: which buffers each is lent, and a call of which every lent byte is compared.
+//! The library's eighteen operations: which buffers each is lent, and a call of which every lent byte is compared.
 #![allow(dead_code)] // each program uses its own part
 
 use crate::library::{self, SESSION};
@@ -17,6 +17,7 @@ pub enum Operation {
     Rewrite,
     FitRelevancy,
     FitMagic,
+    FitStaged,
     Judge,
     Holding,
     BeginRelevancy,
@@ -29,7 +30,7 @@ pub enum Operation {
     PartsMagic,
 }
 
-pub const OPERATIONS: [Operation; 17] = [
+pub const OPERATIONS: [Operation; 18] = [
     Operation::Read,
     Operation::Write,
     Operation::Offer,
@@ -37,6 +38,7 @@ pub const OPERATIONS: [Operation; 17] = [
     Operation::Rewrite,
     Operation::FitRelevancy,
     Operation::FitMagic,
+    Operation::FitStaged,
     Operation::Judge,
     Operation::Holding,
     Operation::BeginRelevancy,
@@ -93,7 +95,7 @@ impl Operation {
             Operation::Offer => &[Table, Frame, Slip],
             Operation::Set => &[Table, Slip],
             Operation::Rewrite => &[Table, Rules],
-            Operation::FitRelevancy => &[Table, Answer, Work],
+            Operation::FitRelevancy | Operation::FitStaged => &[Table, Answer, Work],
             Operation::FitMagic => &[Table, Rules, Answer, Work],
             Operation::Judge | Operation::Holding => &[Table, Answer],
             Operation::BeginRelevancy | Operation::ResumeRelevancy => &[Session, Table, Answer, Work],
@@ -156,6 +158,7 @@ impl Lent {
             Operation::Rewrite => library::rewrite(table.lent(), rules.lent_mut()),
             Operation::FitRelevancy => library::fit_relevancy(table.lent(), answer.lent_mut(), work.lent_mut()),
             Operation::FitMagic => library::fit_magic(table.lent(), rules.lent_mut(), answer.lent_mut(), work.lent_mut()),
+            Operation::FitStaged => library::fit_staged(table.lent(), answer.lent_mut(), work.lent_mut()),
             Operation::Judge => library::judge(table.lent(), answer.lent()),
             Operation::Holding => library::holding(table.lent(), answer.lent(), self.clause, self.values),
             Operation::BeginRelevancy => library::begin_relevancy(session_in(session), table.lent(), answer.lent_mut(), work.lent_mut()),

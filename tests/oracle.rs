@@ -10,6 +10,7 @@ use crate::reference::{self, Ticket, NO_TABLE, SHORT_BUFFER, SLIP, TABLE, WORK};
 use crate::rules;
 use crate::session::{self, Told};
 use crate::slip;
+use crate::stages::Staged;
 use crate::walk::{walk, Engine, Outcome, Relevancy};
 
 /// The answer, and what is left in the buffers.
@@ -53,6 +54,7 @@ fn of_ticket(operation: Operation, ticket: &Ticket, lent: &mut Lent) -> u64 {
             rewrite(ticket, lent);
             fit_by(&Magic::new(&rewritten(ticket), ticket), ticket, lent)
         }
+        Operation::FitStaged => staged(&walk(&Staged::new(ticket), u32::from_be_bytes(ticket.limit), &mut |_, _| {}), lent),
         Operation::FitRelevancy => fit_by(&Relevancy::new(ticket), ticket, lent),
         Operation::Holding => holding(ticket, lent),
         Operation::Judge => judge(ticket, lent),
@@ -103,6 +105,11 @@ fn ended(outcome: &Outcome, lent: &mut Lent) -> u64 {
     begin(lent, Buffer::Answer, &marks);
     begin(lent, Buffer::Work, &[0; WORK]);
     fit(outcome.verdict as u8, outcome.count, outcome.deepest)
+}
+
+/// What the staged engine gives and leaves, whose walk has ended so: it tells no deepest figure.
+pub fn staged(outcome: &Outcome, lent: &mut Lent) -> u64 {
+    ended(&Outcome { deepest: 0, ..outcome.clone() }, lent)
 }
 
 /// A first run, or going on with the session lent, by an engine.

@@ -15,25 +15,26 @@ mod oracle;
 mod parts;
 mod random;
 mod reference;
+mod refusing;
 mod report;
 #[allow(dead_code)] // rules are compared by their bytes, and not read back
 mod rules;
 mod session;
 mod slip;
+mod stages;
 mod threads;
 mod tickets;
 mod unrelated;
 mod walk;
 
-use library::packed;
 use logic::ground;
 use magic::{rewritten, Magic};
-use memory::{less_than, Memory};
 use met::Required;
-use operations::{Buffer, Lent, Operation, BUFFERS};
+use operations::{Buffer, Operation};
 use parts::{has_fitting, parts, told, Part, Told};
 use random::Random;
-use reference::{Atom, Clause, Ticket, ANSWER, MOST_CLAUSES, NO_TABLE, RULES, SHORT_BUFFER, WORK};
+use reference::{Atom, Clause, Ticket, ANSWER, MOST_CLAUSES, RULES, WORK};
+use refusing::lend;
 use report::{same, Report};
 use std::sync::mpsc;
 use std::thread;
@@ -112,11 +113,7 @@ impl Run<Met> {
         let told = |report: Report| format!("{report}\n{}", String::from_utf8_lossy(&reference::print(&ticket)));
         same("whether the ticket is accepted", true, reference::read(&reference::print(&ticket)).is_ok()).map_err(told)?;
         self.answered(&ticket).map_err(told)?;
-        match self.random.below(3) {
-            0 => self.any_size(),
-            1 => self.no_table(&ticket),
-            _ => self.too_little(&ticket),
-        }
+        self.refuse(&PARTS, &ticket)
     }
 
     /// Up to four small tickets as one, their predicates and clauses mixed; at times a clause joins two of them, one is without atoms, or a predicate is
@@ -210,52 +207,6 @@ impl Run<Met> {
             }
         }
         Ok(())
-    }
-
-    /// A ticket of any size, valid or not, with a limit that is soon reached.
-    fn any_size(&mut self) -> Result<(), Report> {
-        let limit = self.random.below(4) as u32;
-        let ticket = Ticket { limit: limit.to_be_bytes(), ..tickets::ticket(&mut self.random) };
-        let lent = lend(&mut self.random, &reference::encode(&ticket));
-        self.as_expected(&lent).map(drop)
-    }
-
-    /// A damaged table, mostly no ticket's: then it is 31.
-    fn no_table(&mut self, ticket: &Ticket) -> Result<(), Report> {
-        let mut table = tickets::damaged(&mut self.random, &reference::encode(ticket));
-        table[4..8].copy_from_slice(&[0, 0, 0, 2]);
-        let is_table = reference::ticket_in(&table).is_some();
-        let lent = lend(&mut self.random, &table);
-        let numbers = self.as_expected(&lent)?;
-        self.tally.note(REFUSED, if is_table { "no".to_string() } else { "31".to_string() });
-        same("whether it is refused by 31", [!is_table; 2], numbers.map(|number| number == NO_TABLE))
-    }
-
-    /// A buffer that is too short: whatever the table is, it is 11.
-    fn too_little(&mut self, ticket: &Ticket) -> Result<(), Report> {
-        let table = if self.random.once_in(2) { reference::encode(ticket) } else { arbitrary::bytes(&mut self.random, reference::TABLE) };
-        for buffer in SHORT {
-            let mut lent = lend(&mut self.random, &table);
-            lent[buffer] = lent[buffer].truncated(less_than(&mut self.random, buffer.required()));
-            for operation in PARTS.into_iter().filter(|operation| operation.buffers().contains(&buffer)) {
-                self.tally.calls += 1;
-                self.tally.note(REFUSED, format!("11 by {buffer:?}"));
-                lent.agrees(operation, packed(SHORT_BUFFER, 0), &lent)?;
-            }
-        }
-        Ok(())
-    }
-
-    /// A call by each engine, as `oracle` has it: the refusals.
-    fn as_expected(&mut self, lent: &Lent) -> Result<[u8; 2], Report> {
-        let mut numbers = [0; 2];
-        for (number, operation) in numbers.iter_mut().zip(PARTS) {
-            let (answer, left) = oracle::expected(operation, lent);
-            self.tally.calls += 1;
-            lent.agrees(operation, answer, &left)?;
-            *number = answer as u8;
-        }
-        Ok(numbers)
     }
 
     /// What document 02 says of tickets in parts, told by hand: the parts by their predicates, verdict, sum and marks.
@@ -360,19 +311,6 @@ fn shuffled(random: &mut Random, ticket: Ticket) -> Ticket {
     Ticket { arities, clauses, ..ticket }
 }
 
-/// Buffers that are long enough, or longer, with any bytes in them but for the table.
-fn lend(random: &mut Random, table: &[u8]) -> Lent {
-    let buffers = BUFFERS.map(|buffer| {
-        let more = if SHORT.contains(&buffer) { random.pick(&[0, 0, 1, 57]) } else { 0 };
-        let memory = Memory::random(random, buffer.required() + more);
-        if buffer == Buffer::Table { memory.beginning_with(table) } else { memory }
-    });
-    Lent { buffers, clause: 0, values: [0; 4], further: 0 }
-}
-
-/// The buffers that can be too short.
-const SHORT: [Buffer; 4] = [Buffer::Table, Buffer::Answer, Buffer::Work, Buffer::Rules];
-
 type ByHand = (&'static str, &'static [&'static [u8]], Verdict, u64, &'static str);
 
 /// Predicates without arguments, so that an atom has its predicate's number. Families of a split over two atoms, both of them wanted by denials: of one,
@@ -446,7 +384,6 @@ const TRIED: &str = "all sets tried";
 const WHOLE: &str = "whole";
 const MET: &str = "met";
 const MANY: &str = "number of parts";
-const REFUSED: &str = "refused";
 
 #[derive(Default)]
 struct Own {
@@ -463,8 +400,7 @@ impl Required for Own {
         let met = ["spent, then none", "spent, then fits", "none before the last part", "fits, then none", "a sum above the limit"];
         let more = ["a predicate in no clause", "a clause without atoms", "a part between another's predicates", "entries in several parts"];
         required.extend(met.into_iter().chain(more).map(|name| (MET, name.to_string())));
-        required.push((REFUSED, "31".to_string()));
-        required.extend(SHORT.map(|buffer| (REFUSED, format!("11 by {buffer:?}"))));
+        required.extend(refusing::required(&PARTS));
         required
     }
 }

@@ -24,6 +24,7 @@ mod rules;
 mod session;
 mod sizes;
 mod slip;
+mod stages;
 mod tamper;
 mod threads;
 mod tickets;

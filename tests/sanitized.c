@@ -162,6 +162,7 @@ enum operation {
     REWRITE,
     FIT_RELEVANCY,
     FIT_MAGIC,
+    FIT_STAGED,
     JUDGE,
     HOLDING,
     BEGIN_RELEVANCY,
@@ -176,7 +177,7 @@ enum operation {
 };
 
 static const char *const names[OPERATIONS] = {"read",      "write",   "offer",           "set",         "rewrite",          "fit_relevancy", "fit_magic",
-                                             "judge",     "holding", "begin_relevancy", "begin_magic", "resume_relevancy", "resume_magic",
+                                             "fit_staged", "judge",     "holding", "begin_relevancy", "begin_magic", "resume_relevancy", "resume_magic",
                                              "assume_relevancy", "assume_magic", "parts_relevancy", "parts_magic"};
 
 /* Which buffers each is lent: to be read, or to be written to. */
@@ -189,6 +190,7 @@ static const enum use uses[OPERATIONS][BUFFERS] = {
     [REWRITE] = {[TABLE] = CONST, [RULES] = WRITTEN},
     [FIT_RELEVANCY] = {[TABLE] = CONST, [ANSWER] = WRITTEN, [WORK] = WRITTEN},
     [FIT_MAGIC] = {[TABLE] = CONST, [RULES] = WRITTEN, [ANSWER] = WRITTEN, [WORK] = WRITTEN},
+    [FIT_STAGED] = {[TABLE] = CONST, [ANSWER] = WRITTEN, [WORK] = WRITTEN},
     [JUDGE] = {[TABLE] = CONST, [ANSWER] = CONST},
     [HOLDING] = {[TABLE] = CONST, [ANSWER] = CONST},
     [BEGIN_RELEVANCY] = {[TABLE] = CONST, [SESSION] = WRITTEN, [ANSWER] = WRITTEN, [WORK] = WRITTEN},
@@ -204,9 +206,9 @@ static const enum use uses[OPERATIONS][BUFFERS] = {
 /* The instance that holding is asked for: its clause, and the values of 80, 81, 82 and 83. The further limit of a session. */
 static uint32_t clause, values[4], further;
 
-/* How often each gave which refusal, or none; an engine which verdict; with open facts what was said; and by parts which verdict. */
+/* How often each gave which refusal, or none; an engine which verdict; with open facts what was said; and by parts and by stages which verdict. */
 static unsigned long met[OPERATIONS][LUTSAMIK_BAD_FACTS + 1], verdicts[LUTSAMIK_SPENT + 1], said_of_facts[LUTSAMIK_NONE_WITH_SOME + 1];
-static unsigned long by_parts[LUTSAMIK_SPENT + 1];
+static unsigned long by_parts[LUTSAMIK_SPENT + 1], by_stages[LUTSAMIK_SPENT + 1];
 
 /* What an engine has answered for the table that is held, or none has yet. */
 static uint64_t fitted;
@@ -238,6 +240,8 @@ static uint64_t invoke(enum operation operation) {
         return lutsamik_fit_relevancy(LENT(TABLE), LENT(ANSWER), LENT(WORK));
     case FIT_MAGIC:
         return lutsamik_fit_magic(LENT(TABLE), LENT(RULES), LENT(ANSWER), LENT(WORK));
+    case FIT_STAGED:
+        return lutsamik_fit_staged(LENT(TABLE), LENT(ANSWER), LENT(WORK));
     case JUDGE:
         return lutsamik_judge(LENT(TABLE), LENT(ANSWER));
     case BEGIN_RELEVANCY:
@@ -378,6 +382,16 @@ static void has_parted(enum operation operation, uint64_t answer) {
     by_parts[lutsamik_verdict(answer)]++;
 }
 
+/* Where neither is spent, it says what the relevancy engine does. It tells no path. */
+static void has_staged(uint64_t answer) {
+    static uint8_t marks[LUTSAMIK_ANSWER_BYTES], work[LUTSAMIK_WORK_BYTES];
+    unsigned other = lutsamik_verdict(lutsamik_fit_relevancy(LENT(TABLE), marks, sizeof marks, work, sizeof work)), own = lutsamik_verdict(answer);
+    require(own == other || own == LUTSAMIK_SPENT || other == LUTSAMIK_SPENT, "stages never say the contrary");
+    require(lutsamik_deepest(answer) == 0, "stages tell no path");
+    has_ended(answer);
+    by_stages[own]++;
+}
+
 static void has_judged(uint64_t answer) {
     unsigned judged = lutsamik_judged(answer);
     require(judged == LUTSAMIK_FITTING || judged == LUTSAMIK_VIOLATED, "judging says fitting or violated");
@@ -412,6 +426,8 @@ static void has_done(enum operation operation, uint64_t answer) {
         has_assumed(operation, answer);
     else if (operation == PARTS_RELEVANCY || operation == PARTS_MAGIC)
         has_parted(operation, answer);
+    else if (operation == FIT_STAGED)
+        has_staged(answer);
     else
         has_fitted(answer);
     if (operation == BEGIN_RELEVANCY || operation == BEGIN_MAGIC)
@@ -597,7 +613,7 @@ static void print_met(void) {
     for (unsigned said = LUTSAMIK_NONE_ALWAYS; said <= LUTSAMIK_NONE_WITH_SOME; said++)
         require(said_of_facts[said] > 0, "each answer of open facts comes");
     for (unsigned verdict = LUTSAMIK_NONE; verdict <= LUTSAMIK_SPENT; verdict++)
-        require(by_parts[verdict] > 0, "each verdict comes by parts");
+        require(by_parts[verdict] > 0 && by_stages[verdict] > 0, "each verdict comes by parts and by stages");
     require(met[OFFER][LUTSAMIK_BAD_KIND] > 0 && met[OFFER][LUTSAMIK_BAD_LENGTH] > 0 && met[SET][LUTSAMIK_BAD_LENGTH] > 0, "rules are refused");
 }
 

@@ -157,6 +157,17 @@ static int rewrites_and_fits_none(void) {
     return 0;
 }
 
+/* The table is K1's. By stages it has no fitting either, after as many entries, and no path is told. */
+static int fits_by_stages(void) {
+    uint64_t result = lutsamik_fit_staged(table, sizeof table, answer, sizeof answer, work, sizeof work);
+    if (!is_fit(result, LUTSAMIK_NONE, 2, 0))
+        return fail("K1 is not found to have no fitting by stages", result);
+    result = lutsamik_fit_staged(table, sizeof table, answer, sizeof answer, work, sizeof work - 1);
+    if (lutsamik_refusal(result) != LUTSAMIK_SHORT_BUFFER)
+        return fail("a work buffer that is too short is used by stages", result);
+    return 0;
+}
+
 /* K6 with a limit of 1 is spent, and comes back with one further entry, by the other engine; then it is finished. It
  * has six atoms: a figure of six is kept, and one more is refused. */
 static int comes_back(void) {
@@ -273,7 +284,7 @@ static int says_how_many_hold(void) {
 
 int main(void) {
     if (takes_apart() || is_laid_out() || refuses() || reads_and_writes() || judges() || rewrites_and_fits_none() ||
-        adds() || comes_back() || fits_and_judges() || assumes() || fits_by_parts() ||
+        fits_by_stages() || adds() || comes_back() || fits_and_judges() || assumes() || fits_by_parts() ||
         says_how_many_hold())
         return 1;
     puts("smoke: results are taken apart, a session is laid out, and each operation answers for K1 or K6");

@@ -14,6 +14,7 @@ mod random;
 mod reference;
 mod report;
 mod slip;
+mod stages;
 mod tickets;
 mod walk;
 
@@ -23,7 +24,8 @@ use library::{fit, packed, said, FITTING};
 use random::Random;
 use reference::{Ticket, MOST_CLAUSES, STALE_SLIP};
 use report::{same, same_answer, Report};
-use walk::{walk, Relevancy, Verdict};
+use stages::Staged;
+use walk::{walk, Outcome, Relevancy, Verdict};
 
 const TICKETS: u64 = 10_000;
 const SEED: u64 = 601;
@@ -74,6 +76,7 @@ struct Answers {
     rewrite: u64,
     fit: u64,
     verdict: Verdict,
+    staged: Outcome,
     rule: Vec<u8>,
     offer: u64,
     longer: Vec<u8>,
@@ -122,7 +125,8 @@ impl Job {
         let of_part = |_, part: &parts::Part| walk(&Relevancy::new(&part.ticket), u32::from_be_bytes(ticket.limit), &mut |_, _| {});
         let told = parts::told(ticket, &parts::parts(ticket), of_part);
         let by_parts = (told.verdict, told.count);
-        let answers = Answers { rewrite, fit, verdict, longer: slip::text_with(&text, &rule), rule, offer, facts, assumed, counts, by_parts };
+        let staged = walk(&Staged::new(ticket), u32::from_be_bytes(ticket.limit), &mut |_, _| {});
+        let answers = Answers { rewrite, fit, verdict, staged, longer: slip::text_with(&text, &rule), rule, offer, facts, assumed, counts, by_parts };
         Job { text, read: packed(0, 0), accepted: Some(answers) }
     }
 }
@@ -155,8 +159,10 @@ impl Soak {
         same("the text written", &job.text[..], &self.host.out[..job.text.len()])?;
         self.call(job, answers.rewrite, Host::rewrite)?;
         for (_, engine) in ENGINES {
-            self.fit(job, answers, engine)?;
+            self.fit(job, answers.fit, answers.verdict, engine)?;
         }
+        let staged = &answers.staged;
+        self.fit(job, fit(staged.verdict as u8, staged.count, 0), staged.verdict, Host::fit_staged)?;
         for (_, assume) in WITH_FACTS {
             self.assume(job, answers, assume)?;
         }
@@ -164,17 +170,17 @@ impl Soak {
             self.by_parts(job, answers, engine)?;
         }
         for (_, begin, resume) in WITH_SESSION {
-            self.fit(job, answers, begin)?;
-            self.fit(job, answers, |host| resume(host, 0))?;
+            self.fit(job, answers.fit, answers.verdict, begin)?;
+            self.fit(job, answers.fit, answers.verdict, |host| resume(host, 0))?;
         }
         self.add(job, answers)
     }
 
     /// A call of an engine; going on with a session for no further entry answers as the run before.
-    fn fit(&mut self, job: &Job, answers: &Answers, engine: impl Fn(&mut Host) -> u64) -> Result<(), Report> {
+    fn fit(&mut self, job: &Job, answer: u64, verdict: Verdict, engine: impl Fn(&mut Host) -> u64) -> Result<(), Report> {
         self.host.answer.fill(0xEE);
-        self.call(job, answers.fit, engine)?;
-        if answers.verdict == Verdict::Fits {
+        self.call(job, answer, engine)?;
+        if verdict == Verdict::Fits {
             self.call(job, FITTING, Host::judge)?;
         }
         Ok(())
@@ -189,13 +195,8 @@ impl Soak {
 
     fn by_parts(&mut self, job: &Job, answers: &Answers, engine: impl Fn(&mut Host) -> u64) -> Result<(), Report> {
         let (verdict, sum) = answers.by_parts;
-        self.host.answer.fill(0xEE);
-        self.call(job, said(verdict as u8), engine)?;
-        same("the sum of the parts' counts", sum, self.host.count)?;
-        if verdict == Verdict::Fits {
-            self.call(job, FITTING, Host::judge)?;
-        }
-        Ok(())
+        self.fit(job, said(verdict as u8), verdict, engine)?;
+        same("the sum of the parts' counts", sum, self.host.count)
     }
 
     /// Offers the rule, and sets it where it can be added: twice it cannot.

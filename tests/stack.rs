@@ -12,6 +12,7 @@ mod random;
 mod reference;
 mod report;
 mod session;
+mod stages;
 mod tickets;
 mod walk;
 
@@ -20,8 +21,9 @@ use library::{fit, packed, said, violated, Session};
 use reference::Ticket;
 use report::{same, same_answer, Report};
 use session::{begun, resumed, Told};
+use stages::Staged;
 use std::hint::black_box;
-use walk::{walk, Outcome, Relevancy, Remembering};
+use walk::{walk, Engine, Outcome, Relevancy, Remembering};
 
 const STACK: usize = 1 << 20;
 
@@ -35,10 +37,10 @@ const MOST: usize = 1 << 14;
 const MORE_WITH_FACTS: usize = 7_000;
 const MORE_BY_PARTS: usize = 24_000;
 
-/// The header's table: for paths of so many entries, what a first run and going on with a session use, by each engine.
+/// The header's table: for paths of so many entries, what a first run and going on with a session use, by each engine, and a run of the staged one.
 const HEADER: &str = include_str!("../include/lutsamik.h");
 const PATHS: [u32; 4] = [0, 64, 256, 1024];
-const ROWS: [&str; 4] = ["a first run by relevancy", "a first run by magic", "going on by relevancy", "going on by magic"];
+const ROWS: [&str; 5] = ["a first run by relevancy", "a first run by magic", "a run by stages", "going on by relevancy", "going on by magic"];
 
 fn main() {
     let stack = std::env::args().nth(1).map_or(STACK, |word| word.parse().expect("the argument is a number"));
@@ -68,9 +70,10 @@ fn as_in_header(stack: usize) -> Result<(), Report> {
     for (i, path) in PATHS.into_iter().enumerate() {
         let ticket = tickets::deep(32, 1, path);
         let (fits, calls) = (walked(&ticket, path, path, stack)?, brought_back(&ticket, path, stack)?);
+        measured[2][i] = fits[2];
         for (engine, [begun, resumed]) in calls.into_iter().enumerate() {
             measured[engine][i] = begun.max(fits[engine]);
-            measured[2 + engine][i] = resumed;
+            measured[3 + engine][i] = resumed;
         }
     }
     println!("stack: in the header's table, on paths of {PATHS:?} entries:");
@@ -125,23 +128,28 @@ fn without_a_walk(ticket: &Ticket, stack: usize) -> Result<(), Report> {
     Ok(())
 }
 
-/// A ticket that has so many entries, the longest path of this length, by each engine: how many bytes each uses.
-fn walked(ticket: &Ticket, count: u32, path: u32, stack: usize) -> Result<[usize; 2], Report> {
-    let outcome = walk(&Relevancy::new(ticket), u32::from_be_bytes(ticket.limit), &mut |_, _| {});
-    same("entries and longest path", (count, path), (outcome.count, outcome.deepest))?;
+/// A ticket that has so many entries, the longest path of this length, by each engine: how many bytes each uses, the staged one last. It tells no figure.
+fn walked(ticket: &Ticket, count: u32, path: u32, stack: usize) -> Result<[usize; 3], Report> {
+    let limit = u32::from_be_bytes(ticket.limit);
+    let [outcome, staged] = [&Relevancy::new(ticket) as &dyn Engine, &Staged::new(ticket)].map(|engine| walk(engine, limit, &mut |_, _| {}));
+    same("entries and longest path", [(count, path); 2], [&outcome, &staged].map(|outcome| (outcome.count, outcome.deepest)))?;
     let expected = fit(outcome.verdict as u8, outcome.count, outcome.deepest);
-    let mut host = Host { table: reference::encode(ticket), ..Host::new() };
-    let mut most = [0; 2];
-    for (i, (name, engine)) in ENGINES.into_iter().enumerate() {
-        let mut again = host.clone();
-        let thread = std::thread::Builder::new().stack_size(stack).spawn(move || engine(&mut again)).expect("a thread");
-        same_answer(expected, thread.join().expect("the thread ends"), || format!("by {name} in a thread of {stack} bytes"))?;
-        most[i] = used(name, expected, stack, MOST_TO_WALK, || engine(&mut host))?;
-        println!("stack: {count} entries, on a path of up to {path}, are walked by {name} in a thread of {stack} bytes, and uses {} of them", most[i]);
-    }
+    let [relevancy, magic] = ENGINES.map(|engine| fitted(engine, expected, ticket, stack));
+    let most = [relevancy?, magic?];
     with_facts(ticket, &outcome, most, stack)?;
     by_parts(ticket, most, stack)?;
-    Ok(most)
+    let staged = fitted(("stages", Host::fit_staged), fit(staged.verdict as u8, staged.count, 0), ticket, stack)?;
+    println!("stack: {count} entries on a path of up to {path}: {most:?} bytes by {:?}, {staged} by stages", ENGINES.map(|(name, _)| name));
+    Ok([most[0], most[1], staged])
+}
+
+/// A ticket fitted by an engine, in a thread and on a painted stack of so many bytes: how many it uses there.
+fn fitted((name, engine): (&str, fn(&mut Host) -> u64), expected: u64, ticket: &Ticket, stack: usize) -> Result<usize, Report> {
+    let mut host = Host { table: reference::encode(ticket), ..Host::new() };
+    let mut again = host.clone();
+    let thread = std::thread::Builder::new().stack_size(stack).spawn(move || engine(&mut again)).expect("a thread");
+    same_answer(expected, thread.join().expect("the thread ends"), || format!("by {name} in a thread of {stack} bytes"))?;
+    used(name, expected, stack, MOST_TO_WALK, || engine(&mut host))
 }
 
 /// The same with as many open facts as there is room for, which runs the ticket twice unless it ends in none: a little more than a first run uses.

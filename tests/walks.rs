@@ -31,31 +31,15 @@ const LONG: u32 = 200;
 /// Whether there is a fitting is found by trying all sets, where there are at most this many atoms.
 const FEW_ATOMS: usize = 10;
 
-/// Where the program `cases` has its tickets and lines, from the root of the repository; and how many tickets.
-const CASES: &str = "crates/cases/data";
-const CASE_FILES: usize = 15;
-
 fn main() {
     threads::run("walks", TICKETS, 201, run);
 }
 
 fn worked_tickets() -> Result<(), Report> {
     for worked in worked::worked().into_iter().chain(worked::named_again()) {
-        let expected: String = worked.printed.iter().map(|line| format!("{line}\n")).collect();
-        both_print(worked.name, worked.text.as_bytes(), expected.as_bytes())?;
+        both_print(worked.name, worked.text.as_bytes(), worked.lines().as_bytes())?;
     }
-    Ok(())
-}
-
-/// The tickets that the program `cases` runs, with the lines that it expects.
-fn case_files() -> Result<(), Report> {
-    let files = std::fs::read_dir(CASES).expect("the cases' data").map(|entry| entry.expect("a file").path());
-    let tickets: Vec<_> = files.filter(|path| path.extension().is_some_and(|kind| kind == "text")).collect();
-    for ticket in &tickets {
-        let read = |path: &std::path::Path| std::fs::read(path).expect("a file of a case");
-        both_print(&ticket.display().to_string(), &read(ticket), &read(&ticket.with_extension("lines")))?;
-    }
-    same("number of case files", CASE_FILES, tickets.len())
+    worked::case_files().iter().try_for_each(|case| both_print(&case.name, &case.text, &case.lines))
 }
 
 fn both_print(name: &str, text: &[u8], expected: &[u8]) -> Result<(), Report> {
@@ -91,7 +75,6 @@ fn by_magic(ticket: &Ticket) -> Outcome {
 fn run(run: &mut Run<Met>, many: u64) -> Result<(), Report> {
     if run.number == 0 {
         worked_tickets()?;
-        case_files()?;
         deep_paths()?;
     }
     while run.tally.mix.tickets < many {

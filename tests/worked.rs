@@ -1,10 +1,37 @@
-//! The worked tickets K1 to K9 of document 01, and tickets that name an alternative again; with what a program prints for each.
+//! The worked tickets K1 to K9 of document 01, tickets that name an alternative again, and those of the program `cases`; with what a program prints for each.
 #![allow(dead_code)] // each program uses its own part
 
 pub struct Worked {
     pub name: &'static str,
     pub text: String,
     pub printed: &'static [&'static str],
+}
+
+impl Worked {
+    pub fn lines(&self) -> String {
+        self.printed.iter().map(|line| format!("{line}\n")).collect()
+    }
+}
+
+/// A ticket that the program `cases` runs, with the lines that it expects.
+pub struct Case {
+    pub name: String,
+    pub text: Vec<u8>,
+    pub lines: Vec<u8>,
+}
+
+/// Where they are, from the root of the repository; and how many.
+const CASES: &str = "crates/cases/data";
+const CASE_FILES: usize = 15;
+
+pub fn case_files() -> Vec<Case> {
+    let files = std::fs::read_dir(CASES).expect("the cases' data").map(|entry| entry.expect("a file").path());
+    let texts = files.filter(|path| path.extension().is_some_and(|kind| kind == "text"));
+    let read = |path: &std::path::Path| std::fs::read(path).expect("a file of a case");
+    let name = |path: &std::path::Path| path.file_stem().expect("a name").to_string_lossy().into_owned();
+    let cases: Vec<Case> = texts.map(|path| Case { name: name(&path), text: read(&path), lines: read(&path.with_extension("lines")) }).collect();
+    assert_eq!(CASE_FILES, cases.len(), "number of case files");
+    cases
 }
 
 /// Beginnings: K1's, with c = 2 and three predicates of arity 1; c = 0 and one predicate of arity 0.

@@ -17,6 +17,7 @@ uint64_t TRUE(judge)(const uint8_t *table, size_t table_len, const uint8_t *answ
 uint64_t TRUE(holding)(const uint8_t *table, size_t table_len, const uint8_t *answer, size_t answer_len, uint32_t clause, uint32_t value_80,
                        uint32_t value_81, uint32_t value_82, uint32_t value_83);
 uint64_t TRUE(fit_relevancy)(const uint8_t *table, size_t table_len, uint8_t *answer, size_t answer_len, uint8_t *work, size_t work_len);
+uint64_t TRUE(fit_staged)(const uint8_t *table, size_t table_len, uint8_t *answer, size_t answer_len, uint8_t *work, size_t work_len);
 uint64_t TRUE(resume_relevancy)(struct lutsamik_session *session, uint32_t further, const uint8_t *table, size_t table_len, uint8_t *answer,
                                 size_t answer_len, uint8_t *work, size_t work_len);
 uint64_t TRUE(resume_magic)(struct lutsamik_session *session, uint32_t further, const uint8_t *table, size_t table_len, uint8_t *rules,
@@ -90,6 +91,15 @@ uint64_t lutsamik_fit_relevancy(const uint8_t *table, size_t table_len, uint8_t 
     uint64_t fit = TRUE(fit_relevancy)(table, table_len, answer, answer_len, work, work_len);
     if (lie("wanted") && lutsamik_count(fit) == 0) answer[2] ^= 1;
     return fit;
+}
+
+/* Another fitting, verdict or count, or a deepest figure, by stages. */
+uint64_t lutsamik_fit_staged(const uint8_t *table, size_t table_len, uint8_t *answer, size_t answer_len, uint8_t *work, size_t work_len) {
+    uint64_t fit = TRUE(fit_staged)(table, table_len, answer, answer_len, work, work_len);
+    if (lie("staged fitting")) answer[0] ^= 1;
+    if (lie("staged verdict")) return fit ^ OTHER_VERDICT;
+    if (lie("staged count")) return fit + ONE_ENTRY;
+    return lie("staged deepest") ? fit + ONE_DEEPER : fit;
 }
 
 /* What both engines say of going on: a count or a deepest figure that is one too high, where there is a count, of the session too or alone; a session

@@ -87,7 +87,7 @@ fn compare(text: &[u8], run: &mut Run<Met>) -> Result<(), Report> {
     let mut walk = Walk::begin(&BOTH, &accepted).map_err(told)?;
     walk.run(most, &mut |_| Ok(())).map_err(told)?;
     same("a walk in slices", &whole, &walk.at)?;
-    same("the deepest path, of at most so many entries, in this run", (whole.fit.deepest, atoms, false), shown(&walk))?;
+    same("the deepest path, of at most so many entries, in this run", (whole.session.deepest, atoms, false), shown(&walk))?;
     let brought = brought_back(text, &accepted, run)?;
     same("a walk brought back", &whole, &brought)?;
     run.tally.met(&whole);
@@ -156,7 +156,7 @@ struct Met {
 impl Met {
     fn met(&mut self, moved: &Moved) {
         self.verdicts[moved.fit.verdict as usize] += 1;
-        self.deepest = self.deepest.max(moved.fit.deepest as u64);
+        self.deepest = self.deepest.max(moved.session.deepest as u64);
     }
 }
 
