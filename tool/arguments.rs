@@ -44,8 +44,8 @@ struct Allowed {
     behind: Behind,
 }
 
-/// What the usage calls a value that is a number: of entries or fittings, or of seconds.
-const NUMBERS: [&str; 2] = ["N", "S"];
+/// What the usage calls a value that is a number: of entries or fittings, of seconds, or one to draw by.
+const NUMBERS: [&str; 3] = ["N", "S", "SEED"];
 
 impl Command {
     fn usage(&self) -> &'static str {
@@ -103,6 +103,7 @@ impl Command {
             into.words.push(word.clone());
         } else if let Some((option, kind)) = allowed.options.iter().find(|(option, _)| *option == name) {
             let value = value.or_else(|| rest.next().cloned()).ok_or_else(|| self.wrong(&format!("{option} needs a value")))?;
+            check_choice(option, kind, &value)?;
             into.options.push((option, value));
             if NUMBERS.contains(kind) {
                 into.number(option)?;
@@ -123,6 +124,16 @@ impl Command {
     }
 }
 
+/// That a value is one of those that the usage names, where it names several.
+fn check_choice(option: &str, kind: &str, value: &OsStr) -> Result<(), Failure> {
+    match kind.rsplit_once('|') {
+        Some((others, last)) if kind.split('|').all(|choice| value != choice) => {
+            Err(Failure::usage(format!("{option} is {} or {last}, not '{}'", others.replace('|', ", "), value.to_string_lossy())))
+        }
+        _ => Ok(()),
+    }
+}
+
 /// A word before and after its first equals sign, where it is a long option.
 fn parted(word: &OsStr) -> (String, Option<OsString>) {
     let bytes = word.as_bytes();
@@ -130,6 +141,11 @@ fn parted(word: &OsStr) -> (String, Option<OsString>) {
         Some(at) => (String::from_utf8_lossy(&bytes[..at]).into_owned(), Some(OsString::from_vec(bytes[at + 1..].to_vec()))),
         None => (word.to_string_lossy().into_owned(), None),
     }
+}
+
+/// The number that a word is: digits alone, without a sign.
+pub fn number(word: &str) -> Option<u32> {
+    word.parse().ok().filter(|_| word.bytes().all(|byte| byte.is_ascii_digit()))
 }
 
 impl Arguments {
@@ -161,10 +177,24 @@ impl Arguments {
         self.options.iter().rev().find(|(option, _)| *option == name).map(|(_, value)| value.as_os_str())
     }
 
+    /// One of several words that an option can have; nothing where it is not given.
+    pub fn choice(&self, name: &str) -> Option<&str> {
+        self.option(name).and_then(OsStr::to_str)
+    }
+
+    /// That no option is given that does not go with this one: by it there is not what the other one asks for, as the words beside that say.
+    pub fn bar(&self, option: &str, by: &str, others: &[(&str, &str)]) -> Result<(), Failure> {
+        let is_given = |name: &str| self.has(name) || self.option(name).is_some();
+        match others.iter().find(|(name, _)| is_given(name)) {
+            Some((name, why)) => Err(Failure::usage(format!("{option} does not go with {name}: by {by} {why}"))),
+            None => Ok(()),
+        }
+    }
+
     /// An option's value as a number.
     pub fn number(&self, name: &str) -> Result<Option<u32>, Failure> {
         let Some(value) = self.option(name) else { return Ok(None) };
-        let number = value.to_str().and_then(|digits| digits.parse().ok());
+        let number = value.to_str().and_then(number);
         let wrong = || Failure::usage(format!("{name} takes a number from 0 to {}, not '{}'", u32::MAX, value.to_string_lossy()));
         number.map(Some).ok_or_else(wrong)
     }

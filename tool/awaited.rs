@@ -19,10 +19,11 @@ where
     T: PartialEq + Send + 'static,
     F: Fn(Engine) -> Result<T, Failure> + Clone + Send + 'static,
 {
-    let calls: Vec<Receiver<Result<T, Failure>>> = engines.iter().map(|engine| begun(*engine, call.clone())).collect();
+    let begin = |engine: Engine, call: F| begun(move || call(engine));
+    let calls: Vec<Option<Receiver<Result<T, Failure>>>> = engines.iter().map(|engine| begin(*engine, call.clone())).collect();
     let mut said = Vec::new();
     for call in &calls {
-        let Some(answer) = waited(call)? else { return Ok(None) };
+        let Some(answer) = waited(call.as_ref())? else { return Ok(None) };
         said.push(answer?);
     }
     if said.iter().all(|other| *other == said[0]) {
@@ -32,15 +33,21 @@ where
     Err(Failure::disagreement(format!("the engines disagree: {}", told.join(", "))))
 }
 
-fn begun<T: Send + 'static>(engine: Engine, call: impl FnOnce(Engine) -> T + Send + 'static) -> Receiver<T> {
+/// A call that is under way from now on; nothing where the time is over already, so that no quick answer comes by chance.
+pub fn begun<T: Send + 'static>(call: impl FnOnce() -> T + Send + 'static) -> Option<Receiver<T>> {
+    if clock::is_over() {
+        return None;
+    }
     let (answered, told) = channel();
     // Nobody is there to be told where the tool has ended.
-    let body = move || drop(answered.send(call(engine)));
+    let body = move || drop(answered.send(call()));
     thread::Builder::new().stack_size(STACK).spawn(body).expect("a thread");
-    told
+    Some(told)
 }
 
-fn waited<T>(call: &Receiver<T>) -> Result<Option<T>, Failure> {
+/// What a call has answered; nothing where the time is over before.
+pub fn waited<T>(call: Option<&Receiver<T>>) -> Result<Option<T>, Failure> {
+    let Some(call) = call else { return Ok(None) };
     let mut line = Line::new();
     loop {
         match call.recv_timeout(BETWEEN) {

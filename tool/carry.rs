@@ -12,6 +12,7 @@ use crate::picture;
 use crate::save::Save;
 use crate::source::{called, Accepted};
 use crate::spell::plain;
+use crate::staged::{Begun, Staged};
 use std::ffi::OsStr;
 
 /// How a walk is carried on.
@@ -25,6 +26,8 @@ pub struct Carry<'a> {
     pub most: u32,
     /// what stops it there
     pub stopper: &'a str,
+    /// the staged engine's walk, which must not contradict it
+    pub beside: Option<Begun>,
 }
 
 impl Carry<'_> {
@@ -35,7 +38,9 @@ impl Carry<'_> {
         if !is_over {
             return Err(self.stopped(&walk.at.session, save.as_ref(), saved));
         }
-        let printed = self.printed(&walk, save.as_ref().filter(|_| saved.is_ok()))?;
+        let beside = self.beside.as_ref().map(|begun| begun.ended()).transpose()?;
+        beside.iter().try_for_each(|staged| staged.check_beside(&walk.at.fit))?;
+        let printed = self.printed(&walk, save.as_ref().filter(|_| saved.is_ok()), beside)?;
         match saved {
             Ok(()) => Ok(printed),
             Err(failure) => {
@@ -45,7 +50,7 @@ impl Carry<'_> {
         }
     }
 
-    fn printed(&self, walk: &Walk, save: Option<&Save>) -> Result<Ending, Failure> {
+    fn printed(&self, walk: &Walk, save: Option<&Save>, beside: Option<Staged>) -> Result<Ending, Failure> {
         let fit = &walk.at.fit;
         let fitting = (fit.verdict == Verdict::Fits).then(|| Fitting::of(self.accepted, &self.accepted.ticket, &walk.at)).transpose()?;
         if self.arguments.has("--lines") {
@@ -60,7 +65,7 @@ impl Carry<'_> {
         let many = self.arguments.number("-n")?.filter(|_| fitting.is_some());
         let further = many.map(|many| further(self, &walk.at, many)).transpose()?;
         if self.arguments.has("--json") {
-            return Ok(json(self, walk, fitting.as_ref(), further));
+            return Ok(json(self, walk, fitting.as_ref(), further, beside));
         }
         let stopper = if fit.count < self.most { "--time-limit" } else { self.stopper };
         let saved = save.map_or(String::new(), |save| match fit.verdict {
@@ -71,7 +76,8 @@ impl Carry<'_> {
         let stats = if self.arguments.has("--stats") { stats_words(self.accepted, fit.count as u64)? } else { String::new() };
         let shown = fitting.as_ref().map_or(Ok(String::new()), |fitting| fitting_words(self.arguments, fitting))?;
         let further = further.map_or(Ok(String::new()), |further| self.further_words(&further))?;
-        Ok(Ending::new(status(fit.verdict), [verdict, engine_words(self.engines), stats, saved, shown, further].concat()))
+        let engines = engine_words(self.engines) + &beside.map_or(String::new(), |staged| staged.beside_words());
+        Ok(Ending::new(status(fit.verdict), [verdict, engines, stats, saved, shown, further].concat()))
     }
 
     fn picture(&self, fitting: &Fitting) -> String {
@@ -97,7 +103,8 @@ impl Carry<'_> {
     /// The command that goes on with a session.
     fn resuming(&self, save: &Save, further: &str) -> String {
         let [session, file] = [&save.name, &self.file.to_string_lossy().into_owned()].map(|name| quoted(name));
-        let engine = self.arguments.option("--engine").map_or(String::new(), |engine| format!(" --engine {}", engine.to_string_lossy()));
+        let engine = self.arguments.choice("--engine").map(|engine| if engine == "all" { "both" } else { engine });
+        let engine = engine.map_or(String::new(), |engine| format!(" --engine {engine}"));
         format!("./lutsamik resume {session} {file} --further {further}{engine}")
     }
 }

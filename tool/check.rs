@@ -11,6 +11,10 @@
 //! - With all clauses, and the entered atoms as facts, the same is true and wanted as at the place. The first instance that its fitting violates
 //!   is the split: no alternative is in the fitting, so all are wanted and none is true; then the conditions, which are in it, are wanted and so
 //!   true, one after another. This is asked where the first way does not do.
+//!
+//! Marking in stages is over with all that is wanted, so an open place is confirmed in the same way. Where there is a split, the marks of each stage are
+//! told by a ticket of the chaining clauses, with the entered atoms as facts, and a denial that never comes about for each splitting instance that has asked
+//! before: what its fitting lacks is marked. Which instances ask at a step, and which one is the first that can be split, the tool reads off these marks.
 
 use crate::ending::Failure;
 use crate::library::{self, Engine, Fit, Judged, Verdict};
@@ -31,6 +35,7 @@ pub struct Seen<'a> {
 pub fn confirms(accepted: &Accepted, marking: &Marking, seen: &Seen) -> Result<bool, Failure> {
     let first = library::judge(&accepted.table, seen.truth)?;
     match (seen.found, &first) {
+        (Found::Split(..), Judged::Violated(..)) if !seen.wanted.stages.is_empty() => by_stages(accepted, marking, seen),
         (Found::Open(_), Judged::Fitting) => Ok(true),
         (Found::Split(..), Judged::Fitting) => Err(otherwise(accepted, seen, "no instance can split")),
         (Found::Split(clause, values), _) if is_named(&first, *clause, values) && are_wanted(accepted, marking, seen)? => Ok(true),
@@ -55,6 +60,28 @@ fn are_wanted(accepted: &Accepted, marking: &Marking, seen: &Seen) -> Result<boo
     Ok(fitting(&frozen(&ticket))?.is_some_and(|fitting| alternatives.iter().all(|atom| fitting[*atom] == 0)))
 }
 
+/// Whether the library confirms the marks of each stage.
+fn by_stages(accepted: &Accepted, marking: &Marking, seen: &Seen) -> Result<bool, Failure> {
+    let atoms = accepted.ticket.ground_atoms();
+    let mut ticket = accepted.ticket.clone();
+    ticket.clauses.retain(|clause| clause.alternatives.len() < 2);
+    ticket.clauses.extend(seen.entered.iter().map(fact));
+    for (i, stage) in seen.wanted.stages.iter().enumerate() {
+        let denials = stage.asked.iter().map(|asking| {
+            let asked = marking.asked(*asking, seen.truth);
+            let is_true = asked.iter().all(|atom| seen.truth[*atom] == 1);
+            let conditions = asked.iter().map(|atom| atoms[*atom].clone()).chain(is_true.then(|| never(&ticket)));
+            Clause { conditions: conditions.collect(), alternatives: Vec::new() }
+        });
+        let clauses = ticket.clauses.iter().cloned().chain(denials).collect();
+        let Some(fitting) = fitting(&frozen(&Ticket { clauses, ..ticket.clone() }))? else { return Ok(false) };
+        if !fitting.starts_with(&stage.rest) {
+            return Err(otherwise(accepted, seen, &format!("stage {} marks other atoms", i + 1)));
+        }
+    }
+    Ok(true)
+}
+
 /// Whether the library confirms the place by all that is true or not wanted there.
 fn exactly(accepted: &Accepted, seen: &Seen) -> Result<bool, Failure> {
     let mut ticket = accepted.ticket.clone();
@@ -77,10 +104,14 @@ fn fact(atom: &Atom) -> Clause {
     Clause { conditions: Vec::new(), alternatives: vec![atom.clone()] }
 }
 
-/// The ticket with a condition that never holds at the end of each splitting clause. It is a further predicate without arguments.
+/// A further predicate without arguments.
+fn never(ticket: &Ticket) -> Atom {
+    Atom { predicate: ticket.arities.len() as u8, arguments: Vec::new() }
+}
+
+/// The ticket with a condition that never holds at the end of each splitting clause.
 fn frozen(ticket: &Ticket) -> Ticket {
-    let mut frozen = ticket.clone();
-    let never = Atom { predicate: ticket.arities.len() as u8, arguments: Vec::new() };
+    let (mut frozen, never) = (ticket.clone(), never(ticket));
     frozen.arities.push(0);
     let splitting = frozen.clauses.iter_mut().filter(|clause| clause.alternatives.len() > 1);
     splitting.for_each(|clause| clause.conditions.push(never.clone()));
@@ -91,7 +122,7 @@ fn frozen(ticket: &Ticket) -> Ticket {
 fn fitting(frozen: &Ticket) -> Result<Option<Vec<u8>>, Failure> {
     let Ok(table) = library::read(&frozen.text()) else { return Ok(None) };
     match library::fit(Engine::Relevancy, &table, frozen.atoms())? {
-        Fit { verdict: Verdict::Fits, count: 0, deepest: 0, answer } => Ok(Some(answer)),
+        Fit { verdict: Verdict::Fits, count: 0, deepest: Some(0), answer } => Ok(Some(answer)),
         fit => Err(Failure::disagreement(format!("of a ticket in which nothing splits the library says {}", fit.told()))),
     }
 }

@@ -5,6 +5,7 @@ use crate::ending::{Ending, Failure, Status};
 use crate::language;
 use crate::library;
 use crate::out;
+use crate::shuffle::Shuffle;
 use crate::source::{self, Accepted, Source};
 
 pub const COMPILE: Command = Command { name: "compile", text: include_str!("help/compile.txt"), run: compile };
@@ -13,13 +14,16 @@ pub const SHOW: Command = Command { name: "show", text: include_str!("help/show.
 
 fn compile(arguments: &Arguments) -> Result<Ending, Failure> {
     let (file, out) = (arguments.file(0), out::ticket_file(arguments, "-o")?);
-    let bytes = source::bytes(file)?;
+    let bytes = source::written(file)?;
     if source::is_ticket(&bytes) {
         return Err(Failure::usage(format!("{} is a ticket's text already; './lutsamik show' prints it as rules", source::called(file))));
     }
-    let source = Source::compile(file, &bytes)?;
-    let text = source.text.clone();
-    let accepted = source.accepted()?;
+    let compiled = Source::compile(file, &bytes)?.accepted()?;
+    let accepted = match arguments.number("--shuffle")? {
+        Some(seed) => shuffled(&compiled, seed)?,
+        None => compiled,
+    };
+    let text = accepted.ticket.text();
     if library::write(&accepted.table)? != text {
         return Err(Failure::disagreement("the library writes another ticket than was compiled"));
     }
@@ -35,8 +39,19 @@ fn compile(arguments: &Arguments) -> Result<Ending, Failure> {
     Ok(Ending::new(Status::Good, ""))
 }
 
+/// The ticket shuffled, with its names, each still for what it named.
+fn shuffled(accepted: &Accepted, seed: u32) -> Result<Accepted, Failure> {
+    let shuffle = Shuffle::drawn(&accepted.ticket, seed);
+    let ticket = shuffle.of(&accepted.ticket);
+    let refused = |_| Failure::disagreement("shuffled the ticket is refused");
+    let table = library::read(&ticket.text()).map_err(refused)?;
+    let names = accepted.names.as_ref().map(|names| names.renumbered(&shuffle.numbers));
+    Ok(Accepted { table, ticket, names, origins: Vec::new(), numbers: Vec::new() })
+}
+
 fn show(arguments: &Arguments) -> Result<Ending, Failure> {
-    let source = Source::open(arguments.file(0))?;
+    let file = arguments.file(0);
+    let source = Source::of(file, source::written(file)?)?;
     let text = source.text.clone();
     Ok(Ending::new(Status::Good, shown(&text, &source.accepted()?)?))
 }

@@ -75,7 +75,7 @@ impl Walk {
     }
 
     pub fn depth(&self) -> Depth {
-        let deepest = self.at.fit.deepest;
+        let deepest = self.at.session.deepest;
         let stacks = self.runs.iter().map(|run| (run.engine, run.stack.used())).collect();
         Depth { deepest, most: self.atoms, is_earlier: deepest > 0 && deepest == self.brought, stacks }
     }

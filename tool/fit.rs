@@ -15,12 +15,14 @@ use crate::parts;
 use crate::save::Save;
 use crate::source::{Accepted, Source};
 use crate::spell::hex;
+use crate::staged::{self, Staged};
 use std::io::{self, IsTerminal};
 
 pub const COMMAND: Command = Command { name: "fit", text: include_str!("help/fit.txt"), run };
 
 fn run(arguments: &Arguments) -> Result<Ending, Failure> {
-    let engines = engines(arguments)?;
+    let (engines, is_staged) = (engines(arguments), is_staged(arguments));
+    staged::check(arguments)?;
     let limit = arguments.number("--limit")?;
     clock::begin(arguments.number("--time-limit")?);
     out::file(arguments, "--svg")?;
@@ -35,25 +37,34 @@ fn run(arguments: &Arguments) -> Result<Ending, Failure> {
     }
     let text = source.text.clone();
     let accepted = source.accepted()?;
+    let most = limit.unwrap_or(accepted.ticket.limit);
     if arguments.has("--parts") {
         interrupt::catch();
-        return parts::run(arguments, &engines, &accepted.with_limit(limit.unwrap_or(accepted.ticket.limit))?);
+        return parts::run(arguments, &engines, &accepted.with_limit(most)?);
     }
     let save = arguments.option("--save").map(|file| Save::anew(file, text)).transpose()?;
     interrupt::catch();
+    let beside = if is_staged { Some(staged::begin(&accepted.with_limit(most)?)) } else { None };
+    if let (Some(begun), []) = (&beside, &engines[..]) {
+        return staged::ending(arguments, &accepted, most, begun.ended()?);
+    }
     let walk = Walk::begin(&engines, &accepted)?;
-    let most = limit.unwrap_or(accepted.ticket.limit);
-    Carry { arguments, file: arguments.file(0), engines: &engines, accepted: &accepted, most, stopper: "the limit" }.on(walk, save)
+    Carry { arguments, file: arguments.file(0), engines: &engines, accepted: &accepted, most, stopper: "the limit", beside }.on(walk, save)
 }
 
-pub fn engines(arguments: &Arguments) -> Result<Vec<Engine>, Failure> {
-    let both = vec![Engine::Relevancy, Engine::Magic];
-    let Some(chosen) = arguments.option("--engine") else { return Ok(vec![Engine::Magic]) };
-    let engines: Vec<Engine> = both.into_iter().filter(|engine| chosen == "both" || chosen == engine.name()).collect();
-    if engines.is_empty() {
-        return Err(Failure::usage(format!("--engine is relevancy, magic or both, not '{}'", chosen.to_string_lossy())));
+/// The engines whose walks leave sessions, as far as they are chosen.
+pub fn engines(arguments: &Arguments) -> Vec<Engine> {
+    match arguments.choice("--engine") {
+        None | Some("magic") => vec![Engine::Magic],
+        Some("relevancy") => vec![Engine::Relevancy],
+        Some("staged") => Vec::new(),
+        _ => vec![Engine::Relevancy, Engine::Magic],
     }
-    Ok(engines)
+}
+
+/// Whether the staged engine is chosen, alone or beside the others.
+pub fn is_staged(arguments: &Arguments) -> bool {
+    matches!(arguments.choice("--engine"), Some("staged" | "all"))
 }
 
 pub fn status(verdict: Verdict) -> Status {
@@ -96,12 +107,12 @@ pub fn stats_words(accepted: &Accepted, entries: u64) -> Result<String, Failure>
 }
 
 /// As JSON.
-pub fn json(carry: &Carry, walk: &Walk, fitting: Option<&Fitting>, further: Option<Further>) -> Ending {
+pub fn json(carry: &Carry, walk: &Walk, fitting: Option<&Fitting>, further: Option<Further>, beside: Option<Staged>) -> Ending {
     let (fit, accepted) = (&walk.at.fit, carry.accepted);
     let mut more = vec![
         ("entries", Json::number(fit.count)),
         ("limit", Json::number(carry.most)),
-        ("deepest", Json::number(fit.deepest)),
+        ("deepest", Json::number(walk.at.session.deepest)),
         ("engines", Json::texts(carry.engines.iter().map(|engine| engine.name().to_string()).collect())),
     ];
     if let Some(fitting) = fitting {
@@ -112,6 +123,7 @@ pub fn json(carry: &Carry, walk: &Walk, fitting: Option<&Fitting>, further: Opti
         more.push(("further", Json::List(fittings.iter().map(|fitting| Json::texts(accepted.atoms(&fitting.atoms()))).collect())));
         more.push(("others", Json::text(others)));
     }
+    more.extend(beside.map(|staged| ("staged", staged.json())));
     json::ending("fit", fit.verdict.name(), status(fit.verdict), more)
 }
 
@@ -125,12 +137,20 @@ pub fn verdict_words(fit: &Fit, limit: u32, stopper: &str) -> String {
     format!("verdict: {meaning}\nentries: {} of at most {limit}\n", fit.count)
 }
 
+/// The verdict and the entries, in few words.
+pub fn after_words(fit: &Fit) -> String {
+    format!("{} after {} {}", fit.verdict.name(), fit.count, if fit.count == 1 { "entry" } else { "entries" })
+}
+
 /// The deepest path, and what this run took for it: of stack, measured, and lent.
 pub fn depth_words(depth: &Depth) -> String {
     let (earlier, of) = if depth.is_earlier { (", in an earlier run", " of this run") } else { ("", "") };
-    let took = depth.stacks.iter().map(|(engine, stack)| format!("{stack} bytes of stack and {} lent by {}", engine.lent(), engine.name()));
-    let took: Vec<String> = took.collect();
+    let took: Vec<String> = depth.stacks.iter().map(|(engine, stack)| memory_words(*stack, engine.lent(), engine.name())).collect();
     format!("deepest path: {} of at most {}{earlier}\nmemory{of}: {}\n", depth.deepest, depth.most, took.join(", "))
+}
+
+pub fn memory_words(stack: usize, lent: usize, engine: &str) -> String {
+    format!("{stack} bytes of stack and {lent} lent by {engine}")
 }
 
 /// Document 01's lines.

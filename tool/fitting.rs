@@ -37,8 +37,13 @@ impl Fitting<'_> {
         let atoms = accepted.ticket.atoms();
         answer.truncate(atoms);
         truth.truncate(atoms);
+        Ok(Fitting { truth, ..Fitting::judged(accepted, answer)? })
+    }
+
+    /// An answer that must be a fitting. What is true in it is not known, and so nothing.
+    pub fn judged(accepted: &Accepted, answer: Vec<u8>) -> Result<Fitting<'_>, Failure> {
         match library::judge(&accepted.table, &answer)? {
-            Judged::Fitting => Ok(Fitting { accepted, answer, truth }),
+            Judged::Fitting => Ok(Fitting { accepted, truth: vec![0; answer.len()], answer }),
             judged => Err(Failure::disagreement(format!("judging says that the fitting is none: {judged:?}"))),
         }
     }

@@ -1,5 +1,6 @@
 //! An instance that the command line names, and where its rule gives out in an answer.
 
+use crate::arguments;
 use crate::ending::Failure;
 use crate::library::{self, Held, Judged};
 use crate::source::Accepted;
@@ -106,8 +107,8 @@ impl Named {
     fn by(words: &str, accepted: &Accepted) -> Result<Named, Failure> {
         let mut words = words.split([',', ' ']).filter(|word| !word.is_empty());
         let number = words.next().unwrap_or_default();
-        let no_clause = |_| Failure::usage(format!("--at takes a clause's number first, and then constants, as in 1,00; '{number}' is no number"));
-        let clause: u32 = number.parse().map_err(no_clause)?;
+        let no_clause = || Failure::usage(format!("--at takes a clause's number first, and then constants, as in 1,00; '{number}' is no number"));
+        let clause = arguments::number(number).ok_or_else(no_clause)?;
         let values = words.map(|word| constant(word, accepted)).collect::<Result<Vec<u8>, _>>()?;
         match accepted.ticket.clauses.get(clause as usize).map(|clause| clause.variables()) {
             Some(variables) if variables != values.len() => {

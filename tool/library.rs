@@ -17,6 +17,9 @@ const WORK: usize = 65536;
 const TEXT_OUT: usize = 7168;
 const SLIP: usize = 37;
 
+/// The bytes that the staged engine is lent.
+pub const LENT_TO_STAGED: usize = TABLE + ANSWER + WORK;
+
 const BAD_ANSWER: u8 = 32;
 const NO_INSTANCE: u8 = 44;
 /// with the open facts the ticket has more than 64 clauses
@@ -61,8 +64,8 @@ pub enum Verdict {
 pub struct Fit {
     pub verdict: Verdict,
     pub count: u32,
-    /// how many entries the longest path had
-    pub deepest: u32,
+    /// how many entries the longest path had; the staged engine does not tell
+    pub deepest: Option<u32>,
     pub answer: Vec<u8>,
 }
 
@@ -127,7 +130,7 @@ impl Engine {
 
     /// The bytes that it is lent, those of a session too.
     pub fn lent(self) -> usize {
-        let by_both = calls::SESSION + TABLE + ANSWER + WORK;
+        let by_both = calls::SESSION + LENT_TO_STAGED;
         match self {
             Engine::Relevancy => by_both,
             Engine::Magic => by_both + RULES,
@@ -175,7 +178,8 @@ impl Fit {
     /// The answer in few words, for a message.
     pub fn told(&self) -> String {
         let fitting = if self.verdict == Verdict::Fits { format!(" with {}", hex(&self.answer)) } else { String::new() };
-        format!("{} after {} entries on paths of up to {}{fitting}", self.verdict.name(), self.count, self.deepest)
+        let paths = self.deepest.map_or(String::new(), |deepest| format!(" on paths of up to {deepest}"));
+        format!("{} after {} entries{paths}{fitting}", self.verdict.name(), self.count)
     }
 }
 
@@ -293,6 +297,15 @@ pub fn fit(engine: Engine, table: &Table, atoms: usize) -> Result<Fit, Failure> 
     answered(name, accepted(name, given)?, lent.answer, atoms)
 }
 
+/// Fits a ticket with this number of atoms by the staged engine, on this stack. It leaves no session and tells no deepest path.
+pub fn fit_staged(stack: &mut Stack, table: &Table, atoms: usize) -> Result<Fit, Failure> {
+    let (name, mut lent) = ("lutsamik_fit_staged", Lent::new());
+    let Lent { answer, work, .. } = &mut lent;
+    let given = accepted(name, stack.run(|| calls::fit_staged(&table.0, answer, work)))?;
+    let fit = answered(name, given, lent.answer, atoms)?;
+    if fit.deepest == Some(0) { Ok(Fit { deepest: None, ..fit }) } else { Err(senseless(name, given)) }
+}
+
 /// A first run on a ticket with this number of atoms, which leaves a session. The engine runs on this stack, and on nothing else.
 pub fn begin(engine: Engine, stack: &mut Stack, table: &Table, atoms: usize) -> Result<Moved, Failure> {
     let (mut session, mut lent) = (Session::EMPTY, Lent::new());
@@ -351,12 +364,12 @@ fn answered(name: &str, given: u64, mut answer: Vec<u8>, atoms: usize) -> Result
     let number = given.to_le_bytes()[1];
     let verdict = [Verdict::None, Verdict::Fits, Verdict::Spent].into_iter().find(|verdict| *verdict as u8 == number);
     answer.truncate(atoms);
-    Ok(Fit { verdict: verdict.ok_or_else(|| senseless(name, given))?, count: high(given), deepest: given as u32 >> 16, answer })
+    Ok(Fit { verdict: verdict.ok_or_else(|| senseless(name, given))?, count: high(given), deepest: Some(given as u32 >> 16), answer })
 }
 
 /// The session that is left must have the verdict, the count and the deepest figure that are answered.
 fn moved(name: &str, fit: Fit, session: Session) -> Result<Moved, Failure> {
-    if (session.verdict, session.count, session.deepest) == (fit.verdict as u8, fit.count, fit.deepest) {
+    if (session.verdict, session.count, Some(session.deepest)) == (fit.verdict as u8, fit.count, fit.deepest) {
         return Ok(Moved { fit, session });
     }
     let left = format!("a session of verdict {} and {} entries on paths of up to {}", session.verdict, session.count, session.deepest);

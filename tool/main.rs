@@ -28,13 +28,17 @@ mod parse;
 mod parts;
 mod picture;
 mod progress;
+#[path = "../tests/random.rs"]
+mod random;
 mod read;
 mod resume;
 mod save;
 mod session;
+mod shuffle;
 mod slice;
 mod source;
 mod spell;
+mod staged;
 mod svg;
 mod ticket;
 mod trail;

@@ -6,7 +6,7 @@ use crate::awaited::awaited;
 use crate::clock;
 use crate::ending::{Ending, Failure};
 use crate::engines::Walk;
-use crate::fit::{engine_words, fitting_words, stats_words, status};
+use crate::fit::{after_words, engine_words, fitting_words, stats_words, status};
 use crate::fitting::Fitting;
 use crate::json::{self, Json};
 use crate::library::{self, Engine, Moved, Parted, Verdict};
@@ -40,11 +40,7 @@ const WITHOUT: [(&str, &str); 3] = [("--save", "no session is left"), ("-n", "on
 
 /// That no option is given that does not go with --parts.
 pub fn check(arguments: &Arguments) -> Result<(), Failure> {
-    let is_given = |name: &str| arguments.has(name) || arguments.option(name).is_some();
-    match WITHOUT.iter().find(|(name, _)| is_given(name)) {
-        Some((name, why)) => Err(Failure::usage(format!("--parts does not go with {name}: by parts {why}"))),
-        None => Ok(()),
-    }
+    arguments.bar("--parts", "parts", &WITHOUT)
 }
 
 /// Of a ticket that has the limit that was asked for.
@@ -156,7 +152,7 @@ impl Parts<'_> {
             None => format!("{}, in no rule", self.predicates(part).join(", ")),
         };
         let Some(at) = &part.at else { return format!("{name}: not walked") };
-        format!("{name}: {} after {}", at.fit.verdict.name(), if at.fit.count == 1 { "1 entry".to_string() } else { format!("{} entries", at.fit.count) })
+        format!("{name}: {}", after_words(&at.fit))
     }
 
     fn verdict_words(&self) -> String {

@@ -17,7 +17,7 @@ use std::ffi::OsStr;
 pub const COMMAND: Command = Command { name: "resume", text: include_str!("help/resume.txt"), run };
 
 fn run(arguments: &Arguments) -> Result<Ending, Failure> {
-    let engines = engines(arguments)?;
+    let engines = engines(arguments);
     clock::begin(arguments.number("--time-limit")?);
     let further = arguments.number("--further")?;
     let further = further.ok_or_else(|| Failure::usage("resume needs --further N: how many entries more it may make"))?;
@@ -36,7 +36,7 @@ fn run(arguments: &Arguments) -> Result<Ending, Failure> {
     let count = kept.session.count;
     let resumed = Walk::resume(&engines, &accepted, &kept.session, further)?;
     let walk = resumed.map_err(|number| refused(file, number, &kept.session, accepted.ticket.atoms()))?;
-    Carry { arguments, file: ticket, engines: &engines, accepted: &accepted, most: count + further, stopper: "the further limit" }.on(walk, Some(save))
+    Carry { arguments, file: ticket, engines: &engines, accepted: &accepted, most: count + further, stopper: "the further limit", beside: None }.on(walk, Some(save))
 }
 
 /// Where the session goes: back, or into another file.

@@ -46,6 +46,12 @@ pub fn bytes(file: &OsStr) -> Result<Vec<u8>, Failure> {
     if bytes.len() > MOST { Err(too_long(file, &bytes)) } else { Ok(bytes) }
 }
 
+/// The same, where anything but blanks and line ends is written there.
+pub fn written(file: &OsStr) -> Result<Vec<u8>, Failure> {
+    let bytes = bytes(file)?;
+    if bytes.trim_ascii().is_empty() { Err(Failure::refused(format!("{} is empty", called(file)))) } else { Ok(bytes) }
+}
+
 /// What is wrong with a file of which these bytes are the beginning: the first line that does not fit, of a sheet as the language tells it, where it
 /// does so before the last line that is there.
 fn too_long(file: &OsStr, bytes: &[u8]) -> Failure {
@@ -108,7 +114,11 @@ pub fn is_ticket(bytes: &[u8]) -> bool {
 
 impl Source {
     pub fn open(file: &OsStr) -> Result<Source, Failure> {
-        let bytes = bytes(file)?;
+        Source::of(file, bytes(file)?)
+    }
+
+    /// What these bytes of a file say.
+    pub fn of(file: &OsStr, bytes: Vec<u8>) -> Result<Source, Failure> {
         if is_ticket(&bytes) {
             return Ok(Source { file: called(file), names: names_beside(file, &bytes)?, text: bytes, is_sheet: false, origins: Vec::new() });
         }

@@ -8,7 +8,7 @@ use crate::progress::Line;
 use crate::source::Accepted;
 use crate::ticket::Atom;
 use crate::truth::Truth;
-use crate::wanted::{Found, Marking};
+use crate::wanted::{Found, Marking, Way};
 
 /// An entry: the place before it on its path, and the atom entered.
 type Entry = (usize, Atom);
@@ -18,6 +18,8 @@ pub struct Place {
     pub entry: Option<Entry>,
     pub depth: usize,
     pub found: Found,
+    /// in which stage, counted from 1, where marking is in stages and the place is not closed
+    pub stage: Option<usize>,
     /// whether the library confirms how it is found
     pub confirmed: bool,
 }
@@ -38,6 +40,7 @@ struct Node {
 
 struct Walk<'a> {
     accepted: &'a Accepted,
+    way: Way,
     truth: Truth,
     marking: Marking,
     places: Vec<Place>,
@@ -45,9 +48,9 @@ struct Walk<'a> {
 }
 
 /// The trail under the ticket's limit.
-pub fn trail(accepted: &Accepted) -> Result<Trail, Failure> {
+pub fn trail(accepted: &Accepted, way: Way) -> Result<Trail, Failure> {
     let (truth, marking) = (Truth::of(&accepted.ticket)?, Marking::of(&accepted.ticket));
-    let mut walk = Walk { accepted, truth, marking, places: Vec::new(), path: Vec::new() };
+    let mut walk = Walk { accepted, way, truth, marking, places: Vec::new(), path: Vec::new() };
     let mut line = Line::new();
     walk.make(None)?;
     let verdict = loop {
@@ -91,17 +94,17 @@ impl Walk<'_> {
         let mut marks = self.path.last().map_or_else(|| vec![0; ticket.atoms()], |node| node.truth.clone());
         entry.iter().for_each(|(_, atom)| marks[ticket.number(atom)] = 1);
         let depth = self.path.len();
-        let (found, confirmed) = match self.truth.from(marks)? {
+        let (found, stage, confirmed) = match self.truth.from(marks)? {
             Ok(truth) => self.find(&entry, truth)?,
-            Err((clause, values)) => (Found::Closed(clause, values), true),
+            Err((clause, values)) => (Found::Closed(clause, values), None, true),
         };
-        self.places.push(Place { entry, depth, found, confirmed });
+        self.places.push(Place { entry, depth, found, stage, confirmed });
         Ok(())
     }
 
-    /// How a place with these true atoms is found, and whether that is confirmed. A split goes onto the path.
-    fn find(&mut self, entry: &Option<Entry>, truth: Vec<u8>) -> Result<(Found, bool), Failure> {
-        let wanted = self.marking.wanted(&truth);
+    /// How a place with these true atoms is found, in which stage, and whether that is confirmed. A split goes onto the path.
+    fn find(&mut self, entry: &Option<Entry>, truth: Vec<u8>) -> Result<(Found, Option<usize>, bool), Failure> {
+        let wanted = self.marking.wanted(self.way, &truth);
         let found = self.marking.find(&truth, &wanted);
         let before = self.path.iter().filter_map(|node| self.places[node.place].entry.as_ref());
         let entered: Vec<Atom> = before.chain(entry).map(|(_, atom)| atom.clone()).collect();
@@ -113,6 +116,6 @@ impl Walk<'_> {
             let left = (0..alternatives.len()).rev().filter(entered).map(|i| alternatives[i].clone()).collect();
             self.path.push(Node { place: self.places.len(), truth, left });
         }
-        Ok((found, confirmed))
+        Ok((found, Some(wanted.stages.len()).filter(|stage| *stage > 0), confirmed))
     }
 }

@@ -26,15 +26,19 @@ struct Asked<'a> {
 }
 
 fn run(arguments: &Arguments) -> Result<Ending, Failure> {
-    let engines = engines(arguments)?;
+    let engines = engines(arguments);
     clock::begin(arguments.number("--time-limit")?);
     let accepted = Source::open(arguments.file(0))?.accepted()?;
     let accepted = accepted.with_limit(arguments.number("--limit")?.unwrap_or(accepted.ticket.limit))?;
     let facts = arguments.atoms().map(|word| fact(&word, &accepted)).collect::<Result<Vec<_>, _>>()?;
     interrupt::catch();
     let (table, numbers) = (accepted.table.clone(), facts.iter().map(|fact| *fact as u32).collect::<Vec<_>>());
+    let refused = refused(&accepted, &facts);
+    if refused.is_some() {
+        clock::stop(); // to refuse them takes no time
+    }
     let said = awaited(&engines, move |engine| library::assume(engine, &table, &numbers), told)?;
-    let assumed = match (said, refused(&accepted, &facts)) {
+    let assumed = match (said, refused) {
         (Some(Err(number)), Some((own, why))) if number == own => return Err(Failure::refused(format!("{why} (refused by {number})"))),
         (Some(Ok(assumed)), None) => Some(assumed),
         (None, None) => None,

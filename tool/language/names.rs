@@ -29,6 +29,13 @@ impl Names {
         }
     }
 
+    /// The same names where each constant has another number.
+    pub fn renumbered(&self, numbers: &[u8]) -> Names {
+        let mut named: Vec<_> = numbers.iter().zip(self.constants.clone()).collect();
+        named.sort();
+        Names { constants: named.into_iter().map(|(_, name)| name).collect(), ..self.clone() }
+    }
+
     /// An atom as a sheet has it, with the usual variables. A number without a name stands as in a ticket without names.
     pub fn atom(&self, predicate: u8, args: &[u8]) -> String {
         self.atom_with(predicate, args, &VARIABLES)
