@@ -294,8 +294,9 @@ uint64_t lutsamik_resume_relevancy(struct lutsamik_session *session, uint32_t fu
                                    size_t table_len, uint8_t *answer, size_t answer_len, uint8_t *work,
                                    size_t work_len);
 
-/* Goes on with a session, by the magic engine. Refusal, verdict, count, deepest figure, session and answer are those
- * of lutsamik_resume_relevancy; the rules are those of lutsamik_rewrite, whatever the verdict. */
+/* Goes on with a session, by the magic engine. A rules buffer that is too short is refused by 11 as well; else refusal,
+ * verdict, count, deepest figure, session and answer are those of lutsamik_resume_relevancy, and the rules those of
+ * lutsamik_rewrite, whatever the verdict. */
 uint64_t lutsamik_resume_magic(struct lutsamik_session *session, uint32_t further, const uint8_t *table,
                                size_t table_len, uint8_t *rules, size_t rules_len, uint8_t *answer, size_t answer_len,
                                uint8_t *work, size_t work_len);
