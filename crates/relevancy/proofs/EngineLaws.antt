@@ -25,7 +25,7 @@ use Rattle.ground.specs.declared.verdict.Verdict.the-variants.{Refused}
 use Rattle.ground.specs.Verdict.{verdictOf, answerOf}
 use Rattle.ground.specs.Instance.{groundIn}
 use Rattle.ground.proofs.Instances.{atoms-few}
-use Rattle.relevancy_node.specs.contracts.Loud.{RootFlags}
+use Rattle.relevancy_rule.specs.contracts.Loud.{RootFlags}
 use Rattle.walk.specs.contracts.Walker.{fromRoot}
 use Rattle.walk.specs.contracts.Path.{pathIn}
 use Rattle.walk.specs.contracts.Place.{factsOf, Beginning}

@@ -1,9 +1,9 @@
 // Going on with the session of a record: 41 and 42, then the run from where it stands.
 use crate::end::conclude;
 use lists::pair;
-use relevancy_node::index::build;
 use relevancy_resume::left::root_alternatives;
 use relevancy_resume::resume::go_on;
+use relevancy_rule::index::build;
 use relevancy_walk::place::root;
 use session::record::Moved;
 use session::record::Session;
@@ -46,7 +46,7 @@ fn further_run(
     let found = root(table, &conds, &alts, &mut facts, &mut path);
     let used = root_alternatives(table, &path, found);
     let mut new = [0u16; 1409];
-    relevancy_node::sweep::build(table, &facts, 0 < used, &mut new);
+    relevancy_close::sweep::build(table, &facts, 0 < used, &mut new);
     let on = Onward {
         standing: session.verdict,
         next: session.next,

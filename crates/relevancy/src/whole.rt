@@ -1,6 +1,6 @@
 // The walk of a whole table.
-use relevancy_node::index::slots;
 use relevancy_resume::left::root_alternatives;
+use relevancy_rule::index::slots;
 use relevancy_walk::place::root;
 use relevancy_walk::trail::from_root;
 use walk::answer::Walked;
@@ -35,7 +35,7 @@ pub fn walk_whole(table: &[u8], facts: &mut [u8], path: &mut [u8], limit: u32) -
     let found = root(table, &conds, &alts, facts, path);
     let used = root_alternatives(table, path, found);
     let mut new = [0u16; 1409];
-    relevancy_node::sweep::build(table, facts, 0 < used, &mut new);
+    relevancy_close::sweep::build(table, facts, 0 < used, &mut new);
     let walked = from_root(table, &conds, &alts, &new, facts, path, found, limit);
     Whole {
         walked: walked,

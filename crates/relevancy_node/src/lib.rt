@@ -1,11 +1,3 @@
-// A node of the relevancy walk: what is true and what is relevant by a table, and the instance that is split.
+// A node of the relevancy walk: closed and marked by a table, and the instance that is split.
 pub mod choose;
-pub mod close;
-pub mod index;
-pub mod loud;
-pub mod mark;
 pub mod node;
-pub mod rows;
-pub mod sweep;
-pub mod visit;
-pub mod work;

@@ -11,10 +11,10 @@ use Rattle.store.proofs.Laws.{store-few}
 use Rattle.problem.specs.Table.{Lawful}
 use Rattle.ground.specs.Instance.{Instance}
 use Rattle.ground.proofs.AtomLaws.{clause-fits}
-use Rattle.relevancy_node.specs.contracts.Node.{instanceChoice, ClosedByClauses, OpenByClauses, SplitByClauses, TrueSettled}
-use Rattle.relevancy_node.specs.declared.choose.Choice.the-variants.{At}
-use Rattle.relevancy_node.specs.declared.node.Node.{Node}
-use Rattle.relevancy_node.specs.declared.node.Node.the-variants.{Closed, Open, Split}
+use Rattle.relevancy_rule.specs.contracts.Node.{instanceChoice, ClosedByClauses, OpenByClauses, SplitByClauses, TrueSettled}
+use Rattle.relevancy_rule.specs.declared.answer.Choice.the-variants.{At}
+use Rattle.relevancy_rule.specs.declared.answer.Node.{Node}
+use Rattle.relevancy_rule.specs.declared.answer.Node.the-variants.{Closed, Open, Split}
 use Rattle.walk.specs.contracts.Walker.{Site, Walker}
 use Rattle.walk.specs.contracts.Path.{markAt, pathIn, siteAt, Noted}
 use Rattle.walk.specs.contracts.Place.{Finding}

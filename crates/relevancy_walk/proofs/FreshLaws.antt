@@ -19,8 +19,8 @@ use Rattle.store.proofs.Laws.{added-in}
 use Rattle.store.proofs.Lent.{added-carries, added-each, added-worked}
 use Rattle.problem.specs.Table.{Lawful}
 use Rattle.ground.specs.Instance.{Instance, groundIn}
-use Rattle.relevancy_node.specs.contracts.Node.{Facts, RootMarked, TrueOpening, RootOpening, TrueStarted, TrueSeeded, TrueStands}
-use Rattle.relevancy_node.proofs.HornLaws.{root-adds}
+use Rattle.relevancy_rule.specs.contracts.Node.{Facts, RootMarked, TrueOpening, RootOpening, TrueStarted, TrueSeeded, TrueStands}
+use Rattle.relevancy_rule.proofs.HornLaws.{root-adds}
 use Rattle.walk.specs.contracts.Path.{Room, nextAt, markAt, Passed, siteAt, altsAt, entryAt, pathIn}
 use Rattle.walk.specs.contracts.Place.{Parted}
 use Rattle.walk.proofs.PathLaws.{path-deep, path-entered}

@@ -1,10 +1,10 @@
 // A place of the walk: making the next one, from the path and the next alternative at each node.
 use ground::branch::NextBranch;
 use ground::branch::branch_after;
-use relevancy_node::close::start;
-use relevancy_node::node::Node;
+use relevancy_close::close::start;
 use relevancy_node::node::settle;
 use relevancy_node::node::settle_root;
+use relevancy_rule::answer::Node;
 use store::add;
 use walk::alternatives::Alternatives;
 use walk::answer::Found;
@@ -19,8 +19,8 @@ ghost use mathlib.Core.Path.{_≡_};
 ghost use Prim.Native.Nat.{ℕ, _<_};
 ghost use Rattle.store.specs.contracts.Store.{Store};
 ghost use Rattle.problem.specs.Table.{Lawful};
-ghost use Rattle.relevancy_node.specs.contracts.Index.{ClausesIndexed};
-ghost use Rattle.relevancy_node.specs.contracts.Sweep.{SweepIndexed};
+ghost use Rattle.relevancy_rule.specs.contracts.Index.{ClausesIndexed};
+ghost use Rattle.relevancy_rule.specs.contracts.Sweep.{SweepIndexed};
 ghost use Rattle.ground.specs.contracts.Branching.{NextOf};
 ghost use Rattle.ground.specs.declared.branch.NextBranch.the-variants.{Atom};
 ghost use Rattle.walk.specs.contracts.Alternatives.{listed, Listing};

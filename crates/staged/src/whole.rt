@@ -1,5 +1,5 @@
 // The walk of a whole table.
-use relevancy_node::index::build;
+use relevancy_rule::index::build;
 use staged_node::chains::chain_table;
 use staged_walk::place::root;
 use staged_walk::trail::from_root;

@@ -10,8 +10,8 @@ use Rattle.store.proofs.Laws.{store-few}
 use Rattle.problem.specs.Table.{Lawful}
 use Rattle.ground.proofs.AtomLaws.{clause-fits}
 use Rattle.staged_node.specs.contracts.Node.{ClosedByStages, OpenByStages, SplitByStages, StagesSettled}
-use Rattle.relevancy_node.specs.declared.node.Node.{Node}
-use Rattle.relevancy_node.specs.declared.node.Node.the-variants.{Closed, Open, Split}
+use Rattle.relevancy_rule.specs.declared.answer.Node.{Node}
+use Rattle.relevancy_rule.specs.declared.answer.Node.the-variants.{Closed, Open, Split}
 use Rattle.walk.specs.contracts.Walker.{Site}
 use Rattle.walk.specs.contracts.Path.{markAt, pathIn, siteAt, Noted}
 use Rattle.walk.specs.contracts.Place.{Finding}

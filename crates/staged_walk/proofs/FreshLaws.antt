@@ -9,7 +9,7 @@ use Rattle.store.specs.contracts.Store.{Added, logged}
 use Rattle.store.proofs.Lent.{added-each}
 use Rattle.problem.specs.Table.{Lawful}
 use Rattle.ground.specs.Instance.{Instance, groundIn}
-use Rattle.relevancy_node.specs.contracts.Node.{TrueStarted, TrueSeeded}
+use Rattle.relevancy_rule.specs.contracts.Node.{TrueStarted, TrueSeeded}
 use Rattle.staged_node.specs.contracts.Node.{StagesOpening}
 use Rattle.walk.specs.contracts.Path.{Room, nextAt, markAt, Passed, siteAt, altsAt, entryAt, pathIn}
 use Rattle.walk.specs.contracts.Place.{Parted}

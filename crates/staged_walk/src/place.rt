@@ -1,6 +1,6 @@
 // A place of the walk: making the next one, from the path and the next alternative at each node.
 use ground::branch::NextBranch;
-use relevancy_node::close::start;
+use relevancy_close::close::start;
 use relevancy_walk::place::tell;
 use staged_node::node::settle;
 use store::add;

@@ -10,9 +10,9 @@ use Rattle.search.specs.Machine.{entered, Genuine}
 use Rattle.store.specs.contracts.Worked.{Worked}
 use Rattle.problem.specs.Layout.{problemIn}
 use Rattle.ground.specs.Instance.{Instance, InstanceOf, clauseOf, groundIn}
-use Rattle.relevancy_node.specs.contracts.Node.{RootMarked, TrueOpening, TrueSeeded, TrueHeld, RelevantHeld, RootHeld}
-use Rattle.relevancy_node.specs.declared.node.Node.{Node}
-use Rattle.relevancy_node.specs.declared.node.Node.the-variants.{Closed as NodeClosed, Open as NodeOpen, Split as NodeSplit}
+use Rattle.relevancy_rule.specs.contracts.Node.{RootMarked, TrueOpening, TrueSeeded, TrueHeld, RelevantHeld, RootHeld}
+use Rattle.relevancy_rule.specs.declared.answer.Node.{Node}
+use Rattle.relevancy_rule.specs.declared.answer.Node.the-variants.{Closed as NodeClosed, Open as NodeOpen, Split as NodeSplit}
 use Rattle.walk.specs.contracts.Walker.{Site, Walker}
 use Rattle.walk.specs.contracts.Path.{Room, pathIn, Noted}
 use Rattle.walk.specs.contracts.Place.{NodesNamed}

@@ -16,10 +16,10 @@ use Rattle.store.specs.contracts.Store.{logged, Leaves}
 use Rattle.store.specs.contracts.Worked.{Worked}
 use Rattle.problem.specs.Layout.{problemIn}
 use Rattle.ground.specs.Instance.{Instance, InstanceOf, groundIn}
-use Rattle.relevancy_node.specs.contracts.Node.{Facts, Unmarked, TrueOpening, TrueSeeded, TrueStands, TrueHeld, instanceChoice}
-use Rattle.relevancy_node.specs.declared.choose.Choice.the-variants.{At}
-use Rattle.relevancy_node.specs.declared.node.Node.{Node}
-use Rattle.relevancy_node.specs.declared.node.Node.the-variants.{Closed as ClosedAt, Open, Split}
+use Rattle.relevancy_rule.specs.contracts.Node.{Facts, Unmarked, TrueOpening, TrueSeeded, TrueStands, TrueHeld, instanceChoice}
+use Rattle.relevancy_rule.specs.declared.answer.Choice.the-variants.{At}
+use Rattle.relevancy_rule.specs.declared.answer.Node.{Node}
+use Rattle.relevancy_rule.specs.declared.answer.Node.the-variants.{Closed as ClosedAt, Open, Split}
 use Rattle.staged_node.specs.contracts.Stages.{MarksHeld}
 
 -- n facts, of which the first `done` are worked off, and nothing is marked

@@ -11,8 +11,8 @@ use Rattle.search.specs.Machine.{entered, Genuine}
 use Rattle.store.specs.contracts.Worked.{Worked}
 use Rattle.problem.specs.Layout.{problemIn}
 use Rattle.ground.specs.Instance.{Instance, InstanceOf, clauseOf, groundIn}
-use Rattle.relevancy_node.specs.contracts.Index.{ClausesIndexed}
-use Rattle.relevancy_node.specs.contracts.Node.{Unmarked, TrueSeeded, TrueHeld}
+use Rattle.relevancy_rule.specs.contracts.Index.{ClausesIndexed}
+use Rattle.relevancy_rule.specs.contracts.Node.{Unmarked, TrueSeeded, TrueHeld}
 use Rattle.staged_node.specs.contracts.Chains.{ChainTable}
 use Rattle.staged_node.specs.contracts.Node.{StagesOpening}
 use Rattle.walk.specs.contracts.Walker.{Site, Walker}

@@ -9,7 +9,7 @@ use Rattle.ground.specs.Instance.{groundIn}
 use Rattle.ground.proofs.AtomLaws.{table-size}
 use Rattle.ground.proofs.Instances.{atoms-few}
 use Rattle.session.proofs.EndLaws.{ends-within, concluded}
-use Rattle.relevancy_node.proofs.CloseLaws.{false-bytes}
+use Rattle.relevancy_rule.proofs.CloseLaws.{false-bytes}
 use Rattle.relevancy_walk.specs.contracts.Place.{relevancyWalker}
 use Rattle.relevancy_walk.proofs.TiedLaws.{tied}
 use Rattle.relevancy.proofs.end.conclude.Statement.{statement}

@@ -8,7 +8,7 @@ use Rattle.search.specs.Relevancy.{findR}
 use Rattle.search.specs.Session.{Called}
 use Rattle.ground.specs.Instance.{groundIn}
 use Rattle.ground.proofs.AtomLaws.{table-size}
-use Rattle.relevancy_node.proofs.CloseLaws.{false-bytes}
+use Rattle.relevancy_rule.proofs.CloseLaws.{false-bytes}
 use Rattle.session.specs.Calls.{calledIn}
 use Rattle.session.proofs.CallLaws.{isKeptOver, kept-bounds, called-over, called-unkept}
 use Rattle.session.proofs.EndLaws.{left-refused}

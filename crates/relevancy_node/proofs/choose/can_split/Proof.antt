@@ -8,7 +8,7 @@ use lib.ListN.{length}
 use Rattle.problem.specs.Layout.{problemIn}
 use Rattle.ground.specs.Instance.{clauseOf}
 use Rattle.ground.proofs.AtomLaws.{alts-count}
-use Rattle.relevancy_node.proofs.ChooseLaws.{split-short, split-held, split-rest}
+use Rattle.relevancy_rule.proofs.ChooseLaws.{split-short, split-held, split-rest}
 use Rattle.relevancy_node.proofs.choose.can_split.Statement.{statement}
 use Rattle.relevancy_node.proofs.choose.can_split.Tie as tie
 

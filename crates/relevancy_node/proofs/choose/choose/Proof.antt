@@ -5,9 +5,9 @@ use native.Mathlib.Omega.{arith}
 use borrow.Author.Needs.{needs}
 use Rattle.problem.specs.Layout.{problemIn}
 use Rattle.ground.proofs.AtomLaws.{table-size}
-use Rattle.relevancy_node.specs.contracts.Node.{splittableIn}
+use Rattle.relevancy_rule.specs.contracts.Node.{splittableIn}
 use Rattle.ground.proofs.Turns.{Undecided, clauses-byte, clause-listed, clauses-start}
-use Rattle.relevancy_node.proofs.ChooseLaws.{choice-other, choose-on, choose-stop, choose-end}
+use Rattle.relevancy_rule.proofs.ChooseLaws.{choice-other, choose-on, choose-stop, choose-end}
 use Rattle.relevancy_node.proofs.choose.choose.Statement.{statement}
 use Rattle.relevancy_node.proofs.choose.choose.Tie as tie
 

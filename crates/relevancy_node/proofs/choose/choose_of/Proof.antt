@@ -12,10 +12,10 @@ use Rattle.ground.specs.contracts.Matching.{fullBox, rank, volume}
 use Rattle.ground.specs.contracts.Row.{Boxed, RowFirst, RowNext}
 use Rattle.ground.proofs.AtomLaws.{alts-count}
 use Rattle.ground.proofs.Turns.{ClauseKnown, clause-known, clause-listed}
-use Rattle.relevancy_node.specs.contracts.Instances.{clauseBox}
-use Rattle.relevancy_node.specs.contracts.Choose.{Splitting}
-use Rattle.relevancy_node.proofs.ChooseLaws.{choose-horn}
-use Rattle.relevancy_node.proofs.RowLaws.{RowsTried, choose-nowhere, clause-boxed, rows-start, rows-here, rows-on, rows-end, rows-fall}
+use Rattle.relevancy_rule.specs.contracts.Instances.{clauseBox}
+use Rattle.relevancy_rule.specs.contracts.Choose.{Splitting}
+use Rattle.relevancy_rule.proofs.ChooseLaws.{choose-horn}
+use Rattle.relevancy_rule.proofs.RowLaws.{RowsTried, choose-nowhere, clause-boxed, rows-start, rows-here, rows-on, rows-end, rows-fall}
 use Rattle.relevancy_node.proofs.choose.choose_of.Statement.{statement}
 use Rattle.relevancy_node.proofs.choose.choose_of.Tie as tie
 

@@ -9,8 +9,8 @@ use Rattle.problem.specs.Layout.{atomIn, aritiesIn}
 use Rattle.ground.specs.Instance.{number}
 use Rattle.ground.specs.contracts.Placed.{Placed, Numbered}
 use Rattle.ground.specs.contracts.Sides.{slotAt}
-use Rattle.relevancy_node.specs.contracts.Choose.{bare, FirstAtoms}
-use Rattle.relevancy_node.proofs.RowLaws.{Rowing, some-early, first-numbered, early-small, late-small, row-placed, row-eight, rowing-starts, rowing-long, rowing-placed, rowing-atoms, rowing-more, rowing-here, rowing-ends}
+use Rattle.relevancy_rule.specs.contracts.Choose.{bare, FirstAtoms}
+use Rattle.relevancy_rule.proofs.RowLaws.{Rowing, some-early, first-numbered, early-small, late-small, row-placed, row-eight, rowing-starts, rowing-long, rowing-placed, rowing-atoms, rowing-more, rowing-here, rowing-ends}
 use Rattle.relevancy_node.proofs.choose.choose_row.Statement.{statement}
 use Rattle.relevancy_node.proofs.choose.choose_row.Tie as tie
 

@@ -2,7 +2,7 @@
 use mathlib.Core.Path.{sym, _∙_}
 use native.Mathlib.Omega.{arith}
 use Rattle.ground.proofs.AtomLaws.{alts-count}
-use Rattle.relevancy_node.proofs.RowLaws.{early-small, late-small, split-early, split-late}
+use Rattle.relevancy_rule.proofs.RowLaws.{early-small, late-small, split-early, split-late}
 use Rattle.relevancy_node.proofs.choose.split_at.Statement.{statement}
 use Rattle.relevancy_node.proofs.choose.split_at.Tie as tie
 

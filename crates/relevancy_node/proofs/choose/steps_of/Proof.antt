@@ -11,8 +11,8 @@ use Rattle.ground.specs.contracts.Heading.{Headed}
 use Rattle.ground.specs.contracts.Row.{StepsBy}
 use Rattle.ground.specs.contracts.Sides.{slotAt, countOn}
 use Rattle.ground.proofs.AtomLaws.{lawful-headed}
-use Rattle.relevancy_node.specs.contracts.Choose.{bare}
-use Rattle.relevancy_node.proofs.RowLaws.{some-early, first-slot}
+use Rattle.relevancy_rule.specs.contracts.Choose.{bare}
+use Rattle.relevancy_rule.proofs.RowLaws.{some-early, first-slot}
 use Rattle.relevancy_node.proofs.choose.steps_of.Statement.{statement}
 use Rattle.relevancy_node.proofs.choose.steps_of.Tie as tie
 

@@ -6,7 +6,7 @@ use native.Mathlib.Omega.{arith}
 use lib.ListN.{getD}
 use borrow.Author.Needs.{needs}
 use Rattle.store.specs.contracts.Store.{Store, Added}
-use Rattle.relevancy_node.specs.contracts.Node.{TrueOpening}
+use Rattle.relevancy_rule.specs.contracts.Node.{TrueOpening}
 use Rattle.walk.specs.contracts.Path.{nextAt, markAt, siteAt, altsAt}
 use Rattle.walk.proofs.PlaceLaws.{place-made}
 use Rattle.relevancy_walk.specs.contracts.Place.{relevancyWalker, TrueFresh}

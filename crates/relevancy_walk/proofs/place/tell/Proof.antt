@@ -2,7 +2,7 @@
 use mathlib.Core.Path.{refl, sym, subst}
 use native.Mathlib.Omega.{arith}
 use borrow.Author.Needs.{needs}
-use Rattle.relevancy_node.specs.declared.node.Node.{Node}
+use Rattle.relevancy_rule.specs.declared.answer.Node.{Node}
 use Rattle.walk.specs.declared.answer.Found.the-variants.{Closed, Open, Split}
 use Rattle.relevancy_walk.specs.contracts.Place.{OwnFew, NodeTold}
 use Rattle.relevancy_walk.proofs.place.tell.Statement.{statement}

@@ -9,7 +9,7 @@ use Rattle.ground.specs.Instance.{groundIn}
 use Rattle.ground.proofs.AtomLaws.{table-size}
 use Rattle.ground.proofs.Instances.{atoms-few}
 use Rattle.ground.proofs.VerdictLaws.{limit-of}
-use Rattle.relevancy_node.proofs.CloseLaws.{false-bytes}
+use Rattle.relevancy_rule.proofs.CloseLaws.{false-bytes}
 use Rattle.staged.proofs.EngineLaws.{run-told}
 use Rattle.staged.proofs.engine.decide.Statement.{statement}
 use Rattle.staged.proofs.engine.decide.Tie as tie
