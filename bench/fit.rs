@@ -1,5 +1,5 @@
 //! How long fitting takes: the puzzles by all engines, tickets drawn by seed by all but the slowest, as tables, and as a
-//! drawing where one is asked for. Usage: fit [--svg FILE] [--seed N].
+//! drawing where one is asked for. Usage: fit [--svg FILE] [--seed N]: exit status 1 if what is asked of the ratios is not met.
 mod drawing;
 mod measured;
 mod table;
@@ -7,9 +7,10 @@ include!("modules.rs");
 
 use engines::Engine;
 use options::Options;
+use std::process::ExitCode;
 use summary::Row;
 
-fn main() {
+fn main() -> ExitCode {
     let options = Options::read(&["--svg", "--seed"]);
     let puzzles = measured::all(&puzzles::all(), &Engine::ALL);
     table::print(&puzzles, &Engine::ALL);
@@ -20,8 +21,9 @@ fn main() {
     table::print(&drawn, &Engine::QUICK);
     let rows: Vec<Row> = puzzles.iter().chain(&drawn).map(|measured| measured.row()).collect();
     summary::print("times", &rows);
-    asked::print(&rows);
+    let met = asked::print(&rows);
     if let Some(file) = options.get("--svg") {
         std::fs::write(file, drawing::of(&rows)).expect("the drawing's file");
     }
+    ExitCode::from(!met as u8)
 }

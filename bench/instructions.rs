@@ -1,8 +1,8 @@
 //! How many instructions fitting each puzzle takes and each ticket drawn by seed, reading, writing and judging the largest
 //! ticket, and a long walk in a hundred slices. Each call is made once, by this program run anew under callgrind, and what is
 //! done before and after it is not counted. Usage: instructions [--seed N] [--save FILE] [--against FILE], where the last is one
-//! saved earlier: exit status 1 if a count is more than 1.05 times the one in it; or if slices have more than 1.3 times the
-//! instructions of one go.
+//! saved earlier: exit status 1 if a count is more than 1.05 times the one in it; if slices have more than 1.3 times the
+//! instructions of one go; or if what is asked of the ratios is not met.
 mod callgrind;
 mod calls;
 mod counts;
@@ -40,12 +40,12 @@ fn main() -> ExitCode {
     let mut counts = Counts::default();
     let tables = calls::tables(seed);
     let within: Vec<bool> = tables.iter().map(|table| count(seed, table, earlier.as_ref(), &mut counts)).collect();
-    sum_up(&tables[..2], &counts);
+    let met = sum_up(&tables[..2], &counts);
     if let Some(file) = options.get("--save") {
         counts.write(file);
     }
     let holds = earlier.is_none_or(|earlier| counts.hold_against(&earlier));
-    ExitCode::from(!(holds && within.into_iter().all(|within| within)) as u8)
+    ExitCode::from(!(met && holds && within.into_iter().all(|within| within)) as u8)
 }
 
 /// Makes the calls of a table, and prints a row for each input, then the geometric means. Whether no ratio is more than is
@@ -116,18 +116,19 @@ fn print_ratios(ratios: &[Option<f64>]) {
     println!();
 }
 
-/// Prints fitting's ratios by family, and whether what is asked of them is met.
-fn sum_up(tables: &[Table], counts: &Counts) {
+/// Prints fitting's ratios by family, and whether what is asked of them is met. Whether all of it is.
+fn sum_up(tables: &[Table], counts: &Counts) -> bool {
     let row = |table: &Table, input: &Input| {
         let ratios: Vec<f64> = ratios(table, &input.name, counts, None).into_iter().flatten().collect();
         Row { family: input.family, name: input.name.clone(), ratios: ratios.try_into().expect("each is counted") }
     };
     let rows: Vec<Row> = tables.iter().flat_map(|table| table.inputs.iter().map(|input| row(table, input))).collect();
     summary::print("instructions", &rows);
-    asked::print(&rows);
+    let mut met = asked::print(&rows);
     for (engine, before) in Engine::LIBRARY.into_iter().zip(K1_BEFORE) {
         let now = counts.get(engine.name(), puzzles::K1).expect("K1 is counted") as f64;
-        tell(puzzles::K1, &format!("{} over the {before} of before", engine.name()), now / before, asked::K1);
+        met &= tell(puzzles::K1, &format!("{} over the {before} of before", engine.name()), now / before, asked::K1);
     }
     println!();
+    met
 }
