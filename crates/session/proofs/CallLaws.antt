@@ -170,11 +170,6 @@ declined-by (told (Exhausted n) s) e h = let z : _≡_ {A = ℕ} 0 1 = cc in abs
 
 -- ---- the deepest figure
 
--- the record that a call leaves has the figure that it tells, where it was lent one with none
-pub deepest-lent : (c : Called) (r : Record) → r .deepest ≡ 0 → (recordLeft c r) .deepest ≡ deepestTold c
-deepest-lent (declined e) r lent = lent
-deepest-lent (told o s) r lent = laid-deepest s
-
 -- a first run tells the longest path entered, if it comes through
 pub deepest-first : {I : Type 0} (find : List ℕ → Found I) (limit : ℕ) (short valid : Bool)
     → deepestTold (screened short valid (begunBy find limit)) ≡ cond short 0 (cond valid (deepestUnder find limit) 0)

@@ -55,18 +55,3 @@ pub fn refused(session: Session, e: u8) -> Moved
         session: session,
     }
 }
-
-// A record for a run whose session is not kept.
-pub fn blank() -> Session
-    ensures { λ s. ⌜ s .deepest ≡ 0 ⌝ }
-{
-    Session {
-        count: 0,
-        length: 0,
-        verdict: 0,
-        next: 0,
-        atoms: [0u16; 1024],
-        nexts: [0u8; 1024],
-        deepest: 0,
-    }
-}
