@@ -69,7 +69,7 @@
  *
  *   entries on the path             0       64      256    1,024
  *   a first run by relevancy   20,000   46,000  138,000  506,000
- *   a first run by magic       25,000   52,000  135,000  466,000
+ *   a first run by magic       24,000   52,000  134,000  467,000
  *   a run by stages            27,000   45,000  109,000  367,000
  *   going on by relevancy      44,000   65,000  157,000  526,000
  *   going on by magic          69,000   88,000  174,000  518,000
