@@ -41,3 +41,14 @@ pub fn digit(b: u8) -> u8
     }
     value(b, b - 55)
 }
+
+// The value of a digit b: of a byte that has been compared with the sixteen.
+pub fn known(b: u8) -> u8
+    requires { ⌜ digitOf b < 16 ⌝ }
+    ensures { λ r. ⌜ r ≡ digitOf b ⌝ }
+{
+    if 65 <= b {
+        return b - 55;
+    }
+    b - 48
+}

@@ -1,5 +1,6 @@
 // One line of the text: pairs of digits, ended by byte 0A.
 use crate::digit::digit;
+use crate::digit::known;
 use problem::line::Line;
 ghost use mathlib.Core.Path.{_≡_};
 ghost use Prim.Native.Nat.{_+_, _<_, _≤_};
@@ -60,7 +61,7 @@ pub fn frame_byte(text: &[u8], at: usize, n: usize, j: usize) -> u8
     ensures { λ r. ⌜ r ≡ getD (frameAt (now (text .entry)) at n) j 0 ⌝ }
 {
     let i = at + 2 * j;
-    let high = digit(text[i]);
-    let low = digit(text[i + 1]);
+    let high = known(text[i]);
+    let low = known(text[i + 1]);
     16 * high + low
 }
