@@ -1,4 +1,4 @@
--- Demand 3 at the operations: one claim about the two whole trails of a table. The contracts of `relevancy::engine::fit` and `magic::engine::fit` equate what they give
+-- Demand 3 at the operations: one claim about the two whole trails of a table. The contracts of `relevancy_calls::fit::fit` and `magic_calls::fit::fit` equate what they give
 -- and leave with `fitResult`, `fitAnswer` and `magicResult`, `magicRules`, `magicAnswer`. `proofs/Theorems.antt` proves `Theorems`.
 use Prim.Native.Nat.{ℕ, _≤_}
 use mathlib.Core.Bool.{_&&_}

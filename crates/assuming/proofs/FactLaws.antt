@@ -26,8 +26,8 @@ use Rattle.problem.specs.Extended.{withClause}
 use Rattle.problem.proofs.TableLayout.{predicate-byte}
 use Rattle.ground.specs.Instance.{AtomOf}
 use Rattle.ground.specs.Report.{atomsInOrder}
-use Rattle.ground.specs.contracts.Matching.{Decoded}
-use Rattle.ground.proofs.MatchLaws.{PredicateKnown, predicate-known}
+use Rattle.kernel.specs.contracts.Matching.{Decoded}
+use Rattle.kernel.proofs.MatchLaws.{PredicateKnown, predicate-known}
 use Rattle.ground.proofs.Theorems.{theorems as grounds}
 use Rattle.ground.proofs.Order.{order-at}
 use Rattle.problem.proofs.Theorems.{theorems as tables}

@@ -1,6 +1,6 @@
 // Facts added to a table, each as a clause without conditions.
 use adding::append::append;
-use ground::matching::decode;
+use kernel::matching::decode;
 ghost use mathlib.Core.Path.{_≡_};
 ghost use Prim.Native.Nat.{_<_};
 ghost use lib.ListN.{getD, replicate};

@@ -1,6 +1,4 @@
-// Assumptions: whether a problem has a model, whichever of some facts are added to it.
+// Assumptions: which calls are taken, facts added to a table, and what two runs say.
 pub mod assume;
-pub mod by_magic;
-pub mod by_relevancy;
 pub mod check;
 pub mod fact;

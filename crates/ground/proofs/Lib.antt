@@ -5,17 +5,9 @@ pub mod ClauseLaws
 pub mod Sides
 pub mod Headings
 pub mod BranchLaws
-pub mod MatchLaws
-pub mod Boxes
-pub mod IndexLaws
 pub mod Sites
 pub mod Turns
 pub mod Cases
 pub mod Theorems
-pub mod Visits
-pub mod Rows
-pub mod RowLaws
-pub mod BoxSites
-pub mod FormLaws
 pub mod VerdictLaws
 pub mod AnswerLaws

@@ -1,11 +1,6 @@
 -- The vocabulary of inner contracts: what the functions of this crate say to each other of their buffers.
 pub mod Placed
 pub mod Heading
-pub mod Matching
-pub mod Row
-pub mod Form
-pub mod Index
-pub mod Visit
 pub mod Sides
 pub mod Branching
 pub mod Chosen

@@ -1,8 +1,8 @@
 // The calls with assumptions, for a host in C: the facts are lent as a slice of numbers, the two counts as numbers to write to.
 use crate::packed;
+use assume_calls::by_magic::assume_magic;
+use assume_calls::by_relevancy::assume_relevancy;
 use assuming::assume::Assumed;
-use assuming::by_magic::assume_magic;
-use assuming::by_relevancy::assume_relevancy;
 ghost use mathlib.Core.Path.{_≡_};
 ghost use Rattle.assuming.specs.Assume.{assumedOf, firstLeft, secondLeft, workLeft};
 ghost use Rattle.assuming.specs.Engines.{relevancyRuns, magicRuns, rulesLeft};

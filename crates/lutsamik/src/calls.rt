@@ -31,7 +31,7 @@ fn pack_moved(moved: Moved) -> Returned
 fn begin_relevancy(session: Session, table: &[u8], answer: &mut [u8], work: &mut [u8]) -> Returned
     ensures { λ r. ⌜ (r .number ≡ packVerdict (fitResult (now (table .entry)) (now (answer .entry)) (now (work .entry))) (fitDeepest (now (table .entry)) (now (answer .entry)) (now (work .entry)))) × (r .session ≡ recordLeft (begun (now (table .entry)) (now (answer .entry)) (now (work .entry))) session) × (now (answer .exit) ≡ fitAnswer (now (table .entry)) (now (answer .entry)) (now (work .entry))) × (now (work .exit) ≡ fitWork (now (table .entry)) (now (answer .entry)) (now (work .entry))) ⌝ }
 {
-    pack_moved(relevancy::engine::begin(session, table, answer, work))
+    pack_moved(relevancy_calls::fit::begin(session, table, answer, work))
 }
 
 fn resume_relevancy(
@@ -43,7 +43,7 @@ fn resume_relevancy(
 ) -> Returned
     ensures { λ r. ⌜ (r .number ≡ packVerdict (verdictTold (resumed session further (now (table .entry)) (now (answer .entry)) (now (work .entry)))) (deepestTold (resumed session further (now (table .entry)) (now (answer .entry)) (now (work .entry))))) × (r .session ≡ recordLeft (resumed session further (now (table .entry)) (now (answer .entry)) (now (work .entry))) session) × (now (answer .exit) ≡ answerLeft (resumed session further (now (table .entry)) (now (answer .entry)) (now (work .entry))) (now (answer .entry))) × (now (work .exit) ≡ workLeft (resumed session further (now (table .entry)) (now (answer .entry)) (now (work .entry))) (now (work .entry))) ⌝ }
 {
-    pack_moved(relevancy::engine::resume(session, further, table, answer, work))
+    pack_moved(relevancy_calls::fit::resume(session, further, table, answer, work))
 }
 
 fn begin_magic(
@@ -55,7 +55,7 @@ fn begin_magic(
 ) -> Returned
     ensures { λ r. ⌜ (r .number ≡ packVerdict (magicResult (now (table .entry)) (now (rules .entry)) (now (answer .entry)) (now (work .entry))) (magicDeepest (now (table .entry)) (now (rules .entry)) (now (answer .entry)) (now (work .entry)))) × (r .session ≡ recordLeft (magicBegun (now (table .entry)) (now (rules .entry)) (now (answer .entry)) (now (work .entry))) session) × (now (rules .exit) ≡ magicRules (now (table .entry)) (now (rules .entry)) (now (answer .entry)) (now (work .entry))) × (now (answer .exit) ≡ magicAnswer (now (table .entry)) (now (rules .entry)) (now (answer .entry)) (now (work .entry))) × (now (work .exit) ≡ magicWork (now (table .entry)) (now (rules .entry)) (now (answer .entry)) (now (work .entry))) ⌝ }
 {
-    pack_moved(magic::engine::begin(session, table, rules, answer, work))
+    pack_moved(magic_calls::fit::begin(session, table, rules, answer, work))
 }
 
 fn resume_magic(
@@ -68,7 +68,7 @@ fn resume_magic(
 ) -> Returned
     ensures { λ r. ⌜ (r .number ≡ packVerdict (verdictTold (magicResumed session further (now (table .entry)) (now (rules .entry)) (now (answer .entry)) (now (work .entry)))) (deepestTold (magicResumed session further (now (table .entry)) (now (rules .entry)) (now (answer .entry)) (now (work .entry))))) × (r .session ≡ recordLeft (magicResumed session further (now (table .entry)) (now (rules .entry)) (now (answer .entry)) (now (work .entry))) session) × (now (rules .exit) ≡ rulesLeft (magicResumed session further (now (table .entry)) (now (rules .entry)) (now (answer .entry)) (now (work .entry))) (now (table .entry)) (now (rules .entry))) × (now (answer .exit) ≡ answerLeft (magicResumed session further (now (table .entry)) (now (rules .entry)) (now (answer .entry)) (now (work .entry))) (now (answer .entry))) × (now (work .exit) ≡ workLeft (magicResumed session further (now (table .entry)) (now (rules .entry)) (now (answer .entry)) (now (work .entry))) (now (work .entry))) ⌝ }
 {
-    pack_moved(magic::engine::resume(session, further, table, rules, answer, work))
+    pack_moved(magic_calls::fit::resume(session, further, table, rules, answer, work))
 }
 
 // A first run by the relevancy engine, which leaves a session.

@@ -177,7 +177,7 @@ pub extern "C" fn lutsamik_holding(
 pub extern "C" fn lutsamik_fit_relevancy(table: &[u8], answer: &mut [u8], work: &mut [u8]) -> u64
     ensures { λ n. ⌜ (n ≡ packVerdict (fitResult (now (table .entry)) (now (answer .entry)) (now (work .entry))) (fitDeepest (now (table .entry)) (now (answer .entry)) (now (work .entry)))) × (now (answer .exit) ≡ fitAnswer (now (table .entry)) (now (answer .entry)) (now (work .entry))) × (now (work .exit) ≡ fitWork (now (table .entry)) (now (answer .entry)) (now (work .entry))) ⌝ }
 {
-    pack_reply(relevancy::engine::fit(table, answer, work))
+    pack_reply(relevancy_calls::fit::fit(table, answer, work))
 }
 
 // Rewrites a table into magic rules, in a rules buffer of 16,384 bytes.
@@ -198,5 +198,5 @@ pub extern "C" fn lutsamik_fit_magic(
 ) -> u64
     ensures { λ n. ⌜ (n ≡ packVerdict (magicResult (now (table .entry)) (now (rules .entry)) (now (answer .entry)) (now (work .entry))) (magicDeepest (now (table .entry)) (now (rules .entry)) (now (answer .entry)) (now (work .entry)))) × (now (rules .exit) ≡ magicRules (now (table .entry)) (now (rules .entry)) (now (answer .entry)) (now (work .entry))) × (now (answer .exit) ≡ magicAnswer (now (table .entry)) (now (rules .entry)) (now (answer .entry)) (now (work .entry))) × (now (work .exit) ≡ magicWork (now (table .entry)) (now (rules .entry)) (now (answer .entry)) (now (work .entry))) ⌝ }
 {
-    pack_reply(magic::engine::fit(table, rules, answer, work))
+    pack_reply(magic_calls::fit::fit(table, rules, answer, work))
 }

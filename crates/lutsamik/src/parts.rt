@@ -29,7 +29,7 @@ pub extern "C" fn lutsamik_parts_relevancy(
 ) -> u64
     ensures { λ n. ⌜ (n ≡ packParting (partsResult false (tooShort (now (table .entry)) (now (answer .entry)) (now (work .entry))) (now (table .entry)))) × (now (count .exit) ≡ partsCount false (tooShort (now (table .entry)) (now (answer .entry)) (now (work .entry))) (now (table .entry)) (now (count .entry))) × (now (answer .exit) ≡ partsAnswer false (tooShort (now (table .entry)) (now (answer .entry)) (now (work .entry))) (now (table .entry)) (now (answer .entry))) × (now (work .exit) ≡ fitWork (now (table .entry)) (now (answer .entry)) (now (work .entry))) ⌝ }
 {
-    pack_parting(parting::parts::parts_relevancy(table, count, answer, work))
+    pack_parting(parts_calls::by_relevancy::parts_relevancy(table, count, answer, work))
 }
 
 // Fits a table by the magic engine, part by part, with 16,384 bytes for the rules, 1,024 answer bytes and 65,536 to work in.
@@ -43,5 +43,5 @@ pub extern "C" fn lutsamik_parts_magic(
 ) -> u64
     ensures { λ n. ⌜ (n ≡ packParting (partsResult true (magicTooShort (now (table .entry)) (now (rules .entry)) (now (answer .entry)) (now (work .entry))) (now (table .entry)))) × (now (count .exit) ≡ partsCount true (magicTooShort (now (table .entry)) (now (rules .entry)) (now (answer .entry)) (now (work .entry))) (now (table .entry)) (now (count .entry))) × (now (rules .exit) ≡ magicRules (now (table .entry)) (now (rules .entry)) (now (answer .entry)) (now (work .entry))) × (now (answer .exit) ≡ partsAnswer true (magicTooShort (now (table .entry)) (now (rules .entry)) (now (answer .entry)) (now (work .entry))) (now (table .entry)) (now (answer .entry))) × (now (work .exit) ≡ magicWork (now (table .entry)) (now (rules .entry)) (now (answer .entry)) (now (work .entry))) ⌝ }
 {
-    pack_parting(parting::parts::parts_magic(table, count, rules, answer, work))
+    pack_parting(parts_calls::by_magic::parts_magic(table, count, rules, answer, work))
 }

@@ -58,16 +58,6 @@ or-none true b c e = let z : _≡_ {A = ℕ} 0 1 = cc in absurd (omega arith)
 or-none false true c e = let z : _≡_ {A = ℕ} 0 1 = cc in absurd (omega arith)
 or-none false false c e = (refl, refl, e)
 
--- whether the rules, the answer or the work buffer is too short, asked one after the other
-pub small-rules : (r a w : ℕ) → r < 16384 → true ≡ (ltb r 16384 || ltb a 1024 || ltb w 65536)
-small-rules r a w l = rw (lt-ltb r 16384 l)
-
-pub small-answer : (r a w : ℕ) → 16384 ≤ r → a < 1024 → true ≡ (ltb r 16384 || ltb a 1024 || ltb w 65536)
-small-answer r a w k l = rw (le-ltb r 16384 k, lt-ltb a 1024 l)
-
-pub small-work : (r a w : ℕ) → 16384 ≤ r → 1024 ≤ a → ltb w 65536 ≡ (ltb r 16384 || ltb a 1024 || ltb w 65536)
-small-work r a w k l = rw (le-ltb r 16384 k, le-ltb a 1024 l)
-
 -- all that is lent is taken
 pub record AllTaken (tb rules answer work : List ℕ) : Type 0 where
   pub table-long : 4096 ≤ length tb

@@ -1,15 +1,16 @@
 -- What is claimed of the operations, by each way out.
-use Prim.Native.Nat.{ℕ, _≤_}
-use mathlib.Core.Bool.{true, false}
+use Prim.Native.Nat.{ℕ, _≤_, _<_}
+use mathlib.Core.Bool.{_||_}
 use mathlib.Core.List.{List, [], _++_, append-nil}
 use mathlib.Core.Path.{_≡_, sym, ap, subst, _∙_}
 use native.Mathlib.Omega.{arith}
+use lib.Dec.{ltb}
 use lib.ListN.{length, take, drop, replicate, take-append-drop, drop-of-length-le}
 use lib.Seq.{length-take-le, take-take}
 use Rattle.search.specs.Session.{firstSession, Called, declined, told}
 use Rattle.problem.specs.Problem.{limitOf}
 use Rattle.problem.specs.Layout.{problemIn}
-use Rattle.problem.specs.Table.{isValid}
+use Rattle.writing.specs.contracts.Lent.{refusalOf}
 use Rattle.ground.specs.declared.verdict.Verdict.the-variants.{Refused}
 use Rattle.ground.specs.Instance.{groundIn}
 use Rattle.ground.specs.Verdict.{verdictOf, answerOf}
@@ -20,10 +21,10 @@ use Rattle.session.specs.declared.record.Moved.{Moved}
 use Rattle.session.specs.Record.{laid}
 use Rattle.session.specs.Calls.{calledIn, recordLeft}
 use Rattle.session.proofs.EndLaws.{left-back}
-use Rattle.magic.specs.Engine.{magicTooShort, magicOutcome, magicResult, magicRules, magicAnswer, magicWork}
+use Rattle.magic.specs.Engine.{magicOutcome, magicResult, magicRules, magicAnswer, magicWork}
 use Rattle.magic.specs.Sessions.{magicBegun, magicResumed, rulesLeft}
-use Rattle.magic.proofs.EngineLaws.{fit-short, fit-invalid, fit-runs}
-use Rattle.magic.proofs.SessionLaws.{begun-short, begun-invalid, begun-runs, resumed-short, resumed-invalid, resumed-runs}
+use Rattle.magic.proofs.EngineLaws.{AllTaken, passed, fit-runs, fit-refused}
+use Rattle.magic.proofs.SessionLaws.{begun-refused, begun-runs, resumed-refused, resumed-runs}
 use Rattle.magic.proofs.FurtherLaws.{says-declined, CallMade, made-declined}
 
 -- ---- the first bytes of the lent buffers are put back
@@ -66,22 +67,18 @@ module _ (r : Record) (tb rules answer work : List ℕ) where
   session-is : {c : Called} → magicBegun tb rules answer work ≡ c → recordLeft c r ≡ recordLeft (magicBegun tb rules answer work) r
   session-is so = ap (λ (x : Called). recordLeft x r) (sym so)
 
-  pub begin-short : magicTooShort tb rules answer work ≡ true → (m : Moved) → (m .verdict ≡ Refused 11) × (m .session ≡ r) → Begins m rules answer work
-  begin-short e m was =
-      let f = fit-short tb rules answer work e in
-      (was .0 ∙ f .0, was .1 ∙ session-is (begun-short tb rules answer work e), f .1, f .2, f .3)
+  pub begin-refused : (e : ℕ) → e ≡ refusalOf tb (ltb (length rules) 16384 || ltb (length answer) 1024 || ltb (length work) 65536) → 0 < e → (m : Moved) → (m .verdict ≡ Refused e) × (m .session ≡ r)
+      → Begins m rules answer work
+  begin-refused e is l m was =
+      let f = fit-refused tb rules answer work e is l in
+      (was .0 ∙ f .0, was .1 ∙ session-is (begun-refused tb rules answer work e is l), f .2, f .3, f .4)
 
-  module _ (long : magicTooShort tb rules answer work ≡ false) where
-    pub begin-invalid : isValid (take 4096 tb) ≡ false → (m : Moved) → (m .verdict ≡ Refused 31) × (m .session ≡ r) → Begins m rules answer work
-    begin-invalid v m was =
-        let f = fit-invalid tb rules answer work long v in
-        (was .0 ∙ f .0, was .1 ∙ session-is (begun-invalid tb rules answer work long v), f .1, f .2, f .3)
-
-    pub begin-runs : isValid (take 4096 tb) ≡ true → (m : Moved) (rs left part : List ℕ) → RunMade (take 4096 tb) (take 16384 rules) answer m rs left part
-        → Begins m (rs ++ drop 16384 rules) left (part ++ drop 65536 work)
-    begin-runs v m rs left part h =
-        let f = fit-runs tb rules answer work long v (m .verdict) rs left part (h .0) (h .2) (h .3) (h .4) in
-        (f .0, h .1 ∙ session-is (begun-runs tb rules answer work long v), f .1, f .2, f .3)
+  pub begin-runs : AllTaken tb rules answer work → (m : Moved) (rs left part : List ℕ) → RunMade (take 4096 tb) (take 16384 rules) answer m rs left part
+      → Begins m (rs ++ drop 16384 rules) left (part ++ drop 65536 work)
+  begin-runs t m rs left part h =
+      let long = passed tb rules answer work t in
+      let f = fit-runs tb rules answer work long (t .valid) (m .verdict) rs left part (h .0) (h .2) (h .3) (h .4) in
+      (f .0, h .1 ∙ session-is (begun-runs tb rules answer work long (t .valid)), f .1, f .2, f .3)
 
   -- ---- going on
 
@@ -94,18 +91,15 @@ module _ (r : Record) (tb rules answer work : List ℕ) where
         let c : Called = magicResumed r further tb rules answer work in
         made-declined c r tb rules answer work e so m answer (says-declined c r answer e so m was)
 
-    pub resume-short : magicTooShort tb rules answer work ≡ true → (m : Moved) → (m .verdict ≡ Refused 11) × (m .session ≡ r) → Resumes m rules answer work
-    resume-short e = resumed-declined 11 (resumed-short tb rules answer work r further e)
+    pub resume-refused : (e : ℕ) → e ≡ refusalOf tb (ltb (length rules) 16384 || ltb (length answer) 1024 || ltb (length work) 65536) → 0 < e → (m : Moved) → (m .verdict ≡ Refused e) × (m .session ≡ r)
+        → Resumes m rules answer work
+    resume-refused e is l = resumed-declined e (resumed-refused tb rules answer work r further e is l)
 
-    module _ (long : magicTooShort tb rules answer work ≡ false) where
-      pub resume-invalid : isValid (take 4096 tb) ≡ false → (m : Moved) → (m .verdict ≡ Refused 31) × (m .session ≡ r) → Resumes m rules answer work
-      resume-invalid v = resumed-declined 31 (resumed-invalid tb rules answer work r further long v)
-
-      pub resume-runs : isValid (take 4096 tb) ≡ true → 16384 ≤ length rules → 65536 ≤ length work → (m : Moved) (rs left part : List ℕ)
-          → CallMade (calledIn (findIn (rulesOver (take 4096 tb) (take 16384 rules))) ((groundIn (take 4096 tb)) .atoms) r further) r (take 4096 tb) (take 16384 rules) answer (take 65536 work) m rs left part
-          → Resumes m (rs ++ drop 16384 rules) left (part ++ drop 65536 work)
-      resume-runs v rules-long work-long m rs left part h =
-          let c : Called = calledIn (findIn (rulesOver (take 4096 tb) (take 16384 rules))) ((groundIn (take 4096 tb)) .atoms) r further in
-          subst (λ (x : Called). CallMade x r tb rules answer work m (rs ++ drop 16384 rules) left (part ++ drop 65536 work))
-          (sym (resumed-runs tb rules answer work r further long v))
-          (made-back c r tb rules answer work rules-long work-long m rs left part h)
+    pub resume-runs : AllTaken tb rules answer work → (m : Moved) (rs left part : List ℕ)
+        → CallMade (calledIn (findIn (rulesOver (take 4096 tb) (take 16384 rules))) ((groundIn (take 4096 tb)) .atoms) r further) r (take 4096 tb) (take 16384 rules) answer (take 65536 work) m rs left part
+        → Resumes m (rs ++ drop 16384 rules) left (part ++ drop 65536 work)
+    resume-runs t m rs left part h =
+        let c : Called = calledIn (findIn (rulesOver (take 4096 tb) (take 16384 rules))) ((groundIn (take 4096 tb)) .atoms) r further in
+        subst (λ (x : Called). CallMade x r tb rules answer work m (rs ++ drop 16384 rules) left (part ++ drop 65536 work))
+        (sym (resumed-runs tb rules answer work r further (passed tb rules answer work t) (t .valid)))
+        (made-back c r tb rules answer work (t .rules-long) (t .work-long) m rs left part h)

@@ -1,13 +1,15 @@
 -- The ways out of the calls with a session, and a first run's other statements.
-use Prim.Native.Nat.{ℕ}
-use mathlib.Core.Bool.{Bool, true, false}
+use Prim.Native.Nat.{ℕ, _<_}
+use mathlib.Core.Bool.{Bool, true, false, _||_}
 use mathlib.Core.List.{List}
-use mathlib.Core.Path.{_≡_, refl, ap, _∙_}
-use lib.ListN.{take, replicate}
+use mathlib.Core.Path.{_≡_, refl, sym, ap, _∙_}
+use lib.Dec.{ltb}
+use lib.ListN.{length, take, replicate}
 use Rattle.search.specs.Session.{Called, declined}
 use Rattle.problem.specs.Problem.{limitOf}
 use Rattle.problem.specs.Layout.{problemIn}
 use Rattle.problem.specs.Table.{isValid}
+use Rattle.writing.specs.contracts.Lent.{refusalOf}
 use Rattle.ground.specs.declared.verdict.Verdict.the-variants.{Refused}
 use Rattle.ground.specs.Instance.{groundIn}
 use Rattle.ground.specs.Verdict.{verdictOf, answerOf}
@@ -18,7 +20,7 @@ use Rattle.session.specs.Calls.{deepestTold, calledIn, begunBy, verdictTold, an
 use Rattle.session.proofs.CallLaws.{screened-short, screened-invalid, screened-through, screened-first, declined-by, deepest-first}
 use Rattle.magic.specs.Engine.{rulesOutcome, magicTooShort, magicOutcome, magicResult, magicDeepest, magicRules, magicAnswer, magicWork}
 use Rattle.magic.specs.Sessions.{magicBegun, magicResumed, rulesLeft}
-use Rattle.magic.proofs.EngineLaws.{Fitted, fit-short, fit-invalid, fit-runs}
+use Rattle.magic.proofs.EngineLaws.{refused-by, Fitted, fit-short, fit-invalid, fit-runs}
 
 module _ (tb rules answer work : List ℕ) where
   abbrev own : List ℕ
@@ -33,11 +35,11 @@ module _ (tb rules answer work : List ℕ) where
 
   -- ---- a first run
 
-  pub begun-short : magicTooShort tb rules answer work ≡ true → magicBegun tb rules answer work ≡ declined 11
+  begun-short : magicTooShort tb rules answer work ≡ true → magicBegun tb rules answer work ≡ declined 11
   unfolding magicBegun
   begun-short e = screened-short (magicTooShort tb rules answer work) (isValid own) run e
 
-  pub begun-invalid : magicTooShort tb rules answer work ≡ false → isValid (take 4096 tb) ≡ false → magicBegun tb rules answer work ≡ declined 31
+  begun-invalid : magicTooShort tb rules answer work ≡ false → isValid (take 4096 tb) ≡ false → magicBegun tb rules answer work ≡ declined 31
   unfolding magicBegun
   begun-invalid e v = screened-invalid (magicTooShort tb rules answer work) (isValid own) run e v
 
@@ -45,6 +47,10 @@ module _ (tb rules answer work : List ℕ) where
       → magicBegun tb rules answer work ≡ begunBy (findIn (rulesOver (take 4096 tb) (take 16384 rules))) (limitOf ((problemIn (take 4096 tb)) .limit))
   unfolding magicBegun
   begun-runs e v = screened-through (magicTooShort tb rules answer work) (isValid own) run e v
+
+  pub begun-refused : (e : ℕ) → e ≡ refusalOf tb (ltb (length rules) 16384 || ltb (length answer) 1024 || ltb (length work) 65536) → 0 < e → magicBegun tb rules answer work ≡ declined e
+  unfolding magicBegun
+  begun-refused e is l = sym (refused-by tb rules answer work e is {A = Called} (λ x. declined x) run l)
 
   -- its other statements are those of a run without a session
   pub begun-same : (verdictTold (magicBegun tb rules answer work) ≡ magicResult tb rules answer work)
@@ -83,13 +89,9 @@ module _ (tb rules answer work : List ℕ) where
     abbrev on : Called
     on = calledIn (findIn bs) ((groundIn own) .atoms) r further
 
-    pub resumed-short : magicTooShort tb rules answer work ≡ true → magicResumed r further tb rules answer work ≡ declined 11
+    pub resumed-refused : (e : ℕ) → e ≡ refusalOf tb (ltb (length rules) 16384 || ltb (length answer) 1024 || ltb (length work) 65536) → 0 < e → magicResumed r further tb rules answer work ≡ declined e
     unfolding magicResumed
-    resumed-short e = screened-short (magicTooShort tb rules answer work) (isValid own) on e
-
-    pub resumed-invalid : magicTooShort tb rules answer work ≡ false → isValid (take 4096 tb) ≡ false → magicResumed r further tb rules answer work ≡ declined 31
-    unfolding magicResumed
-    resumed-invalid e v = screened-invalid (magicTooShort tb rules answer work) (isValid own) on e v
+    resumed-refused e is l = sym (refused-by tb rules answer work e is {A = Called} (λ x. declined x) on l)
 
     pub resumed-runs : magicTooShort tb rules answer work ≡ false → isValid (take 4096 tb) ≡ true
         → magicResumed r further tb rules answer work ≡ calledIn (findIn (rulesOver (take 4096 tb) (take 16384 rules))) ((groundIn (take 4096 tb)) .atoms) r further

@@ -2,9 +2,9 @@
 use crate::end::conclude;
 use ground::verdict::Verdict;
 use lists::pair;
+use magic_plan::index::build;
 use magic_resume::left::root_alternatives;
 use magic_resume::resume::go_on;
-use magic_rule::index::build;
 use magic_walk::place::root;
 use rewriting::rewrite::write_rules;
 use session::record::Moved;

@@ -1,6 +1,6 @@
 // The walk by the rules of a buffer, from the root on.
+use magic_plan::index::build;
 use magic_resume::left::root_alternatives;
-use magic_rule::index::build;
 use magic_walk::place::root;
 use magic_walk::trail::from_root;
 use walk::answer::Walked;

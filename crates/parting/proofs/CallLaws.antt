@@ -4,7 +4,7 @@ use mathlib.Core.Bool.{Bool, true, false, cond, _||_}
 use mathlib.Core.List.{List, _++_, map}
 use mathlib.Core.Path.{_≡_, refl, sym, ap, subst, _∙_}
 use native.Mathlib.Omega.{arith}
-use borrow.Author.Tests.{eqb-true, eq-eqb, ne-eqb, lt-ltb, le-ltb, ltb-false}
+use borrow.Author.Tests.{eqb-true, eq-eqb, ne-eqb, ltb-false}
 use lib.Dec.{eqb, ltb}
 use lib.ListN.{length, take, drop, replicate}
 use lib.Seq.{length-take-le}
@@ -78,18 +78,6 @@ or-four false b c d = refl
 or-none : (a b : Bool) → (a || b) ≡ false → (a ≡ false) × (b ≡ false)
 or-none true b e = let z : _≡_ {A = ℕ} 0 1 = cc in absurd (omega arith)
 or-none false b e = (refl, e)
-
-pub short-answer : (a w : ℕ) → a < 1024 → true ≡ (ltb a 1024 || ltb w 65536)
-short-answer a w l = rw (lt-ltb a 1024 l)
-
-pub long-answer : (a w : ℕ) → 1024 ≤ a → ltb w 65536 ≡ (ltb a 1024 || ltb w 65536)
-long-answer a w l = rw (le-ltb a 1024 l)
-
-pub short-rules : (r a w : ℕ) → r < 16384 → true ≡ (ltb r 16384 || ltb a 1024 || ltb w 65536)
-short-rules r a w l = rw (lt-ltb r 16384 l)
-
-pub long-rules : (r a w : ℕ) → 16384 ≤ r → (ltb a 1024 || ltb w 65536) ≡ (ltb r 16384 || ltb a 1024 || ltb w 65536)
-long-rules r a w l = rw (le-ltb r 16384 l)
 
 -- ---- by the number that what is lent is refused by, or 0
 

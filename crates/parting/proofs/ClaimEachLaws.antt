@@ -8,9 +8,10 @@ use Rattle.lists.specs.Tabulate.{tabulate}
 use Rattle.lists.proofs.Bytes.{all-at}
 use Rattle.lists.proofs.Member.{all-append, append-left, append-right, all-mapped, mapped-all, all-of}
 use Rattle.problem.specs.Problem.{Clause, Problem}
+use Rattle.problem.specs.Extended.{withClauses}
 use Rattle.ground.specs.Instance.{clauseOf, noClause}
 use Rattle.ground.proofs.ClauseLaws.{tabulate-all}
-use Rattle.parting.specs.Parts.{only, withClauses, partOf, isLowest, isBare, partsOf}
+use Rattle.parting.specs.Parts.{only, partOf, isLowest, isBare, partsOf}
 use Rattle.parting.proofs.ClaimOnlyLaws.{only-all, all-only}
 
 module _ {ℓ} (q : Problem) (P : Problem → Type ℓ) where

@@ -10,9 +10,10 @@ use Rattle.lists.specs.Member.{All}
 use Rattle.lists.proofs.Bytes.{all-at}
 use Rattle.problem.specs.Problem.{Clause, Problem, ClauseFits, Fits, weights}
 use Rattle.problem.proofs.Access.{weights-upto}
+use Rattle.problem.specs.Extended.{withClauses}
 use Rattle.ground.specs.Instance.{clauseOf, noClause}
 use Rattle.ground.proofs.ClauseLaws.{all-places}
-use Rattle.parting.specs.Parts.{predicatesOf, family, only, touches, withClauses, partOf, partsOf}
+use Rattle.parting.specs.Parts.{predicatesOf, family, only, touches, partOf, partsOf}
 use Rattle.parting.proofs.GatherLaws.{sub-fits}
 use Rattle.parting.proofs.ClaimOnlyLaws.{only-all, only-few, only-weigh}
 use Rattle.parting.proofs.ClaimEachLaws.{parts-each}

@@ -13,10 +13,11 @@ use Rattle.lists.proofs.Digits.{Tuple}
 use Rattle.lists.proofs.Member.{all-map, all-zip, all-mapped, mapped-all, append-left, append-right, all-in}
 use Rattle.search.specs.Ground.{Model}
 use Rattle.problem.specs.Problem.{Atom, Clause, Problem, AtomFits, ClauseFits, Fits}
+use Rattle.problem.specs.Extended.{withClauses}
 use Rattle.ground.specs.Instance.{GroundAtom, valueOf, number, noClause, clauseOf, groundOf}
 use Rattle.ground.proofs.ClauseLaws.{all-places, ClauseKept, model-clauses, clauses-model}
 use Rattle.ground.proofs.Instances.{values-below}
-use Rattle.parting.specs.Parts.{predicatesOf, family, touches, withClauses, partOf, isLowest, isBare, partsOf}
+use Rattle.parting.specs.Parts.{predicatesOf, family, touches, partOf, isLowest, isBare, partsOf}
 use Rattle.parting.specs.Runs.{predicateAt}
 use Rattle.parting.specs.Claims.{Has, Within, ModelsJoin}
 use Rattle.parting.proofs.FamilyLaws.{touched, family-step, part-same}

@@ -16,9 +16,10 @@ use Rattle.lists.proofs.Member.{all-map, all-append, any-right, any-mapped, has
 use Rattle.lists.proofs.Tabulate.{any-tabulate}
 use Rattle.lists.proofs.Test.{T-false, fails, lt-or-le}
 use Rattle.problem.specs.Problem.{Atom, Clause, Problem, AtomFits, ClauseFits, Fits}
+use Rattle.problem.specs.Extended.{withClauses}
 use Rattle.ground.specs.Instance.{clauseOf, noClause}
 use Rattle.ground.proofs.ClauseLaws.{all-places}
-use Rattle.parting.specs.Parts.{predicatesOf, family, only, touches, withClauses, partOf, isLowest, isBare, partsOf}
+use Rattle.parting.specs.Parts.{predicatesOf, family, only, touches, partOf, isLowest, isBare, partsOf}
 use Rattle.parting.specs.Claims.{Has, Joined, Within}
 use Rattle.parting.proofs.FamilyLaws.{touched, touching, family-self, family-trans, family-sym, families, lowest, part-same}
 use Rattle.parting.proofs.ClaimOnlyLaws.{any-only, only-none}

@@ -10,10 +10,10 @@ use Rattle.search.specs.Ground.{Found, opened}
 use Rattle.search.specs.Relevancy.{hornRules, trueSet, findR}
 use Rattle.search.specs.Machine.{Place, Satisfied, placed, after, answer, answerAt, last, root, entries, proceed, outcome}
 use Rattle.problem.specs.Problem.{Problem, Fits, limitOf}
+use Rattle.problem.specs.Extended.{withClauses}
 use Rattle.ground.specs.declared.verdict.Verdict.the-variants.{Satisfied as IsSatisfied}
 use Rattle.ground.specs.Instance.{groundOf}
 use Rattle.ground.specs.Verdict.{verdictOf}
-use Rattle.parting.specs.Parts.{withClauses}
 use Rattle.parting.specs.Runs.{runBy}
 use Rattle.parting.proofs.ClaimFitLaws.{none-fit}
 use Rattle.parting.proofs.ClaimWalkLaws.{outcomes}

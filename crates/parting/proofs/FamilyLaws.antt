@@ -15,9 +15,10 @@ use Rattle.lists.proofs.Test.{or-left, or-right, T-or, same-test}
 use Rattle.search.specs.Closure.{Rule, Closed}
 use Rattle.search.proofs.Closure.{least-seeds, least-closed, least-ind}
 use Rattle.problem.specs.Problem.{Clause, Problem}
+use Rattle.problem.specs.Extended.{withClauses}
 use Rattle.ground.specs.Instance.{clauseOf, noClause}
 use Rattle.ground.proofs.ClauseLaws.{all-places}
-use Rattle.parting.specs.Parts.{predicatesOf, Shares, Through, Together, linksOf, family, only, touches, withClauses, partOf, isLowest}
+use Rattle.parting.specs.Parts.{predicatesOf, Shares, Through, Together, linksOf, family, only, touches, partOf, isLowest}
 use Rattle.parting.specs.Claims.{Has, Joined, Within}
 
 -- ---- members

@@ -15,13 +15,12 @@ use Rattle.lists.proofs.Member.{all-append, flat-snoc}
 use Rattle.problem.specs.Problem.{Clause, Problem, ClauseFits, Fits, atomCount, weights}
 use Rattle.problem.specs.Layout.{predicateRecords, clauseRecord, clauseRecords, heading, layout, problemIn}
 use Rattle.problem.specs.Table.{Lawful}
-use Rattle.problem.specs.Extended.{withClause}
+use Rattle.problem.specs.Extended.{withClause, withClauses}
 use Rattle.problem.proofs.Access.{weights-take}
 use Rattle.problem.proofs.TableLayout.{sixteen, predicateRecords-length, clauseRecord-length, clause-byte, weights-snoc, problem-back, layout-length}
 use Rattle.ground.specs.Instance.{clauseOf, noClause}
 use Rattle.adding.specs.contracts.Appended.{Appended}
 use Rattle.adding.proofs.AppendLaws.{clause-count}
-use Rattle.parting.specs.Parts.{withClauses}
 use Rattle.parting.specs.contracts.Labels.{clauseAt}
 use Rattle.parting.specs.contracts.Gathered.{belongs, taken, gatheredUpto, gathered}
 

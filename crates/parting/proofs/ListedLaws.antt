@@ -17,8 +17,9 @@ use Rattle.lists.proofs.Rising.{Rising, rising-tabulate, rising-apart}
 use Rattle.lists.proofs.Tabulate.{tabulate-map, all-tabulate, any-tabulate}
 use Rattle.lists.proofs.Test.{T-true}
 use Rattle.problem.specs.Problem.{Atom, Clause, Problem}
+use Rattle.problem.specs.Extended.{withClauses}
 use Rattle.ground.specs.Instance.{clauseOf, noClause}
-use Rattle.parting.specs.Parts.{predicatesOf, family, only, touches, withClauses, partOf, isLowest, isBare, partsOf}
+use Rattle.parting.specs.Parts.{predicatesOf, family, only, touches, partOf, isLowest, isBare, partsOf}
 use Rattle.parting.specs.Listed.{NumbersWhere, PartListed, PartsListed}
 use Rattle.parting.proofs.FamilyLaws.{any-in, in-any}
 use Rattle.parting.proofs.ClaimOnlyLaws.{only-all, all-only}

@@ -11,7 +11,7 @@ use Rattle.problem.specs.Layout.{problemIn, aritiesIn}
 use Rattle.problem.specs.Table.{Lawful}
 use Rattle.ground.specs.Instance.{GroundAtom, groundNumber}
 use Rattle.ground.specs.Report.{atomsInOrder}
-use Rattle.ground.specs.contracts.Matching.{Decoded}
+use Rattle.kernel.specs.contracts.Matching.{Decoded}
 use Rattle.ground.proofs.Order.{order-at}
 use Rattle.parting.specs.Runs.{predicateIn, predicateAt}
 use Rattle.parting.specs.contracts.Labels.{labelsIn}

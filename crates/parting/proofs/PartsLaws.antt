@@ -16,10 +16,11 @@ use Rattle.problem.specs.Problem.{Clause, Problem}
 use Rattle.problem.specs.Layout.{problemIn}
 use Rattle.problem.specs.Table.{Lawful}
 use Rattle.problem.proofs.Access.{predicates-in}
+use Rattle.problem.specs.Extended.{withClauses}
 use Rattle.ground.specs.Instance.{clauseOf, noClause}
 use Rattle.ground.proofs.AtomLaws.{conds-count, alts-count}
 use Rattle.ground.proofs.Turns.{clauses-byte}
-use Rattle.parting.specs.Parts.{predicatesOf, family, only, touches, withClauses, partOf, isLowest, isBare, partsOf}
+use Rattle.parting.specs.Parts.{predicatesOf, family, only, touches, partOf, isLowest, isBare, partsOf}
 use Rattle.parting.specs.contracts.Labels.{clauseAt, leadAt, labelsIn}
 use Rattle.parting.specs.contracts.Gathered.{belongs, taken, gatheredUpto, gathered}
 use Rattle.parting.specs.contracts.Tally.{nameAt, partsNamed, partsUpto}

@@ -1,4 +1,4 @@
--- What is claimed of parts and of the calls that run them, whatever the code: the contracts of `parts::parts_relevancy` and `parts::parts_magic` equate what they give and
+-- What is claimed of parts and of the calls that run them, whatever the code: the contracts of `parts_calls::by_relevancy::parts_relevancy` and `parts_calls::by_magic::parts_magic` equate what they give and
 -- leave with `partsResult`, `partsCount`, `partsAnswer`, `fitWork`, `magicWork` and `magicRules`. `proofs/Theorems.antt` proves `Theorems`.
 use Prim.Native.Nat.{ℕ, _≤_, _<_}
 use mathlib.Core.Bool.{Bool, true, false}
@@ -15,6 +15,7 @@ use Rattle.search.specs.Machine.{trail}
 use Rattle.search.specs.Relevancy.{findR}
 use Rattle.problem.specs.Problem.{Problem, Fits, limitOf}
 use Rattle.problem.specs.Layout.{layout, problemIn}
+use Rattle.problem.specs.Extended.{withClauses}
 use Rattle.ground.specs.declared.verdict.Verdict.the-variants.{Satisfied as IsSatisfied, Refused as IsRefused}
 use Rattle.ground.specs.Instance.{clauseOf, groundOf}
 use Rattle.ground.specs.Verdict.{verdictOf, answerOf}
@@ -30,7 +31,7 @@ use Rattle.magic.specs.Claims.{MagicTaken}
 use Rattle.agreement.specs.Claims.{BothTaken, SameFacts}
 use Rattle.parting.specs.declared.parts.Parting.{Parting}
 use Rattle.parting.specs.declared.parts.Parting.the-variants as parting
-use Rattle.parting.specs.Parts.{predicatesOf, Together, family, touches, withClauses, partOf, isLowest, isBare, partsOf}
+use Rattle.parting.specs.Parts.{predicatesOf, Together, family, touches, partOf, isLowest, isBare, partsOf}
 use Rattle.parting.specs.Runs.{isRefuted, isExhausted, runBy, runsOf, saidBy, sumOf, predicateAt, partsResult, partsCount, partsAnswer}
 use Rattle.parting.specs.Listed.{PartsListed, SaidByAll, Counted, RunByEngines, BitsJoined, RunWhole, CallTells, RefusalKeeps}
 

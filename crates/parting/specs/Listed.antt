@@ -12,6 +12,7 @@ use Rattle.lists.specs.Member.{All, Any, In}
 use Rattle.search.specs.Machine.{Satisfied, Refuted, Exhausted, root, entries}
 use Rattle.problem.specs.Problem.{Clause, Problem, limitOf, atomCount}
 use Rattle.problem.specs.Layout.{problemIn}
+use Rattle.problem.specs.Extended.{withClauses}
 use Rattle.ground.specs.Instance.{GroundAtom, clauseOf, groundNumber}
 use Rattle.ground.specs.Verdict.{verdictOf, answerOf}
 use Rattle.relevancy.specs.Engine.{fitResult, fitAnswer}
@@ -20,7 +21,7 @@ use Rattle.magic.specs.Engine.{magicResult, magicAnswer}
 use Rattle.magic.specs.Claims.{MagicTaken}
 use Rattle.parting.specs.declared.parts.Parting.{Parting}
 use Rattle.parting.specs.declared.parts.Parting.the-variants as parting
-use Rattle.parting.specs.Parts.{predicatesOf, family, touches, withClauses, partOf, isLowest, isBare, partsOf}
+use Rattle.parting.specs.Parts.{predicatesOf, family, touches, partOf, isLowest, isBare, partsOf}
 use Rattle.parting.specs.Runs.{findBy, isRefuted, isExhausted, runBy, runsOf, saidBy, sumOf, joinedBits, partsResult, partsCount, partsAnswer}
 
 -- ---- the parts in order

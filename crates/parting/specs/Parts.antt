@@ -9,6 +9,7 @@ use Rattle.lists.specs.Member.{Any, every, has, In}
 use Rattle.lists.specs.Tabulate.{tabulate}
 use Rattle.search.specs.Closure.{Rule, least}
 use Rattle.problem.specs.Problem.{Clause, Problem}
+use Rattle.problem.specs.Extended.{withClauses}
 use Rattle.ground.specs.Instance.{clauseOf}
 
 -- ---- which clauses belong together
@@ -49,11 +50,7 @@ abbrev pub touches : List ℕ → List ℕ → Bool
 touches s [] = false
 touches s (p ∷ ps) = has natKey s p || touches s ps
 
--- "Each part keeps all constants and the full limit L": the problem with other clauses
-abbrev pub withClauses : Problem → List Clause → Problem
-withClauses q ks = record { constants = q .constants; limit = q .limit; arities = q .arities; clauses = ks }
-
--- the part that a predicate belongs to: the clauses that have a predicate of its family, in order; none at all where it is in no clause
+-- the part that a predicate belongs to ("Each part keeps all constants and the full limit L"): the clauses that have a predicate of its family, in order; none at all where it is in no clause
 unfoldable pub partOf : Problem → ℕ → Problem
 partOf q p = withClauses q (only (λ k. touches (family q p) (predicatesOf k)) (q .clauses))
 

@@ -1,7 +1,7 @@
 // One part of a table: its clauses, and the atoms of its predicates.
 use crate::labels::lead;
 use adding::append::append;
-use ground::matching::decode;
+use kernel::matching::decode;
 use lists::pair;
 ghost use mathlib.Core.Bool.{cond};
 ghost use mathlib.Core.List.{[], _++_};
@@ -12,10 +12,9 @@ ghost use lib.ListN.{length, replicate};
 ghost use Rattle.lists.specs.Tabulate.{tabulate};
 ghost use Rattle.problem.specs.Problem.{Fits};
 ghost use Rattle.problem.specs.Table.{Lawful};
-ghost use Rattle.problem.specs.Extended.{withClause};
+ghost use Rattle.problem.specs.Extended.{withClause, withClauses};
 ghost use Rattle.problem.specs.Layout.{layout, problemIn};
 ghost use Rattle.ground.specs.Instance.{clauseOf};
-ghost use Rattle.parting.specs.Parts.{withClauses};
 ghost use Rattle.parting.specs.contracts.Labels.{labelsIn};
 ghost use Rattle.parting.specs.contracts.Gathered.{belongs, taken, gathered};
 ghost use Rattle.parting.specs.contracts.Tally.{Marked, joinedAs};

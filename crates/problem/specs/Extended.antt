@@ -1,4 +1,4 @@
--- A problem with one clause more, and the bytes of a clause frame as its next clause line (02: U4).
+-- A problem with other clauses, or with one more, and the bytes of a clause frame as its next clause line (02: U4).
 use Prim.Native.Nat.{ℕ, suc, _+_}
 use mathlib.Core.Bool.{cond, _&&_}
 use mathlib.Core.List.{List, [], _∷_, _++_}
@@ -12,9 +12,13 @@ use Rattle.problem.specs.Judge.{judgeClause, clauseAt}
 use Rattle.problem.specs.Parse.{Parsed, refused, parsed}
 use Rattle.problem.specs.Print.{linesOf}
 
+-- a problem with other clauses: constants, limit and arities stay
+abbrev pub withClauses : Problem → List Clause → Problem
+withClauses q ks = record { constants = q .constants; limit = q .limit; arities = q .arities; clauses = ks }
+
 -- the clause after the others
 abbrev pub withClause : Problem → Clause → Problem
-withClause q k = record { constants = q .constants; limit = q .limit; arities = q .arities; clauses = q .clauses ++ (k ∷ []) }
+withClause q k = withClauses q (q .clauses ++ (k ∷ []))
 
 -- "no bytes, or a first byte other than 03, is 2"; then 5 after 64 clauses; then what judging it as a clause line gives, 3 for bytes left over at any length
 unfoldable pub judgeNext : Problem → List ℕ → Judged

@@ -54,13 +54,6 @@ or-none false b e = (refl, e)
 pub no-facts : Store 2050 (replicate 6150 0) 0
 no-facts = blank-store 2050 (replicate 6150 0) (length-replicate {A = ℕ} 6150 0) (λ a l. zeros-at 6150 a)
 
--- whether the answer or the work buffer is too short, asked one after the other
-pub small-yes : (a w : ℕ) → a < 1024 → true ≡ (ltb a 1024 || ltb w 65536)
-small-yes a w l = rw (lt-ltb a 1024 l)
-
-pub small-no : (a w : ℕ) → 1024 ≤ a → ltb w 65536 ≡ (ltb a 1024 || ltb w 65536)
-small-no a w l = rw (le-ltb a 1024 l)
-
 -- a walk refuses nothing
 pub never-declined : (o : Outcome) (e : ℕ) → verdictOf o ≡ Refused e → ⊥
 never-declined (Satisfied n bits) e h = let z : _≡_ {A = ℕ} 0 1 = cc in omega arith

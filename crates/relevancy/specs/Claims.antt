@@ -1,4 +1,4 @@
--- Demand 2 of the relevancy engine's operation, whatever the code: the contract of `engine::fit` equates what the operation gives and leaves with
+-- Demand 2 of the relevancy engine's operation, whatever the code: the contract of `relevancy_calls::fit::fit` equates what the operation gives and leaves with
 -- `fitResult`, `fitDeepest`, `fitAnswer` and `fitWork`. `proofs/Theorems.antt` proves `Theorems`.
 use Prim.Native.Nat.{ℕ, _≤_}
 use mathlib.Core.List.{List}

@@ -18,9 +18,9 @@ use Rattle.problem.specs.Layout.{aritiesIn, problemIn}
 use Rattle.problem.specs.Table.{Lawful}
 use Rattle.writing.specs.contracts.Printed.{Put}
 use Rattle.writing.proofs.WriteLaws.{put-as, put-most, put-then, put-none}
-use Rattle.ground.specs.contracts.Matching.{Decoded}
+use Rattle.kernel.specs.contracts.Matching.{Decoded}
 use Rattle.ground.specs.Report.{atomsInOrder, chosen}
-use Rattle.ground.proofs.MatchLaws.{PredicateKnown, predicate-known}
+use Rattle.kernel.proofs.MatchLaws.{PredicateKnown, predicate-known}
 use Rattle.ground.proofs.Order.{order-count, order-at}
 use Rattle.report.specs.contracts.Told.{atomLine, modelLines}
 

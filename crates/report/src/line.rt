@@ -1,5 +1,5 @@
 // The printed lines.
-use ground::matching::decode;
+use kernel::matching::decode;
 use writing::write::put_byte;
 use writing::write::put_end;
 ghost use mathlib.Core.List.{[], _∷_};

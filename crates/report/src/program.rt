@@ -19,7 +19,7 @@ pub fn print_relevancy(text: &[u8], out: &mut [u8; 12288]) -> usize
         Reading::Accepted => {
             let mut answer = [0u8; 1024];
             let mut work = [0u8; 65536];
-            let reply = relevancy::engine::fit(&table, &mut answer, &mut work);
+            let reply = relevancy_calls::fit::fit(&table, &mut answer, &mut work);
             let verdict = reply.verdict;
             put_verdict(&table, &answer, verdict, out)
         }
@@ -38,7 +38,7 @@ pub fn print_magic(text: &[u8], out: &mut [u8; 12288]) -> usize
             let mut rules = [0u8; 16384];
             let mut answer = [0u8; 1024];
             let mut work = [0u8; 65536];
-            let reply = magic::engine::fit(&table, &mut rules, &mut answer, &mut work);
+            let reply = magic_calls::fit::fit(&table, &mut rules, &mut answer, &mut work);
             let verdict = reply.verdict;
             put_verdict(&table, &answer, verdict, out)
         }

@@ -4,8 +4,8 @@ use mathlib.Core.List.{List, _∷_, _++_, map}
 use mathlib.Core.Path.{_≡_, refl, sym, subst, _∙_}
 use Rattle.lists.specs.Member.{All}
 use Rattle.problem.specs.Problem.{Clause, Problem, ClauseFits}
+use Rattle.problem.specs.Extended.{withClauses}
 use Rattle.shuffling.specs.Shuffled.{Permuted, one-by-one, clauseBy, OneToOne, Shuffled}
-use Rattle.shuffling.specs.Claims.{withClauses}
 use Rattle.shuffling.proofs.PermutedLaws.{permuted-self, permuted-back, permuted-map, permuted-exchange}
 use Rattle.shuffling.proofs.RenumberLaws.{clauses-self, clauses-twice}
 use Rattle.shuffling.proofs.OneToOneLaws.{same-one, one-after, back, back-one, there-back}

@@ -1,4 +1,4 @@
--- What is claimed of shuffled problems and of the three engines on them, whatever the code: the contracts of `relevancy::engine::fit`, `magic::engine::fit` and
+-- What is claimed of shuffled problems and of the three engines on them, whatever the code: the contracts of `relevancy_calls::fit::fit`, `magic_calls::fit::fit` and
 -- `staged::engine::fit` equate their verdicts with `fitResult`, `magicResult` and `stagedResult`. `proofs/Theorems.antt` proves `Theorems`.
 use Prim.Native.Nat.{ℕ, _<_}
 use mathlib.Core.List.{List, _∷_, _++_, map}
@@ -11,6 +11,7 @@ use Rattle.search.specs.Machine.{Outcome, outcome}
 use Rattle.search.specs.Sound.{SoundFind}
 use Rattle.problem.specs.Problem.{Clause, Problem, Fits}
 use Rattle.problem.specs.Layout.{problemIn}
+use Rattle.problem.specs.Extended.{withClauses}
 use Rattle.ground.specs.Instance.{Instance, groundOf}
 use Rattle.ground.specs.declared.verdict.Verdict.{Verdict}
 use Rattle.ground.specs.Verdict.{verdictOf}
@@ -47,9 +48,6 @@ HasModel q = (M : ℕ → Type 0) × Model (groundOf q) M
 -- a model by one walk, and none by the other
 abbrev pub ContradictBy : Outcome → Outcome → Type 0
 ContradictBy o p = Contradict (verdictOf o) (verdictOf p)
-
-abbrev pub withClauses : Problem → List Clause → Problem
-withClauses q ks = record { constants = q .constants; limit = q .limit; arities = q .arities; clauses = ks }
 
 pub record Theorems : Type 1 where
   -- "never turn fits into none or none into fits, in any of the three engines": whichever engine is called for either problem, and whatever else is lent

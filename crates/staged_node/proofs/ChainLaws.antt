@@ -15,13 +15,13 @@ use Rattle.lists.proofs.Bytes.{all-at, pad-length, zeros-split}
 use Rattle.problem.specs.Problem.{Clause, Problem, ClauseFits, Fits, atomCount, weight, weights}
 use Rattle.problem.specs.Layout.{predicateRecords, clauseRecord, clauseRecords, layout, problemIn}
 use Rattle.problem.specs.Table.{Lawful}
-use Rattle.problem.specs.Extended.{withClause}
+use Rattle.problem.specs.Extended.{withClause, withClauses}
 use Rattle.problem.proofs.Access.{weights-take, alternatives-in}
 use Rattle.problem.proofs.Regions.{front, front-length, parts}
 use Rattle.problem.proofs.TableLayout.{noClause, predicateRecords-length, clauseRecord-length, clause-byte, problem-back}
 use Rattle.adding.specs.contracts.Appended.{Appended}
 use Rattle.adding.proofs.AppendLaws.{table-size, clause-count}
-use Rattle.staged_node.specs.contracts.Chains.{chains, chainClauses, withClauses, ChainsBefore, ChainTable}
+use Rattle.staged_node.specs.contracts.Chains.{chains, chainClauses, ChainsBefore, ChainTable}
 
 -- ---- the chaining clauses among clauses
 

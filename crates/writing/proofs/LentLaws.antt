@@ -67,3 +67,17 @@ taken tb short = go (ltb (length tb) 4096) refl short (isValid (take 4096 tb)) r
     go false e true v w r = absurd (omega arith)
     go false e false true w r = record { long = ltb-false (length tb) 4096 e; room = refl; valid = w }
     go false e false false w r = absurd (omega arith)
+
+-- ---- buffers that are too short
+
+pub short-answer : (a w : ℕ) → a < 1024 → true ≡ (ltb a 1024 || ltb w 65536)
+short-answer a w l = rw (lt-ltb a 1024 l)
+
+pub long-answer : (a w : ℕ) → 1024 ≤ a → ltb w 65536 ≡ (ltb a 1024 || ltb w 65536)
+long-answer a w l = rw (le-ltb a 1024 l)
+
+pub short-rules : (r a w : ℕ) → r < 16384 → true ≡ (ltb r 16384 || ltb a 1024 || ltb w 65536)
+short-rules r a w l = rw (lt-ltb r 16384 l)
+
+pub long-rules : (r a w : ℕ) → 16384 ≤ r → (ltb a 1024 || ltb w 65536) ≡ (ltb r 16384 || ltb a 1024 || ltb w 65536)
+long-rules r a w l = rw (le-ltb r 16384 l)

@@ -7,8 +7,8 @@ use lib.ListN.{length, getD}
 use Rattle.lists.specs.Tabulate.{tabulate}
 use Rattle.problem.specs.Problem.{Clause, Problem}
 use Rattle.problem.specs.Layout.{problemIn}
+use Rattle.problem.specs.Extended.{withClauses}
 use Rattle.ground.specs.Instance.{clauseOf}
-use Rattle.parting.specs.Parts.{withClauses}
 use Rattle.parting.specs.contracts.Labels.{leadAt, labelsIn}
 
 -- whether clause k is of part x

@@ -7,6 +7,7 @@ use lib.Dec.{ltb}
 use lib.ListN.{length, take}
 use Rattle.problem.specs.Problem.{Clause, Problem}
 use Rattle.problem.specs.Layout.{layout, problemIn}
+use Rattle.problem.specs.Extended.{withClauses}
 
 -- a clause with fewer than two alternatives
 abbrev pub chains : Clause → Bool
@@ -15,9 +16,6 @@ chains k = ltb (length (k .alts)) 2
 unfoldable pub chainClauses : List Clause → List Clause
 chainClauses [] = []
 chainClauses (k ∷ ks) = cond (chains k) (k ∷ chainClauses ks) (chainClauses ks)
-
-abbrev pub withClauses : Problem → List Clause → Problem
-withClauses q ks = record { constants = q .constants; limit = q .limit; arities = q .arities; clauses = ks }
 
 -- the problem of the chaining clauses
 abbrev pub chainPart : Problem → Problem

@@ -9,9 +9,9 @@ use borrow.Author.Tests.{not-true, not-false}
 use lib.ListN.{length, take, drop, length-drop}
 use lib.Seq.{length-take-le}
 use Rattle.problem.specs.Layout.{layout, problemIn}
+use Rattle.problem.specs.Extended.{withClauses}
 use Rattle.ground.specs.Instance.{clauseOf}
 use Rattle.ground.proofs.AtomLaws.{table-size, clause-room}
-use Rattle.parting.specs.Parts.{withClauses}
 use Rattle.parting.specs.contracts.Gathered.{taken}
 use Rattle.parting.proofs.GatherLaws.{add-room, added-none, added, record-at}
 use Rattle.parting.proofs.part.add.Statement.{statement}

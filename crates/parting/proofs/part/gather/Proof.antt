@@ -6,9 +6,9 @@ use native.Mathlib.Omega.{arith}
 use borrow.Author.Needs.{needs}
 use lib.ListN.{length, getD, length-replicate}
 use Rattle.problem.specs.Layout.{layout, problemIn}
+use Rattle.problem.specs.Extended.{withClauses}
 use Rattle.ground.proofs.AtomLaws.{table-size}
 use Rattle.ground.proofs.Turns.{clauses-byte, clause-listed}
-use Rattle.parting.specs.Parts.{withClauses}
 use Rattle.parting.specs.contracts.Gathered.{gatheredUpto}
 use Rattle.parting.proofs.GatherLaws.{own-lawful, own-same, next-fits, added-next, gathered-none, own-size}
 use Rattle.parting.proofs.part.gather.Statement.{statement}

@@ -8,8 +8,8 @@ use borrow.Author.Tests.{not-true, not-false}
 use lib.ListN.{length, getD}
 use Rattle.problem.specs.Layout.{problemIn}
 use Rattle.ground.specs.Instance.{clauseOf}
-use Rattle.ground.specs.contracts.Matching.{fullBox, rank, volume}
-use Rattle.ground.specs.contracts.Row.{Boxed, RowFirst, RowNext}
+use Rattle.kernel.specs.contracts.Matching.{fullBox, rank, volume}
+use Rattle.kernel.specs.contracts.Row.{Boxed, RowFirst, RowNext}
 use Rattle.ground.proofs.AtomLaws.{alts-count}
 use Rattle.ground.proofs.Turns.{ClauseKnown, clause-known, clause-listed}
 use Rattle.relevancy_rule.specs.contracts.Instances.{clauseBox}

@@ -8,7 +8,7 @@ use lib.ListN.{length, getD}
 use Rattle.problem.specs.Problem.{AtomFits}
 use Rattle.problem.specs.Layout.{atomIn, aritiesIn}
 use Rattle.ground.specs.contracts.Heading.{Headed}
-use Rattle.ground.specs.contracts.Row.{StepsBy}
+use Rattle.kernel.specs.contracts.Row.{StepsBy}
 use Rattle.ground.specs.contracts.Sides.{slotAt, countOn}
 use Rattle.ground.proofs.AtomLaws.{lawful-headed}
 use Rattle.relevancy_rule.specs.contracts.Choose.{bare}

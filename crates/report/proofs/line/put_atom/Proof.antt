@@ -7,7 +7,7 @@ use borrow.Author.Needs.{needs}
 use lib.ListN.{length, take, getD}
 use Rattle.problem.specs.Digit.{hexLine}
 use Rattle.writing.proofs.WriteLaws.{put-as, put-most}
-use Rattle.ground.proofs.MatchLaws.{PredicateKnown}
+use Rattle.kernel.proofs.MatchLaws.{PredicateKnown}
 use Rattle.report.proofs.ReportLaws.{decoded-known, frame-size, atom-frame}
 use Rattle.report.proofs.line.put_atom.Statement.{statement}
 use Rattle.report.proofs.line.put_atom.Tie as tie

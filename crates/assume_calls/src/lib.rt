@@ -1,0 +1,3 @@
+// Fitting a lent table under assumptions, by either engine. Buffers may have any length.
+pub mod by_magic;
+pub mod by_relevancy;

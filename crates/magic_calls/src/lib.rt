@@ -1,0 +1,2 @@
+// Fitting a lent table by the magic engine: a first run, with a session or without, and going on with one. Buffers may have any length.
+pub mod fit;
