@@ -1,16 +1,16 @@
 // Appending a clause's record to a table. No other clause is looked at but the last.
 ghost use Rattle.std.specs.Prelude.{◌≡◌, ◌<◌, length, get_or};
 ghost use Rattle.problem.specs.Problem.{weights};
-ghost use Rattle.problem.specs.Layout.{problemIn};
+ghost use Rattle.problem.specs.Layout.{problem_in};
 ghost use Rattle.problem.specs.Table.{Lawful};
-ghost use Rattle.adding.specs.contracts.Appended.{Appended};
+ghost use Rattle.adding.specs.terms.Appended.{Appended};
 
 use lists::pair;
 
 // What the clauses of a table weigh: what the record of the last one says of those before it, and its own weight.
 pub fn weight_of(table: &[u8]) -> usize
     requires { Lawful table.now }
-    ensures { result ≡ weights (problemIn table.now).constants (problemIn table.now).clauses }
+    ensures { result ≡ weights (problem_in table.now).constants (problem_in table.now).clauses }
 {
     let count = table[2];
     if count == 0 {

@@ -5,111 +5,111 @@ use mathlib.Core.Logic.{◌⊎◌, inl, inr}
 use mathlib.Core.Path.{◌≡◌, sym, ap, ap₂, ◌∙◌}
 use lib.ListN.{length, take, drop}
 use Rattle.search.specs.Ground.{Found}
-use Rattle.search.specs.Relevancy.{findR}
+use Rattle.search.specs.Relevancy.{find_r}
 use Rattle.search.specs.Machine.{outcome}
-use Rattle.search.specs.Session.{firstSession}
+use Rattle.search.specs.Session.{first_session}
 use Rattle.search.proofs.Theorems.{theorems as walks}
-use Rattle.problem.specs.Problem.{Problem, Fits, limitOf}
+use Rattle.problem.specs.Problem.{Problem, Fits, limit_of}
 use Rattle.problem.proofs.Theorems.{theorems as tables}
-use Rattle.ground.specs.Instance.{Instance, groundOf}
-use Rattle.ground.specs.Names.{instanceKey}
+use Rattle.ground.specs.Instance.{Instance, ground_of}
+use Rattle.ground.specs.Names.{instance_key}
 use Rattle.ground.specs.Walks.{magic}
-use Rattle.judging.specs.Demand2.{groundLent, limitLent}
-use Rattle.rewriting.specs.RulesLayout.{rulesLayout}
-use Rattle.rewriting.specs.Facts.{findIn}
-use Rattle.rewriting.specs.Rewrite.{rulesOver}
-use Rattle.rewriting.proofs.RegroupLaws.{find-by}
+use Rattle.judging.specs.Demand2.{ground_lent, limit_lent}
+use Rattle.rewriting.specs.RulesLayout.{rules_layout}
+use Rattle.rewriting.specs.Facts.{find_in}
+use Rattle.rewriting.specs.Rewrite.{rules_over}
+use Rattle.rewriting.proofs.RegroupLaws.{find_by_lem}
 use Rattle.magic.specs.Claims.{MagicTaken}
-use Rattle.magic.specs.Engine.{magicRules}
+use Rattle.magic.specs.Engine.{magic_rules}
 use Rattle.magic.proofs.Theorems.{theorems as magics}
-use Rattle.assuming.specs.Assume.{assuming, assumedTable, factsRefusal, Runs, runs}
-use Rattle.assuming.specs.Engines.{relevancyRuns, magicRuns, rulesLeft}
-use Rattle.assuming.specs.Claims.{problemLent, Assumable}
-use Rattle.assuming.proofs.Theorems.{facts-or, fits, longer-fits, longer-whole, longer-long, longer-valid, longer-problem, relevancy-by, relevancy-made, magic-by, magic-made}
+use Rattle.assuming.specs.Assume.{assuming, assumed_table, facts_refusal, Runs, runs}
+use Rattle.assuming.specs.Engines.{relevancy_runs, magic_runs, rules_left}
+use Rattle.assuming.specs.Claims.{problem_lent, Assumable}
+use Rattle.assuming.proofs.Theorems.{facts_or, fits, longer_fits, longer_whole, longer_long, longer-Valid, longer_problem, relevancy_by, relevancy_made, magic_by, magic_made}
 use Rattle.agreement.specs.Claims.{BothTaken}
 use Rattle.agreement.specs.Assuming.{AlikeRuns, Theorems}
-use Rattle.agreement.proofs.Theorems.{outcomes, demand-3}
+use Rattle.agreement.proofs.Theorems.{outcomes, demand_3}
 
 -- by the rules of a problem a walk has the outcome of the relevancy walk
-alike : (q : Problem) → Fits q → (rest : List ℕ) (limit : ℕ) → outcome (findIn (rulesLayout q ++ rest)) limit ≡ outcome (findR (groundOf q)) limit
+alike : (q : Problem) → Fits q → (rest : List ℕ) (limit : ℕ) → outcome (find_in (rules_layout q ++ rest)) limit ≡ outcome (find_r (ground_of q)) limit
 unfolding magic
-alike q f rest limit = ap (λ (g : List ℕ → Found Instance). outcome g limit) (find-by q f rest) ∙ (walks.one-trail instanceKey (groundOf q) limit).outcomes
+alike q f rest limit = ap (λ (g : List ℕ → Found Instance). outcome g limit) (find_by_lem q f rest) ∙ (walks.one_trail instance_key (ground_of q) limit).outcomes
 
 -- the rules that a first run leaves
-first-rules : (tb rules answer work : List ℕ) → MagicTaken tb rules answer work → rulesOver (take 4096 tb) (take 16384 rules) ++ drop 16384 rules ≡ magicRules tb rules answer work
-first-rules tb rules answer work t = let find = findR (groundLent tb) in magics.rules-left tb rules answer work t (outcome find 0) (firstSession find 0)
+first_rules : (tb rules answer work : List ℕ) → MagicTaken tb rules answer work → rules_over (take 4096 tb) (take 16384 rules) ++ drop 16384 rules ≡ magic_rules tb rules answer work
+first_rules tb rules answer work t = let find = find_r (ground_lent tb) in magics.rules_left_when_told tb rules answer work t (outcome find 0) (first_session find 0)
 
 module _ (tb facts rules answer work₁ work₂ : List ℕ) (taken : BothTaken tb rules answer work₁ work₂) where
   abbrev q : Problem
-  q = problemLent tb
+  q = problem_lent tb
 
   abbrev longer : List ℕ
-  longer = assumedTable (take 4096 tb) facts
+  longer = assumed_table (take 4096 tb) facts
 
   abbrev R : Runs
-  R = relevancyRuns tb facts answer work₁
+  R = relevancy_runs tb facts answer work₁
 
   abbrev S : Runs
-  S = magicRuns tb facts rules answer work₂
+  S = magic_runs tb facts rules answer work₂
 
-  module _ (asks : Assumable (problemLent tb) facts) where
+  module _ (asks : Assumable (problem_lent tb) facts) where
     abbrev whole : Fits (assuming q facts)
-    whole = longer-fits tb facts taken.by-relevancy.table-long taken.by-relevancy.valid asks
+    whole = longer_fits tb facts taken.by_relevancy.table_long taken.by_relevancy.valid asks
 
-    same-problem : problemLent longer ≡ assuming q facts
-    same-problem = longer-problem tb facts taken.by-relevancy.table-long taken.by-relevancy.valid asks
+    same_problem : problem_lent longer ≡ assuming q facts
+    same_problem = longer_problem tb facts taken.by_relevancy.table_long taken.by_relevancy.valid asks
 
     same_runs : S ≡ R
     same_runs =
-        magic-made tb facts rules answer work₂ taken.by-magic asks
+        magic_made tb facts rules answer work₂ taken.by_magic asks
         ∙ ap₂ runs
-        (alike q (fits tb facts taken.by-relevancy.table-long taken.by-relevancy.valid asks) _ (limitOf q.limit))
-        (two ∙ alike (assuming q facts) whole _ (limitOf q.limit))
-        ∙ sym (relevancy-made tb facts answer work₁ taken.by-relevancy asks)
+        (alike q (fits tb facts taken.by_relevancy.table_long taken.by_relevancy.valid asks) _ (limit_of q.limit))
+        (two ∙ alike (assuming q facts) whole _ (limit_of q.limit))
+        ∙ sym (relevancy_made tb facts answer work₁ taken.by_relevancy asks)
       where
-        two : outcome (findIn (rulesOver longer (take 16384 rules))) (limitOf q.limit)
-            ≡ outcome (findIn (rulesLayout (assuming q facts) ++ drop (length (rulesLayout (assuming q facts))) (take 16384 rules))) (limitOf q.limit)
-        two = ap (λ (x : Problem). outcome (findIn (rulesLayout x ++ drop (length (rulesLayout x)) (take 16384 rules))) (limitOf q.limit)) (tables.problem-back (assuming q facts) whole)
+        two : outcome (find_in (rules_over longer (take 16384 rules))) (limit_of q.limit)
+            ≡ outcome (find_in (rules_layout (assuming q facts) ++ drop (length (rules_layout (assuming q facts))) (take 16384 rules))) (limit_of q.limit)
+        two = ap (λ (x : Problem). outcome (find_in (rules_layout x ++ drop (length (rules_layout x)) (take 16384 rules))) (limit_of q.limit)) (tables.problem_back (assuming q facts) whole)
 
     both : BothTaken longer rules answer work₁ work₂
     both =
-        let t = taken.by-relevancy in
-        let m = taken.by-magic in
-        let long = longer-long tb facts t.table-long t.valid asks in
-        let valid = longer-valid tb facts t.table-long t.valid asks in
+        let t = taken.by_relevancy in
+        let m = taken.by_magic in
+        let long = longer_long tb facts t.table_long t.valid asks in
+        let valid = longer-Valid tb facts t.table_long t.valid asks in
         record {
-          by-relevancy = record { table-long = long; answer-long = t.answer-long; work-long = t.work-long; valid = valid };
-          by-magic = record { table-long = long; rules-long = m.rules-long; answer-long = m.answer-long; work-long = m.work-long; valid = valid };
+          by_relevancy = record { table_long = long; answer_long = t.answer_long; work_long = t.work_long; valid = valid };
+          by_magic = record { table_long = long; rules_long = m.rules_long; answer_long = m.answer_long; work_long = m.work_long; valid = valid };
         }
 
-    made : R ≡ runs (outcome (findR (groundLent tb)) (limitLent tb)) (outcome (findR (groundLent longer)) (limitLent longer))
+    made : R ≡ runs (outcome (find_r (ground_lent tb)) (limit_lent tb)) (outcome (find_r (ground_lent longer)) (limit_lent longer))
     made =
-        relevancy-made tb facts answer work₁ taken.by-relevancy asks
-        ∙ ap (λ (x : Problem). runs (outcome (findR (groundLent tb)) (limitLent tb)) (outcome (findR (groundOf x)) (limitOf x.limit))) (sym same-problem)
+        relevancy_made tb facts answer work₁ taken.by_relevancy asks
+        ∙ ap (λ (x : Problem). runs (outcome (find_r (ground_lent tb)) (limit_lent tb)) (outcome (find_r (ground_of x)) (limit_of x.limit))) (sym same_problem)
 
     alike_runs : AlikeRuns tb facts rules answer work₁ work₂ longer
     alike_runs =
-        let own = longer-whole tb facts taken.by-relevancy.table-long taken.by-relevancy.valid asks in
+        let own = longer_whole tb facts taken.by_relevancy.table_long taken.by_relevancy.valid asks in
         record {
-          first = demand-3 tb rules answer work₁ work₂ taken;
-          second = demand-3 longer rules answer work₁ work₂ both;
+          first = demand_3 tb rules answer work₁ work₂ taken;
+          second = demand_3 longer rules answer work₁ work₂ both;
           made = made;
-          magic-made = same_runs ∙ made ∙ sym (ap₂ runs (outcomes tb rules answer work₁ work₂ taken) (outcomes longer rules answer work₁ work₂ both));
-          rules-once = λ o e. ap (λ (r : Runs). rulesLeft r tb facts rules) e ∙ first-rules tb rules answer work₂ taken.by-magic;
-          rules-twice =
+          magic_made = same_runs ∙ made ∙ sym (ap₂ runs (outcomes tb rules answer work₁ work₂ taken) (outcomes longer rules answer work₁ work₂ both));
+          rules_once = λ o e. ap (λ (r : Runs). rules_left r tb facts rules) e ∙ first_rules tb rules answer work₂ taken.by_magic;
+          rules_twice =
               λ o p e.
-              ap (λ (r : Runs). rulesLeft r tb facts rules) e
-              ∙ ap (λ (t : List ℕ). rulesOver t (take 16384 rules) ++ drop 16384 rules) (sym own)
-              ∙ first-rules longer rules answer work₂ both.by-magic;
+              ap (λ (r : Runs). rules_left r tb facts rules) e
+              ∙ ap (λ (t : List ℕ). rules_over t (take 16384 rules) ++ drop 16384 rules) (sym own)
+              ∙ first_rules longer rules answer work₂ both.by_magic;
         }
 
   calls : S ≡ R
-  calls = go (facts-or (problemLent tb) facts)
+  calls = go (facts_or (problem_lent tb) facts)
     where
-      go : Assumable (problemLent tb) facts ⊎ (factsRefusal (problemLent tb) facts ≡ 5) ⊎ (factsRefusal (problemLent tb) facts ≡ 45) → S ≡ R
+      go : Assumable (problem_lent tb) facts ⊎ (facts_refusal (problem_lent tb) facts ≡ 5) ⊎ (facts_refusal (problem_lent tb) facts ≡ 45) → S ≡ R
       go (inl asks) = same_runs asks
-      go (inr (inl e)) = magic-by tb facts rules answer work₂ taken.by-magic 5 e ∙ sym (relevancy-by tb facts answer work₁ taken.by-relevancy 5 e)
-      go (inr (inr e)) = magic-by tb facts rules answer work₂ taken.by-magic 45 e ∙ sym (relevancy-by tb facts answer work₁ taken.by-relevancy 45 e)
+      go (inr (inl e)) = magic_by tb facts rules answer work₂ taken.by_magic 5 e ∙ sym (relevancy_by tb facts answer work₁ taken.by_relevancy 5 e)
+      go (inr (inr e)) = magic_by tb facts rules answer work₂ taken.by_magic 45 e ∙ sym (relevancy_by tb facts answer work₁ taken.by_relevancy 45 e)
 
 pub theorems : Theorems
-theorems = record { calls = calls; run-by-run = alike_runs }
+theorems = record { calls = calls; run_by_run = alike_runs }

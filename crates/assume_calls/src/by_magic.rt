@@ -1,12 +1,12 @@
 // Assumptions by the magic engine.
 ghost use Rattle.std.specs.Prelude.{◌≡◌, length, replicate};
 ghost use Rattle.problem.specs.Table.{Lawful};
-ghost use Rattle.ground.specs.Verdict.{verdictOf};
-ghost use Rattle.rewriting.specs.Rewrite.{rulesOver};
-ghost use Rattle.magic.specs.Engine.{magicOutcome};
-ghost use Rattle.assuming.specs.Assume.{assumedOf, firstLeft, secondLeft, workLeft};
-ghost use Rattle.assuming.specs.Engines.{magicRuns, rulesLeft};
-ghost use Rattle.assuming.specs.contracts.Made.{Addable, MagicMade};
+ghost use Rattle.ground.specs.Verdict.{verdict_of};
+ghost use Rattle.rewriting.specs.Rewrite.{rules_over};
+ghost use Rattle.magic.specs.Engine.{magic_outcome};
+ghost use Rattle.assuming.specs.Assume.{assumed_of, first_left, second_left, work_left};
+ghost use Rattle.assuming.specs.Engines.{magic_runs, rules_left};
+ghost use Rattle.assuming.specs.terms.Made.{Addable, MagicMade};
 
 use assuming::assume::{Assumed, Counted, is_refuted, once, twice};
 use assuming::check::refused;
@@ -19,7 +19,7 @@ use writing::lent::any_too_small;
 fn verdict_of(table: &[u8], rules: &mut [u8], work: &mut [u8]) -> Verdict
     requires lawful { Lawful table.now }
     requires rules_len { (length rules.old ≡ 16384) × (length work.old ≡ 65536) }
-    ensures { (result ≡ verdictOf (magicOutcome table.now rules.old)) × (rules.new ≡ rulesOver table.now rules.old) × (work.new ≡ replicate 65536 0) }
+    ensures { (result ≡ verdict_of (magic_outcome table.now rules.old)) × (rules.new ≡ rules_over table.now rules.old) × (work.new ≡ replicate 65536 0) }
 {
     let mut model = [0u8; 1024];
     let reply = run(table, rules, &mut model, work);
@@ -54,7 +54,7 @@ pub fn assume_magic(
     answer: &[u8],
     work: &mut [u8],
 ) -> Assumed
-    ensures { (result ≡ assumedOf (magicRuns table.now facts.now rules.old answer.now work.old)) × (first.new ≡ firstLeft (magicRuns table.now facts.now rules.old answer.now work.old) first.old) × (second.new ≡ secondLeft (magicRuns table.now facts.now rules.old answer.now work.old) second.old) × (rules.new ≡ rulesLeft (magicRuns table.now facts.now rules.old answer.now work.old) table.now facts.now rules.old) × (work.new ≡ workLeft (magicRuns table.now facts.now rules.old answer.now work.old) work.old) }
+    ensures { (result ≡ assumed_of (magic_runs table.now facts.now rules.old answer.now work.old)) × (first.new ≡ first_left (magic_runs table.now facts.now rules.old answer.now work.old) first.old) × (second.new ≡ second_left (magic_runs table.now facts.now rules.old answer.now work.old) second.old) × (rules.new ≡ rules_left (magic_runs table.now facts.now rules.old answer.now work.old) table.now facts.now rules.old) × (work.new ≡ work_left (magic_runs table.now facts.now rules.old answer.now work.old) work.old) }
 {
     let e = refused(
         table,

@@ -1,11 +1,11 @@
 // Assumptions by the relevancy engine.
 ghost use Rattle.std.specs.Prelude.{◌≡◌, length, replicate};
 ghost use Rattle.problem.specs.Table.{Lawful};
-ghost use Rattle.ground.specs.Verdict.{verdictOf};
-ghost use Rattle.relevancy.specs.Engine.{outcomeIn};
-ghost use Rattle.assuming.specs.Assume.{assumedTable, runs, assumedOf, firstLeft, secondLeft, workLeft};
-ghost use Rattle.assuming.specs.Engines.{relevancyRuns};
-ghost use Rattle.assuming.specs.contracts.Made.{Addable, Made};
+ghost use Rattle.ground.specs.Verdict.{verdict_of};
+ghost use Rattle.relevancy.specs.Engine.{outcome_in};
+ghost use Rattle.assuming.specs.Assume.{assumed_table, runs, assumed_of, first_left, second_left, work_left};
+ghost use Rattle.assuming.specs.Engines.{relevancy_runs};
+ghost use Rattle.assuming.specs.terms.Made.{Addable, Made};
 
 use assuming::assume::{Assumed, Counted, is_refuted, once, twice};
 use assuming::check::refused;
@@ -18,7 +18,7 @@ use writing::lent::too_small;
 fn verdict_of(table: &[u8], work: &mut [u8]) -> Verdict
     requires lawful { Lawful table.now }
     requires work_len { length work.old ≡ 65536 }
-    ensures { (result ≡ verdictOf (outcomeIn table.now)) × (work.new ≡ replicate 65536 0) }
+    ensures { (result ≡ verdict_of (outcome_in table.now)) × (work.new ≡ replicate 65536 0) }
 {
     let mut model = [0u8; 1024];
     let reply = run(table, &mut model, work);
@@ -30,7 +30,7 @@ fn verdict_of(table: &[u8], work: &mut [u8]) -> Verdict
 fn run_both(table: &[u8], facts: &[u32], work: &mut [u8]) -> Counted
     requires lawful { Lawful table.now }
     requires addable { Addable table.now facts.now × (length work.old ≡ 65536) }
-    ensures { Made (runs (outcomeIn table.now) (outcomeIn (assumedTable table.now facts.now))) result × (work.new ≡ replicate 65536 0) }
+    ensures { Made (runs (outcome_in table.now) (outcome_in (assumed_table table.now facts.now))) result × (work.new ≡ replicate 65536 0) }
 {
     let alone = verdict_of(table, work);
     if is_refuted(alone) {
@@ -52,7 +52,7 @@ pub fn assume_relevancy(
     answer: &[u8],
     work: &mut [u8],
 ) -> Assumed
-    ensures { (result ≡ assumedOf (relevancyRuns table.now facts.now answer.now work.old)) × (first.new ≡ firstLeft (relevancyRuns table.now facts.now answer.now work.old) first.old) × (second.new ≡ secondLeft (relevancyRuns table.now facts.now answer.now work.old) second.old) × (work.new ≡ workLeft (relevancyRuns table.now facts.now answer.now work.old) work.old) }
+    ensures { (result ≡ assumed_of (relevancy_runs table.now facts.now answer.now work.old)) × (first.new ≡ first_left (relevancy_runs table.now facts.now answer.now work.old) first.old) × (second.new ≡ second_left (relevancy_runs table.now facts.now answer.now work.old) second.old) × (work.new ≡ work_left (relevancy_runs table.now facts.now answer.now work.old) work.old) }
 {
     let e = refused(table, facts, too_small(answer.len(), work.len()));
     if 0 < e {

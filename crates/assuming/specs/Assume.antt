@@ -1,36 +1,36 @@
 -- Assumptions (02: U11, open facts): ground atoms that may be added to a problem, each as a clause without conditions. A call runs the problem by itself, then with
 -- all of them; what it says and leaves is fixed by the outcomes of the runs that it makes.
 use Rattle.std.specs.Prelude.{ℕ, ◌+◌, Bool, true, false, cond, not, ◌&&◌, List, [], ◌∷◌, ◌++◌, map, ltb, leb, length, take, drop, get_or, replicate}
-use Rattle.lists.specs.Key.{natKey}
+use Rattle.lists.specs.Key.{nat_key}
 use Rattle.lists.specs.Member.{has}
 use Rattle.search.specs.Machine.{Outcome, Satisfied, Refuted, Exhausted}
-use Rattle.problem.specs.Numbers.{Numbers, refusedAs, answered}
-use Rattle.problem.specs.Problem.{Atom, Clause, Problem, atomCount}
-use Rattle.problem.specs.Layout.{layout, problemIn}
-use Rattle.problem.specs.Table.{isValid}
-use Rattle.ground.specs.Report.{atomsInOrder}
-use Rattle.ground.specs.Verdict.{verdictOf, verdictNumbers}
+use Rattle.problem.specs.Numbers.{Numbers, refused_as, answered}
+use Rattle.problem.specs.Problem.{Atom, Clause, Problem, atom_count}
+use Rattle.problem.specs.Layout.{layout, problem_in}
+use Rattle.problem.specs.Table.{is_valid}
+use Rattle.ground.specs.Report.{atoms_in_order}
+use Rattle.ground.specs.Verdict.{verdict_of, verdict_numbers}
 use Rattle.assuming.specs.declared.assume.Assumed.{Assumed}
 use Rattle.assuming.specs.declared.assume.Assumed.TheVariants as assumed
 
 -- ---- facts added to a problem
 
 -- an atom as it is printed, its predicate and then its arguments
-abbrev pub atomOf : List ℕ → Atom
-atomOf [] = record { pred = 0; args = [] }
-atomOf (p ∷ args) = record { pred = p; args = args }
+abbrev pub atom_of : List ℕ → Atom
+atom_of [] = record { pred = 0; args = [] }
+atom_of (p ∷ args) = record { pred = p; args = args }
 
 -- "clauses without conditions": the one whose only alternative is the ground atom with this number
-abbrev pub factClause : Problem → ℕ → Clause
-factClause q a = record { vars = 0; conds = []; alts = atomOf (get_or (atomsInOrder q) a []) ∷ [] }
+abbrev pub fact_clause : Problem → ℕ → Clause
+fact_clause q a = record { vars = 0; conds = []; alts = atom_of (get_or (atoms_in_order q) a []) ∷ [] }
 
 -- a problem with facts after its clauses, in this order
 abbrev pub assuming : Problem → List ℕ → Problem
-assuming q facts = record { constants = q.constants; limit = q.limit; arities = q.arities; clauses = q.clauses ++ map (factClause q) facts }
+assuming q facts = record { constants = q.constants; limit = q.limit; arities = q.arities; clauses = q.clauses ++ map (fact_clause q) facts }
 
 -- the table of it
-abbrev pub assumedTable : List ℕ → List ℕ → List ℕ
-assumedTable tb facts = layout (assuming (problemIn tb) facts)
+abbrev pub assumed_table : List ℕ → List ℕ → List ℕ
+assumed_table tb facts = layout (assuming (problem_in tb) facts)
 
 -- "which open facts to add": those whose bit is true
 abbrev pub picked : List Bool → List ℕ → List ℕ
@@ -42,16 +42,16 @@ picked (false ∷ bits) (a ∷ facts) = picked bits facts
 -- ---- what is refused
 
 -- numbers of atoms, none of them repeated
-abbrev pub areAtoms : ℕ → List ℕ → Bool
-areAtoms n [] = true
-areAtoms n (a ∷ facts) = ltb a n && not (has natKey facts a) && areAtoms n facts
+abbrev pub are_atoms : ℕ → List ℕ → Bool
+are_atoms n [] = true
+are_atoms n (a ∷ facts) = ltb a n && not (has nat_key facts a) && are_atoms n facts
 
 -- "5 if clauses and open facts together pass 64, then 45 for more than 16 open facts, for an atom number of A or more, or for one repeated"; 0 where nothing is refused
-unfoldable pub factsRefusal : Problem → List ℕ → ℕ
-factsRefusal q facts =
+unfoldable pub facts_refusal : Problem → List ℕ → ℕ
+facts_refusal q facts =
     cond (ltb 64 (length q.clauses + length facts))
     5
-    (cond (leb (length facts) 16 && areAtoms (atomCount q.constants q.arities) facts) 0 45)
+    (cond (leb (length facts) 16 && are_atoms (atom_count q.constants q.arities) facts) 0 45)
 
 -- ---- the runs of a call
 
@@ -67,55 +67,55 @@ runs (Refuted n) all = once (Refuted n)
 runs (Satisfied n bits) all = twice (Satisfied n bits) all
 runs (Exhausted n) all = twice (Exhausted n) all
 
-abbrev pub unlessRefused : ℕ → Runs → Runs
-unlessRefused e r = cond (ltb 0 e) (declined e) r
+abbrev pub unless_refused : ℕ → Runs → Runs
+unless_refused e r = cond (ltb 0 e) (declined e) r
 
 -- 11, then 31, then 5 and 45
 abbrev pub screened : Bool → List ℕ → List ℕ → Runs → Runs
-screened short tb facts r = cond short (declined 11) (cond (isValid (take 4096 tb)) (unlessRefused (factsRefusal (problemIn (take 4096 tb)) facts) r) (declined 31))
+screened short tb facts r = cond short (declined 11) (cond (is_valid (take 4096 tb)) (unless_refused (facts_refusal (problem_in (take 4096 tb)) facts) r) (declined 31))
 
 -- ---- what it says
 
 -- "spent in a run that is made gives spent"
-abbrev pub assumedOfTwo : Outcome → Outcome → Assumed
-assumedOfTwo (Satisfied n bits) (Satisfied m more) = assumed.Never
-assumedOfTwo (Satisfied n bits) (Refuted m) = assumed.Sometimes
-assumedOfTwo (Satisfied n bits) (Exhausted m) = assumed.Exhausted
-assumedOfTwo (Exhausted n) all = assumed.Exhausted
-assumedOfTwo (Refuted n) all = assumed.Always
+abbrev pub assumed_of_two : Outcome → Outcome → Assumed
+assumed_of_two (Satisfied n bits) (Satisfied m more) = assumed.Never
+assumed_of_two (Satisfied n bits) (Refuted m) = assumed.Sometimes
+assumed_of_two (Satisfied n bits) (Exhausted m) = assumed.Exhausted
+assumed_of_two (Exhausted n) all = assumed.Exhausted
+assumed_of_two (Refuted n) all = assumed.Always
 
-abbrev pub assumedOf : Runs → Assumed
-assumedOf (declined e) = assumed.Refused e
-assumedOf (once alone) = assumed.Always
-assumedOf (twice alone all) = assumedOfTwo alone all
+abbrev pub assumed_of : Runs → Assumed
+assumed_of (declined e) = assumed.Refused e
+assumed_of (once alone) = assumed.Always
+assumed_of (twice alone all) = assumed_of_two alone all
 
 -- 0 "none always", 1 "none never", 2 spent, 3 "none with some"
-abbrev pub assumedNumbers : Assumed → Numbers
-assumedNumbers (assumed.Refused e) = refusedAs e
-assumedNumbers assumed.Always = answered 0 0
-assumedNumbers assumed.Never = answered 1 0
-assumedNumbers assumed.Exhausted = answered 2 0
-assumedNumbers assumed.Sometimes = answered 3 0
+abbrev pub assumed_numbers : Assumed → Numbers
+assumed_numbers (assumed.Refused e) = refused_as e
+assumed_numbers assumed.Always = answered 0 0
+assumed_numbers assumed.Never = answered 1 0
+assumed_numbers assumed.Exhausted = answered 2 0
+assumed_numbers assumed.Sometimes = answered 3 0
 
 -- ---- what it leaves; after a refusal, all is as it was
 
 -- the count that an engine gives with an outcome
 abbrev pub count_of : Outcome → ℕ
-count_of o = (verdictNumbers (verdictOf o)).value
+count_of o = (verdict_numbers (verdict_of o)).value
 
 -- "Each run's count is given, 0 for one not made": the two lent numbers
-abbrev pub firstLeft : Runs → ℕ → ℕ
-firstLeft (declined e) held = held
-firstLeft (once alone) held = count_of alone
-firstLeft (twice alone all) held = count_of alone
+abbrev pub first_left : Runs → ℕ → ℕ
+first_left (declined e) held = held
+first_left (once alone) held = count_of alone
+first_left (twice alone all) held = count_of alone
 
-abbrev pub secondLeft : Runs → ℕ → ℕ
-secondLeft (declined e) held = held
-secondLeft (once alone) held = 0
-secondLeft (twice alone all) held = count_of all
+abbrev pub second_left : Runs → ℕ → ℕ
+second_left (declined e) held = held
+second_left (once alone) held = 0
+second_left (twice alone all) held = count_of all
 
 -- "Work bytes are zero afterwards, up to 65,536."
-abbrev pub workLeft : Runs → List ℕ → List ℕ
-workLeft (declined e) work = work
-workLeft (once alone) work = replicate 65536 0 ++ drop 65536 work
-workLeft (twice alone all) work = replicate 65536 0 ++ drop 65536 work
+abbrev pub work_left : Runs → List ℕ → List ℕ
+work_left (declined e) work = work
+work_left (once alone) work = replicate 65536 0 ++ drop 65536 work
+work_left (twice alone all) work = replicate 65536 0 ++ drop 65536 work

@@ -1,26 +1,26 @@
 -- The runs of a call with assumptions in either engine, for a lent table, and what the magic engine leaves in the rules buffer.
 use Rattle.std.specs.Prelude.{ℕ, List, ◌++◌, take, drop}
-use Rattle.relevancy.specs.Engine.{outcomeIn, tooShort}
-use Rattle.rewriting.specs.Rewrite.{rulesOver}
-use Rattle.magic.specs.Engine.{magicOutcome, magicTooShort}
-use Rattle.assuming.specs.Assume.{assumedTable, Runs, declined, once, twice, runs, screened}
+use Rattle.relevancy.specs.Engine.{outcome_in, too_short}
+use Rattle.rewriting.specs.Rewrite.{rules_over}
+use Rattle.magic.specs.Engine.{magic_outcome, magic_too_short}
+use Rattle.assuming.specs.Assume.{assumed_table, Runs, declined, once, twice, runs, screened}
 
 -- by the relevancy engine, from the table, the facts, the answer and the work lent
-unfoldable pub relevancyRuns : List ℕ → List ℕ → List ℕ → List ℕ → Runs
-relevancyRuns tb facts answer work =
-    screened (tooShort tb answer work) tb facts (runs (outcomeIn (take 4096 tb)) (outcomeIn (assumedTable (take 4096 tb) facts)))
+unfoldable pub relevancy_runs : List ℕ → List ℕ → List ℕ → List ℕ → Runs
+relevancy_runs tb facts answer work =
+    screened (too_short tb answer work) tb facts (runs (outcome_in (take 4096 tb)) (outcome_in (assumed_table (take 4096 tb) facts)))
 
 -- by the magic engine: each run by its own rules, over what the rules buffer was lent with
-unfoldable pub magicRuns : List ℕ → List ℕ → List ℕ → List ℕ → List ℕ → Runs
-magicRuns tb facts rules answer work =
-    screened (magicTooShort tb rules answer work) tb facts
-    (runs (magicOutcome (take 4096 tb) (take 16384 rules)) (magicOutcome (assumedTable (take 4096 tb) facts) (take 16384 rules)))
+unfoldable pub magic_runs : List ℕ → List ℕ → List ℕ → List ℕ → List ℕ → Runs
+magic_runs tb facts rules answer work =
+    screened (magic_too_short tb rules answer work) tb facts
+    (runs (magic_outcome (take 4096 tb) (take 16384 rules)) (magic_outcome (assumed_table (take 4096 tb) facts) (take 16384 rules)))
 
 -- "the rules buffer ends with the last run's rules", and past them with what was lent; a refusal leaves it as it was
-abbrev pub rulesAfter : Runs → List ℕ → List ℕ → List ℕ → List ℕ
-rulesAfter (declined e) own facts rules = rules
-rulesAfter (once alone) own facts rules = rulesOver own rules
-rulesAfter (twice alone all) own facts rules = rulesOver (assumedTable own facts) rules
+abbrev pub rules_after : Runs → List ℕ → List ℕ → List ℕ → List ℕ
+rules_after (declined e) own facts rules = rules
+rules_after (once alone) own facts rules = rules_over own rules
+rules_after (twice alone all) own facts rules = rules_over (assumed_table own facts) rules
 
-abbrev pub rulesLeft : Runs → List ℕ → List ℕ → List ℕ → List ℕ
-rulesLeft r tb facts rules = rulesAfter r (take 4096 tb) facts (take 16384 rules) ++ drop 16384 rules
+abbrev pub rules_left : Runs → List ℕ → List ℕ → List ℕ → List ℕ
+rules_left r tb facts rules = rules_after r (take 4096 tb) facts (take 16384 rules) ++ drop 16384 rules

@@ -1,4 +1,4 @@
 pub mod Assume
 pub mod Engines
-pub mod contracts
+pub mod terms
 pub mod Claims

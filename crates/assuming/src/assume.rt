@@ -1,8 +1,8 @@
 // What a call with assumptions says, by the verdicts of its two runs.
 ghost use Rattle.std.specs.Prelude.{◌≡◌};
-ghost use Rattle.ground.specs.Verdict.{verdictNumbers};
+ghost use Rattle.ground.specs.Verdict.{verdict_numbers};
 ghost use Rattle.assuming.specs.declared.assume.Assumed.TheVariants.{Always};
-ghost use Rattle.assuming.specs.contracts.Made.{isRefuted, saidWithAll, saidBy};
+ghost use Rattle.assuming.specs.terms.Made.{is_refuted, said_with_all, said_by};
 
 use ground::verdict::Verdict;
 
@@ -26,7 +26,7 @@ pub struct Counted {
 
 // The count of a run.
 fn count_of(verdict: Verdict) -> u32
-    ensures { result ≡ (verdictNumbers verdict).value }
+    ensures { result ≡ (verdict_numbers verdict).value }
 {
     match verdict {
         Verdict::Refused(_) => 0,
@@ -38,7 +38,7 @@ fn count_of(verdict: Verdict) -> u32
 
 // Whether a run's verdict is none.
 pub fn is_refuted(verdict: Verdict) -> bool
-    ensures { result ≡ isRefuted verdict }
+    ensures { result ≡ is_refuted verdict }
 {
     match verdict {
         Verdict::Refused(_) => false,
@@ -50,7 +50,7 @@ pub fn is_refuted(verdict: Verdict) -> bool
 
 // What two runs say, where the problem by itself has a model.
 fn said_with_all(all: Verdict) -> Assumed
-    ensures { result ≡ saidWithAll all }
+    ensures { result ≡ said_with_all all }
 {
     match all {
         Verdict::Refused(_) => Assumed::Exhausted,
@@ -62,7 +62,7 @@ fn said_with_all(all: Verdict) -> Assumed
 
 // What two runs say, the first of the problem by itself, the second of it with all facts.
 fn said(alone: Verdict, all: Verdict) -> Assumed
-    ensures { result ≡ saidBy alone all }
+    ensures { result ≡ said_by alone all }
 {
     match alone {
         Verdict::Refused(_) => Assumed::Exhausted,
@@ -74,7 +74,7 @@ fn said(alone: Verdict, all: Verdict) -> Assumed
 
 // A call whose first run is none: the second is not made.
 pub fn once(alone: Verdict) -> Counted
-    ensures { (result.assumed ≡ Always) × (result.first ≡ (verdictNumbers alone).value) × (result.second ≡ 0) }
+    ensures { (result.assumed ≡ Always) × (result.first ≡ (verdict_numbers alone).value) × (result.second ≡ 0) }
 {
     Counted {
         assumed: Assumed::Always,
@@ -85,7 +85,7 @@ pub fn once(alone: Verdict) -> Counted
 
 // Both runs of a call, by their verdicts.
 pub fn twice(alone: Verdict, all: Verdict) -> Counted
-    ensures { (result.assumed ≡ saidBy alone all) × (result.first ≡ (verdictNumbers alone).value) × (result.second ≡ (verdictNumbers all).value) }
+    ensures { (result.assumed ≡ said_by alone all) × (result.first ≡ (verdict_numbers alone).value) × (result.second ≡ (verdict_numbers all).value) }
 {
     let assumed = said(alone, all);
     Counted {

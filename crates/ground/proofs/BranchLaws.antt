@@ -12,54 +12,54 @@ use lib.Dec.{eqb}
 use lib.ListN.{length, take, get_or, set, length-set, length-append}
 use lib.Seq.{length-take-le, take-suc, take-set-le, take-suc-set, get_or-append_seam}
 use types.Run.{OneOf}
-use Rattle.lists.specs.Key.{natKey}
+use Rattle.lists.specs.Key.{nat_key}
 use Rattle.lists.specs.Member.{has, firsts}
 use Rattle.lists.specs.Tabulate.{tabulate}
-use Rattle.lists.proofs.Firsts.{firsts-length, firsts-snoc, firsts-stay}
+use Rattle.lists.proofs.Firsts.{firsts-length, firsts_snoc, firsts_stay}
 use Rattle.lists.proofs.Tabulate.{tabulate-length}
-use Rattle.ground.specs.contracts.Branching.{NextOf}
+use Rattle.ground.specs.terms.Branching.{NextOf}
 use Rattle.ground.specs.declared.branch.NextBranch.{NextBranch}
 use Rattle.ground.specs.declared.branch.NextBranch.TheVariants.{Atom, Nothing}
 use Rattle.ground.specs.contracts.branch.NextBranch.{the_type as branch-type}
 
 -- ---- what the answer says
 
-pub next-atom : (ds : List ℕ) (n : ℕ) (r : NextBranch) (a : ℕ) → r ≡ Atom a → NextOf ds n r → NextOf ds n (Atom a)
-next-atom ds n r a e next = subst (NextOf ds n) e next
+pub next_atom : (ds : List ℕ) (n : ℕ) (r : NextBranch) (a : ℕ) → r ≡ Atom a → NextOf ds n r → NextOf ds n (Atom a)
+next_atom ds n r a e next = subst (NextOf ds n) e next
 
 -- an answer that is an alternative, by its tag alone
-pub next-some : (ds : List ℕ) (n : ℕ) (r : NextBranch) → tag_of branch-type r ≡ 0 → NextOf ds n r → n < length ds
-next-some ds n (Atom a) tag next = next.0
-next-some ds n Nothing tag next = let z : ◌≡◌ {A = ℕ} 1 0 = tag in absurd (omega arith)
+pub next_some : (ds : List ℕ) (n : ℕ) (r : NextBranch) → tag_of branch-type r ≡ 0 → NextOf ds n r → n < length ds
+next_some ds n (Atom a) tag next = next.0
+next_some ds n Nothing tag next = let z : ◌≡◌ {A = ℕ} 1 0 = tag in absurd (omega arith)
 
-pub next-nothing : (ds : List ℕ) (n : ℕ) (r : NextBranch) → OneOf (1 ∷ []) (tag_of branch-type r) → NextOf ds n r → length ds ≤ n
-next-nothing ds n (Atom a) tag next = let z : ◌≡◌ {A = ℕ} 0 1 = tag in absurd (omega arith)
-next-nothing ds n Nothing tag next = next
+pub next_nothing : (ds : List ℕ) (n : ℕ) (r : NextBranch) → OneOf (1 ∷ []) (tag_of branch-type r) → NextOf ds n r → length ds ≤ n
+next_nothing ds n (Atom a) tag next = let z : ◌≡◌ {A = ℕ} 0 1 = tag in absurd (omega arith)
+next_nothing ds n Nothing tag next = next
 
 -- ---- whether a number is among the first ones
 
-has-snoc : (xs : List ℕ) (y a : ℕ) → has natKey (xs ++ (y ∷ [])) a ≡ (has natKey xs a || (eqb y a || false))
-has-snoc [] y a = refl
-has-snoc (x ∷ xs) y a = go (eqb x a) (has-snoc xs y a)
+has_snoc : (xs : List ℕ) (y a : ℕ) → has nat_key (xs ++ (y ∷ [])) a ≡ (has nat_key xs a || (eqb y a || false))
+has_snoc [] y a = refl
+has_snoc (x ∷ xs) y a = go (eqb x a) (has_snoc xs y a)
   where
-    go : (b : Bool) → has natKey (xs ++ (y ∷ [])) a ≡ (has natKey xs a || (eqb y a || false))
-        → (b || has natKey (xs ++ (y ∷ [])) a) ≡ ((b || has natKey xs a) || (eqb y a || false))
+    go : (b : Bool) → has nat_key (xs ++ (y ∷ [])) a ≡ (has nat_key xs a || (eqb y a || false))
+        → (b || has nat_key (xs ++ (y ∷ [])) a) ≡ ((b || has nat_key xs a) || (eqb y a || false))
     go true e = refl
     go false e = e
 
 -- a further one is another number
-pub seen_more : (seen : List ℕ) (a j : ℕ) → j < length seen → has natKey (take j seen) a ≡ false → (get_or seen j 0 ≡ a → ⊥) → has natKey (take (j + 1) seen) a ≡ false
+pub seen_more : (seen : List ℕ) (a j : ℕ) → j < length seen → has nat_key (take j seen) a ≡ false → (get_or seen j 0 ≡ a → ⊥) → has nat_key (take (j + 1) seen) a ≡ false
 seen_more seen a j l none ne =
-    rw (add-one, take-suc seen j 0, has-snoc (take j seen) (get_or seen j 0) a, none, ne_eqb (get_or seen j 0) a ne)
+    rw (add-one, take-suc seen j 0, has_snoc (take j seen) (get_or seen j 0) a, none, ne_eqb (get_or seen j 0) a ne)
 
 -- one of them is this number
-pub seen-there : (seen : List ℕ) (a j n : ℕ) → j < n → n ≤ length seen → get_or seen j 0 ≡ a → has natKey (take n seen) a ≡ true
-seen-there [] a j n l m e = absurd (omega arith)
-seen-there (x ∷ seen) a j zero l m e = absurd (omega arith)
-seen-there (x ∷ seen) a zero (suc n) l m e = rw (eq-eqb x a e)
-seen-there (x ∷ seen) a (suc j) (suc n) l m e = go (eqb x a) (seen-there seen a j n (omega arith) (omega arith) e)
+pub seen_there : (seen : List ℕ) (a j n : ℕ) → j < n → n ≤ length seen → get_or seen j 0 ≡ a → has nat_key (take n seen) a ≡ true
+seen_there [] a j n l m e = absurd (omega arith)
+seen_there (x ∷ seen) a j zero l m e = absurd (omega arith)
+seen_there (x ∷ seen) a zero (suc n) l m e = rw (eq-eqb x a e)
+seen_there (x ∷ seen) a (suc j) (suc n) l m e = go (eqb x a) (seen_there seen a j n (omega arith) (omega arith) e)
   where
-    go : (b : Bool) → has natKey (take n seen) a ≡ true → (b || has natKey (take n seen) a) ≡ true
+    go : (b : Bool) → has nat_key (take n seen) a ≡ true → (b || has nat_key (take n seen) a) ≡ true
     go true h = refl
     go false h = h
 
@@ -74,58 +74,58 @@ pub record SlotsPassed (f : ℕ → ℕ) (n i found : ℕ) (seen : List ℕ) : T
   pub four : length seen ≡ 4
   pub part : found ≤ i
   pub within : found ≤ n
-  pub are : take found seen ≡ firsts natKey (tabulate f i)
+  pub are : take found seen ≡ firsts nat_key (tabulate f i)
 
 module _ (f : ℕ → ℕ) (n : ℕ) where
   pub passed_none : (seen : List ℕ) → length seen ≡ 4 → SlotsPassed f n 0 0 seen
   passed_none seen four = record { four = four; part = omega arith; within = omega arith; are = refl }
 
-  module _ (i found : ℕ) (seen : List ℕ) (few : i < 4) (p : SlotsPassed f n i found seen) (a : ℕ) (a-is : a ≡ f i) (more : ℕ) (more-is : more ≡ cond (has natKey (take found seen) a) 0 1) where
+  module _ (i found : ℕ) (seen : List ℕ) (few : i < 4) (p : SlotsPassed f n i found seen) (a : ℕ) (a_is : a ≡ f i) (more : ℕ) (more_is : more ≡ cond (has nat_key (take found seen) a) 0 1) where
     room : found < length seen
     room = omega (arith, p.part, p.four)
 
-    found-many : length (firsts natKey (tabulate f i)) ≡ found
-    found-many = ap length (sym p.are) ∙ length-take-le found seen (omega (arith, room))
+    found_many : length (firsts nat_key (tabulate f i)) ≡ found
+    found_many = ap length (sym p.are) ∙ length-take-le found seen (omega (arith, room))
 
     -- one slot more
-    slot-more : (b : Bool) → has natKey (take found seen) a ≡ b → take (found + cond b 0 1) (set seen found a) ≡ cond b (take found seen) (take found seen ++ (a ∷ []))
-    slot-more true e = rw add-zero (take-set-le found seen found a (omega arith))
-    slot-more false e = rw add-one (take-suc-set seen found a room)
+    slot_more : (b : Bool) → has nat_key (take found seen) a ≡ b → take (found + cond b 0 1) (set seen found a) ≡ cond b (take found seen) (take found seen ++ (a ∷ []))
+    slot_more true e = rw add-zero (take-set-le found seen found a (omega arith))
+    slot_more false e = rw add-one (take-suc-set seen found a room)
 
-    more-are : take (found + more) (set seen found a) ≡ firsts natKey (tabulate f (suc i))
-    more-are =
-        let put : take (found + more) (set seen found a) ≡ cond (has natKey (take found seen) a) (take found seen) (take found seen ++ (a ∷ [])) =
-        ap (λ (m : ℕ). take (found + m) (set seen found a)) more-is ∙ slot-more (has natKey (take found seen) a) refl in
-        put ∙ rw (p.are, a-is) (sym (firsts-snoc natKey (tabulate f i) (f i)))
+    more_are : take (found + more) (set seen found a) ≡ firsts nat_key (tabulate f (suc i))
+    more_are =
+        let put : take (found + more) (set seen found a) ≡ cond (has nat_key (take found seen) a) (take found seen) (take found seen ++ (a ∷ [])) =
+        ap (λ (m : ℕ). take (found + m) (set seen found a)) more_is ∙ slot_more (has nat_key (take found seen) a) refl in
+        put ∙ rw (p.are, a_is) (sym (firsts_snoc nat_key (tabulate f i) (f i)))
 
-    pub passed-more : found + more ≤ n → SlotsPassed f n (i + 1) (found + more) (set seen found a)
-    passed-more l =
-        let small : more ≤ 1 = one_at_most (has natKey (take found seen) a) more more-is in
-        record { four = length-set seen found a ∙ p.four; part = omega (arith, p.part); within = l; are = rw add-one more-are }
+    pub passed_more : found + more ≤ n → SlotsPassed f n (i + 1) (found + more) (set seen found a)
+    passed_more l =
+        let small : more ≤ 1 = one_at_most (has nat_key (take found seen) a) more more_is in
+        record { four = length-set seen found a ∙ p.four; part = omega (arith, p.part); within = l; are = rw add-one more_are }
 
     -- the number is another one, and the one wanted
-    pub passed_here : n < found + more → (count : ℕ) → i < count → (n < length (firsts natKey (tabulate f count))) × (a ≡ get_or (firsts natKey (tabulate f count)) n 0)
-    passed_here l count m = go (has natKey (take found seen) a) refl
+    pub passed_here : n < found + more → (count : ℕ) → i < count → (n < length (firsts nat_key (tabulate f count))) × (a ≡ get_or (firsts nat_key (tabulate f count)) n 0)
+    passed_here l count m = go (has nat_key (take found seen) a) refl
       where
-        go : (b : Bool) → has natKey (take found seen) a ≡ b → (n < length (firsts natKey (tabulate f count))) × (a ≡ get_or (firsts natKey (tabulate f count)) n 0)
-        go true e = let none : more ≡ 0 = more-is ∙ rw e in absurd (omega (arith, p.within))
+        go : (b : Bool) → has nat_key (take found seen) a ≡ b → (n < length (firsts nat_key (tabulate f count))) × (a ≡ get_or (firsts nat_key (tabulate f count)) n 0)
+        go true e = let none : more ≡ 0 = more_is ∙ rw e in absurd (omega (arith, p.within))
         go false e =
-            let one : more ≡ 1 = more-is ∙ rw e in
-            let n-is : n ≡ found = omega (arith, p.within) in
-            let are : firsts natKey (tabulate f (suc i)) ≡ firsts natKey (tabulate f i) ++ (a ∷ []) =
-            firsts-snoc natKey (tabulate f i) (f i) ∙ rw (← a-is, ← p.are, e) in
-            let size : length (firsts natKey (tabulate f (suc i))) ≡ suc found = ap length are ∙ length-append (firsts natKey (tabulate f i)) (a ∷ []) ∙ rw found-many (add-one found) in
-            let here : get_or (firsts natKey (tabulate f (suc i))) n 0 ≡ a =
-            rw (are, n-is, ← found-many) (get_or-append_seam (firsts natKey (tabulate f i)) a [] 0) in
+            let one : more ≡ 1 = more_is ∙ rw e in
+            let n_is : n ≡ found = omega (arith, p.within) in
+            let are : firsts nat_key (tabulate f (suc i)) ≡ firsts nat_key (tabulate f i) ++ (a ∷ []) =
+            firsts_snoc nat_key (tabulate f i) (f i) ∙ rw (← a_is, ← p.are, e) in
+            let size : length (firsts nat_key (tabulate f (suc i))) ≡ suc found = ap length are ∙ length-append (firsts nat_key (tabulate f i)) (a ∷ []) ∙ rw found_many (add-one found) in
+            let here : get_or (firsts nat_key (tabulate f (suc i))) n 0 ≡ a =
+            rw (are, n_is, ← found_many) (get_or-append_seam (firsts nat_key (tabulate f i)) a [] 0) in
             let d : ℕ = count - suc i in
             let whole : suc i + d ≡ count = omega arith in
-            let stay = firsts-stay natKey f 0 (suc i) n d (omega (arith, size)) in
-            (subst (λ (c : ℕ). n < length (firsts natKey (tabulate f c))) whole stay.0, sym (subst (λ (c : ℕ). get_or (firsts natKey (tabulate f c)) n 0 ≡ get_or (firsts natKey (tabulate f (suc i))) n 0) whole stay.1 ∙ here))
+            let stay = firsts_stay nat_key f 0 (suc i) n d (omega (arith, size)) in
+            (subst (λ (c : ℕ). n < length (firsts nat_key (tabulate f c))) whole stay.0, sym (subst (λ (c : ℕ). get_or (firsts nat_key (tabulate f c)) n 0 ≡ get_or (firsts nat_key (tabulate f (suc i))) n 0) whole stay.1 ∙ here))
 
   -- all are passed
-  pub passed-all : (i found : ℕ) (seen : List ℕ) → i ≤ 4 → SlotsPassed f n i found seen → length (firsts natKey (tabulate f i)) ≤ n
-  passed-all i found seen few p = omega (arith, ap length p.are, length-take-le found seen (omega (arith, p.part, p.four)), p.within)
+  pub passed_all : (i found : ℕ) (seen : List ℕ) → i ≤ 4 → SlotsPassed f n i found seen → length (firsts nat_key (tabulate f i)) ≤ n
+  passed_all i found seen few p = omega (arith, ap length p.are, length-take-le found seen (omega (arith, p.part, p.four)), p.within)
 
   -- there are no more than alternatives
-  pub few-all : (count : ℕ) → count ≤ n → length (firsts natKey (tabulate f count)) ≤ n
-  few-all count l = omega (arith, firsts-length natKey (tabulate f count), tabulate-length f count)
+  pub few_all : (count : ℕ) → count ≤ n → length (firsts nat_key (tabulate f count)) ≤ n
+  few_all count l = omega (arith, firsts-length nat_key (tabulate f count), tabulate-length f count)

@@ -7,21 +7,21 @@ use lib.ListN.{length, get_or}
 use Rattle.lists.specs.Digits.{tuples}
 use Rattle.lists.specs.Member.{All, Any}
 use Rattle.lists.specs.Tabulate.{tabulate}
-use Rattle.lists.proofs.Bytes.{all-at}
-use Rattle.lists.proofs.Member.{all-mapped, mapped-all, all-flat, flat-all}
-use Rattle.lists.proofs.Tabulate.{all-tabulate, tabulate-length, tabulate-at}
+use Rattle.lists.proofs.Bytes.{all_at}
+use Rattle.lists.proofs.Member.{all_mapped, mapped_all, all_flat, flat_all}
+use Rattle.lists.proofs.Tabulate.{All-tabulate, tabulate-length, tabulate_at}
 use Rattle.search.specs.Ground.{Model}
 use Rattle.problem.specs.Problem.{Clause, Problem}
-use Rattle.ground.specs.Instance.{Instance, number, noClause, clauseOf, instancesOf, groundAtoms, groundOf}
+use Rattle.ground.specs.Instance.{Instance, number, no_clause, clause_of, instances_of, ground_atoms, ground_of}
 
 -- what holds at every place holds of all
-pub all-places {ℓ} : {A : Type 0} (P : A → Type ℓ) (d : A) (xs : List A) → ((i : ℕ) → i < length xs → P (get_or xs i d)) → All P xs
-all-places P d [] f = tt
-all-places P d (x ∷ xs) f = (f 0 (omega arith), all-places P d xs (λ i h. f (suc i) (omega arith)))
+pub all_places {ℓ} : {A : Type 0} (P : A → Type ℓ) (d : A) (xs : List A) → ((i : ℕ) → i < length xs → P (get_or xs i d)) → All P xs
+all_places P d [] f = tt
+all_places P d (x ∷ xs) f = (f 0 (omega arith), all_places P d xs (λ i h. f (suc i) (omega arith)))
 
 -- what holds of all of a table's places holds of each
-pub tabulate-all {ℓ} : {A : Type 0} (P : A → Type ℓ) (f : ℕ → A) (n : ℕ) → All P (tabulate f n) → (i : ℕ) → i < n → P (f i)
-tabulate-all P f n a i h = subst P (tabulate-at f (f i) n i h) (all-at P (tabulate f n) (f i) i (omega (arith, tabulate-length f n)) a)
+pub tabulate-All {ℓ} : {A : Type 0} (P : A → Type ℓ) (f : ℕ → A) (n : ℕ) → All P (tabulate f n) → (i : ℕ) → i < n → P (f i)
+tabulate-All P f n a i h = subst P (tabulate_at f (f i) n i h) (all_at P (tabulate f n) (f i) i (omega (arith, tabulate-length f n)) a)
 
 module _ (c : ℕ) (arities : List ℕ) (M : ℕ → Type 0) where
   -- the instance of a clause with these values is kept
@@ -36,7 +36,7 @@ module _ (q : Problem) (M : ℕ → Type 0) where
   Each = ClauseKept q.constants q.arities M
 
   abbrev Here : Instance → Type 0
-  Here i = All M (groundAtoms q i.values (clauseOf q i.clause).conds) → ∥ Any M (groundAtoms q i.values (clauseOf q i.clause).alts) ∥₁
+  Here i = All M (ground_atoms q i.values (clause_of q i.clause).conds) → ∥ Any M (ground_atoms q i.values (clause_of q i.clause).alts) ∥₁
 
   abbrev at : ℕ → List ℕ → Instance
   at k values = record { clause = k; values = values }
@@ -44,17 +44,17 @@ module _ (q : Problem) (M : ℕ → Type 0) where
   abbrev count : ℕ
   count = length q.clauses
 
-  pub model-clauses : Model (groundOf q) M → All (ClauseKept q.constants q.arities M) q.clauses
-  unfolding groundOf
-  model-clauses m =
-      all-places Each noClause q.clauses
+  pub Model-clauses : Model (ground_of q) M → All (ClauseKept q.constants q.arities M) q.clauses
+  unfolding ground_of
+  Model-clauses m =
+      all_places Each no_clause q.clauses
       (λ i h.
-      mapped-all (at i) Here (tuples q.constants (clauseOf q i).vars)
-      (tabulate-all (λ k. All Here (instancesOf q k)) (λ k. k) count (flat-all (instancesOf q) Here (tabulate (λ k. k) count) m) i h))
+      mapped_all (at i) Here (tuples q.constants (clause_of q i).vars)
+      (tabulate-All (λ k. All Here (instances_of q k)) (λ k. k) count (flat_all (instances_of q) Here (tabulate (λ k. k) count) m) i h))
 
-  pub clauses-model : All (ClauseKept q.constants q.arities M) q.clauses → Model (groundOf q) M
-  unfolding groundOf
-  clauses-model a =
-      all-flat (instancesOf q) Here (tabulate (λ k. k) count)
-      (all-tabulate (λ k. All Here (instancesOf q k)) (λ k. k) count
-      (λ i h. all-mapped (at i) Here (tuples q.constants (clauseOf q i).vars) (all-at Each q.clauses noClause i h a)))
+  pub clauses-Model : All (ClauseKept q.constants q.arities M) q.clauses → Model (ground_of q) M
+  unfolding ground_of
+  clauses-Model a =
+      all_flat (instances_of q) Here (tabulate (λ k. k) count)
+      (All-tabulate (λ k. All Here (instances_of q k)) (λ k. k) count
+      (λ i h. all_mapped (at i) Here (tuples q.constants (clause_of q i).vars) (all_at Each q.clauses no_clause i h a)))

@@ -8,143 +8,143 @@ use native.Mathlib.Omega.{arith}
 use lib.ListN.{length, take, get_or, replicate}
 use Rattle.lists.specs.Member.{All, first}
 use Rattle.problem.specs.Problem.{Atom, Problem, AtomFits, ClauseFits}
-use Rattle.problem.specs.Layout.{problemIn}
+use Rattle.problem.specs.Layout.{problem_in}
 use Rattle.problem.specs.Table.{Lawful}
-use Rattle.problem.proofs.Access.{clauses-in, instances-in}
-use Rattle.ground.specs.Instance.{Instance, number, noClause, clauseOf, instancesOf, groundOf}
-use Rattle.ground.specs.contracts.Placed.{Placed, Stepped}
-use Rattle.ground.proofs.AtomLaws.{table-size, constants-small, number-takes, clause-fits, clause-room, conds-count, vars-in}
-use Rattle.ground.proofs.Sites.{Turning, turning-starts, turning-below, turning-on, turning-value, turning-stops, turning-ends, groupsFrom, groups-start, groups-on, groups-stop, groups-end}
+use Rattle.problem.proofs.Access.{clauses_in, instances_in}
+use Rattle.ground.specs.Instance.{Instance, number, no_clause, clause_of, instances_of, ground_of}
+use Rattle.ground.specs.terms.Placed.{Placed, Stepped}
+use Rattle.ground.proofs.AtomLaws.{table_size, constants_small, number_takes, clause_fits, clause_room, conds_count, vars_in}
+use Rattle.ground.proofs.Sites.{Turning, turning_starts, turning_below, turning_on, turning_value, turning_stops, turning_ends, groups_from, groups_start, groups_on, groups_stop, groups_end}
 
 -- the instance of clause k with these values
 abbrev pub instance : ℕ → List ℕ → Instance
 instance k values = record { clause = k; values = values }
 
 -- an atom's number looks at the values of its clause's variables alone
-pub numbers-take : (c : ℕ) (arities : List ℕ) (v : ℕ) (values : List ℕ) (atoms : List Atom) → All (AtomFits c arities v) atoms
+pub numbers_take : (c : ℕ) (arities : List ℕ) (v : ℕ) (values : List ℕ) (atoms : List Atom) → All (AtomFits c arities v) atoms
     → map (number c arities (take v values)) atoms ≡ map (number c arities values) atoms
-numbers-take c arities v values [] f = refl
-numbers-take c arities v values (a ∷ atoms) f = rw (number-takes c arities v values a f.0, numbers-take c arities v values atoms f.1)
+numbers_take c arities v values [] f = refl
+numbers_take c arities v values (a ∷ atoms) f = rw (number_takes c arities v values a f.0, numbers_take c arities v values atoms f.1)
 
 -- ---- the instances of a clause
 
 -- before turn i the values are the digits of i, with 0 for the variables that the clause lacks, and the instances from i on decide
 abbrev pub Turn : Problem → (Instance → Bool) → ℕ → List ℕ → ℕ → Type 0
-Turn q test k values i = Turning q.constants (clauseOf q k).vars (instance k) test values i
+Turn q test k values i = Turning q.constants (clause_of q k).vars (instance k) test values i
 
-module _ (q : Problem) (test : Instance → Bool) (k : ℕ) (fits : ClauseFits q.constants q.arities (clauseOf q k)) where
+module _ (q : Problem) (test : Instance → Bool) (k : ℕ) (fits : ClauseFits q.constants q.arities (clause_of q k)) where
   abbrev c : ℕ
   c = q.constants
 
   abbrev v : ℕ
-  v = (clauseOf q k).vars
+  v = (clause_of q k).vars
 
-  pub turn-starts : Turn q test k (replicate 4 0) 0
-  turn-starts = turning-starts c v (instance k) test fits.few-vars
+  pub turn_starts : Turn q test k (replicate 4 0) 0
+  turn_starts = turning_starts c v (instance k) test fits.few_vars
 
   module _ (values : List ℕ) (i : ℕ) (t : Turn q test k values i) where
     pub turn_below : i < c ^ v → All (λ d. d < c) (take v values)
-    turn_below h = turning-below c v (instance k) test fits.few-vars values i t h
+    turn_below h = turning_below c v (instance k) test fits.few_vars values i t h
 
     pub turn_on : (after : List ℕ) → i < c ^ v → test (instance k (take v values)) ≡ false → Stepped v c values after → length after ≡ length values
         → Turn q test k after (i + 1)
-    turn_on after h e s l = turning-on c v (instance k) test fits.few-vars values i t after h e s l
+    turn_on after h e s l = turning_on c v (instance k) test fits.few_vars values i t after h e s l
 
     -- 0 stands for the variables that the clause lacks
-    pub turn-value : (j : ℕ) → get_or values j 0 ≡ get_or (take v values) j 0
-    turn-value j = turning-value c v (instance k) test fits.few-vars values i t j
+    pub turn_value : (j : ℕ) → get_or values j 0 ≡ get_or (take v values) j 0
+    turn_value j = turning_value c v (instance k) test fits.few_vars values i t j
 
-    pub turn-stops : i < c ^ v → test (instance k (take v values)) ≡ true → first test (instancesOf q k) ≡ some (instance k (take v values))
-    turn-stops h e = turning-stops c v (instance k) test fits.few-vars values i t h e
+    pub turn_stops : i < c ^ v → test (instance k (take v values)) ≡ true → first test (instances_of q k) ≡ some (instance k (take v values))
+    turn_stops h e = turning_stops c v (instance k) test fits.few_vars values i t h e
 
-    pub turn-ends : c ^ v ≤ i → first test (instancesOf q k) ≡ none
-    turn-ends h = turning-ends c v (instance k) test fits.few-vars values i t h
+    pub turn_ends : c ^ v ≤ i → first test (instances_of q k) ≡ none
+    turn_ends h = turning_ends c v (instance k) test fits.few_vars values i t h
 
 -- ---- the clauses
 
 module _ (q : Problem) (test : Instance → Bool) where
   -- before clause k: the clauses from k on decide
   abbrev pub Undecided : ℕ → Type 0
-  Undecided k = first test (groundOf q).instances ≡ first test (groupsFrom (instancesOf q) (length q.clauses) k)
+  Undecided k = first test (ground_of q).instances ≡ first test (groups_from (instances_of q) (length q.clauses) k)
 
-  pub clauses-start : Undecided 0
-  unfolding groundOf
-  clauses-start = groups-start (instancesOf q) (length q.clauses) test
+  pub clauses_start : Undecided 0
+  unfolding ground_of
+  clauses_start = groups_start (instances_of q) (length q.clauses) test
 
   module _ (k : ℕ) (h : k < length q.clauses) (u : Undecided k) where
-    pub clauses-on : first test (instancesOf q k) ≡ none → Undecided (k + 1)
-    unfolding groundOf
-    clauses-on e = groups-on (instancesOf q) (length q.clauses) test k h u e
+    pub clauses_on : first test (instances_of q k) ≡ none → Undecided (k + 1)
+    unfolding ground_of
+    clauses_on e = groups_on (instances_of q) (length q.clauses) test k h u e
 
-    pub clauses-stop : (i : Instance) → first test (instancesOf q k) ≡ some i → first test (groundOf q).instances ≡ some i
-    unfolding groundOf
-    clauses-stop i e = groups-stop (instancesOf q) (length q.clauses) test k h u i e
+    pub clauses_stop : (i : Instance) → first test (instances_of q k) ≡ some i → first test (ground_of q).instances ≡ some i
+    unfolding ground_of
+    clauses_stop i e = groups_stop (instances_of q) (length q.clauses) test k h u i e
 
-  pub clauses-end : (k : ℕ) → length q.clauses ≤ k → Undecided k → first test (groundOf q).instances ≡ none
-  unfolding groundOf
-  clauses-end k h u = groups-end (instancesOf q) (length q.clauses) test k h u
+  pub clauses_end : (k : ℕ) → length q.clauses ≤ k → Undecided k → first test (ground_of q).instances ≡ none
+  unfolding ground_of
+  clauses_end k h u = groups_end (instances_of q) (length q.clauses) test k h u
 
 -- ---- the bytes of a table
 
 module _ (tb : List ℕ) (h : Lawful tb) where
-  pub clauses-byte : get_or tb 2 0 ≡ length (problemIn tb).clauses
-  clauses-byte = subst (λ (t : List ℕ). get_or t 2 0 ≡ length (problemIn tb).clauses) h.laid (clauses-in (problemIn tb) h.fits)
+  pub clauses_byte : get_or tb 2 0 ≡ length (problem_in tb).clauses
+  clauses_byte = subst (λ (t : List ℕ). get_or t 2 0 ≡ length (problem_in tb).clauses) h.laid (clauses_in (problem_in tb) h.fits)
 
-  pub clause-listed : (k : ℕ) → k < get_or tb 2 0 → k < length (problemIn tb).clauses
-  clause-listed k l = omega (arith, clauses-byte)
+  pub clause_listed : (k : ℕ) → k < get_or tb 2 0 → k < length (problem_in tb).clauses
+  clause_listed k l = omega (arith, clauses_byte)
 
 -- clause k of a table
 pub record ClauseKnown (tb : List ℕ) (k : ℕ) : Type 0 where
   pub size : length tb ≡ 4096
   pub few : k < 64
-  pub fits : ClauseFits (problemIn tb).constants (problemIn tb).arities (clauseOf (problemIn tb) k)
-  pub constants : get_or tb 0 0 ≡ (problemIn tb).constants
-  pub few-constants : get_or tb 0 0 ≤ 32
-  pub conditions : get_or tb (144 + 56 * k) 0 ≡ length (clauseOf (problemIn tb) k).conds
-  pub variables : get_or tb (144 + 56 * k + 2) 0 ≡ (clauseOf (problemIn tb) k).vars
-  pub instances : get_or tb (144 + 56 * k + 4) 0 + 256 * get_or tb (144 + 56 * k + 5) 0 ≡ (problemIn tb).constants ^ (clauseOf (problemIn tb) k).vars
+  pub fits : ClauseFits (problem_in tb).constants (problem_in tb).arities (clause_of (problem_in tb) k)
+  pub constants : get_or tb 0 0 ≡ (problem_in tb).constants
+  pub few_constants : get_or tb 0 0 ≤ 32
+  pub conditions : get_or tb (144 + 56 * k) 0 ≡ length (clause_of (problem_in tb) k).conds
+  pub variables : get_or tb (144 + 56 * k + 2) 0 ≡ (clause_of (problem_in tb) k).vars
+  pub instances : get_or tb (144 + 56 * k + 4) 0 + 256 * get_or tb (144 + 56 * k + 5) 0 ≡ (problem_in tb).constants ^ (clause_of (problem_in tb) k).vars
 
-module _ (tb : List ℕ) (h : Lawful tb) (k : ℕ) (known : k < length (problemIn tb).clauses) where
-  pub clause-known : ClauseKnown tb k
-  unfolding problemIn
-  clause-known =
-      let q = problemIn tb in
-      let clause = clauseOf q k in
+module _ (tb : List ℕ) (h : Lawful tb) (k : ℕ) (known : k < length (problem_in tb).clauses) where
+  pub clause_known : ClauseKnown tb k
+  unfolding problem_in
+  clause_known =
+      let q = problem_in tb in
+      let clause = clause_of q k in
       record {
-        size = table-size tb h;
-        few = clause-room tb h k known;
-        fits = clause-fits tb h k known;
+        size = table_size tb h;
+        few = clause_room tb h k known;
+        fits = clause_fits tb h k known;
         constants = refl;
-        few-constants = constants-small tb h;
-        conditions = conds-count tb h k known;
-        variables = vars-in tb h k known;
+        few_constants = constants_small tb h;
+        conditions = conds_count tb h k known;
+        variables = vars_in tb h k known;
         instances =
-            subst (λ (t : List ℕ). get_or t (144 + 56 * k + 4) 0 + 256 * get_or t (144 + 56 * k + 5) 0 ≡ q.constants ^ clause.vars) h.laid (instances-in q h.fits noClause k known);
+            subst (λ (t : List ℕ). get_or t (144 + 56 * k + 4) 0 + 256 * get_or t (144 + 56 * k + 5) 0 ≡ q.constants ^ clause.vars) h.laid (instances_in q h.fits no_clause k known);
       }
 
-  module _ (test : Instance → Bool) (values : List ℕ) (i : ℕ) (below : i < (problemIn tb).constants ^ (clauseOf (problemIn tb) k).vars) (t : Turn (problemIn tb) test k values i) where
+  module _ (test : Instance → Bool) (values : List ℕ) (i : ℕ) (below : i < (problem_in tb).constants ^ (clause_of (problem_in tb) k).vars) (t : Turn (problem_in tb) test k values i) where
     -- what looking at the instance of a turn asks
-    pub turn-placed : (flags : List ℕ) → 1024 ≤ length flags → Placed tb k values flags
-    turn-placed flags room =
+    pub turn_placed : (flags : List ℕ) → 1024 ≤ length flags → Placed tb k values flags
+    turn_placed flags room =
         record {
           known = known;
           four = t.four;
-          below = rw clause-known.constants (turn_below (problemIn tb) test k clause-known.fits values i t below);
-          flagged = omega (arith, h.fits.atoms-fit);
+          below = rw clause_known.constants (turn_below (problem_in tb) test k clause_known.fits values i t below);
+          flagged = omega (arith, h.fits.atoms_fit);
         }
 
     -- and what going on to the next asks and gives, by the bytes of the table
-    pub turn-asks : (length values ≡ 4) × (get_or tb (144 + 56 * k + 2) 0 ≤ 4) × (get_or tb 0 0 ≤ 32)
+    pub turn_asks : (length values ≡ 4) × (get_or tb (144 + 56 * k + 2) 0 ≤ 4) × (get_or tb 0 0 ≤ 32)
         × All (λ d. d < get_or tb 0 0) (take (get_or tb (144 + 56 * k + 2) 0) values)
-    turn-asks = (
+    turn_asks = (
       t.four,
-      omega (arith, clause-known.variables, clause-known.fits.few-vars),
-      clause-known.few-constants,
-      rw (clause-known.constants, clause-known.variables) (turn_below (problemIn tb) test k clause-known.fits values i t below),
+      omega (arith, clause_known.variables, clause_known.fits.few_vars),
+      clause_known.few_constants,
+      rw (clause_known.constants, clause_known.variables) (turn_below (problem_in tb) test k clause_known.fits values i t below),
     )
 
-    pub turn-next : (after : List ℕ) → test (instance k (take (clauseOf (problemIn tb) k).vars values)) ≡ false
-        → Stepped (get_or tb (144 + 56 * k + 2) 0) (get_or tb 0 0) values after → length after ≡ length values → Turn (problemIn tb) test k after (i + 1)
-    turn-next after e s l =
-        turn_on (problemIn tb) test k clause-known.fits values i t after below e
-        (subst₂ (λ (v c : ℕ). Stepped v c values after) clause-known.variables clause-known.constants s) l
+    pub turn_next : (after : List ℕ) → test (instance k (take (clause_of (problem_in tb) k).vars values)) ≡ false
+        → Stepped (get_or tb (144 + 56 * k + 2) 0) (get_or tb 0 0) values after → length after ≡ length values → Turn (problem_in tb) test k after (i + 1)
+    turn_next after e s l =
+        turn_on (problem_in tb) test k clause_known.fits values i t after below e
+        (subst₂ (λ (v c : ℕ). Stepped v c values after) clause_known.variables clause_known.constants s) l

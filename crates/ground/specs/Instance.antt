@@ -5,8 +5,8 @@ use Rattle.lists.specs.Digits.{horner, tuples}
 use Rattle.lists.specs.Member.{All}
 use Rattle.lists.specs.Tabulate.{tabulate}
 use Rattle.search.specs.Ground.{Ground}
-use Rattle.problem.specs.Layout.{problemIn}
-use Rattle.problem.specs.Problem.{Atom, Clause, Problem, atomCount, firstAtom}
+use Rattle.problem.specs.Layout.{problem_in}
+use Rattle.problem.specs.Problem.{Atom, Clause, Problem, atom_count, first_atom}
 
 -- "An instance puts a constant for each variable": a clause's number, and the values of its variables 80, 81, 82, 83 in that order
 pub record Instance : Type 0 where
@@ -18,12 +18,12 @@ abbrev pub value_of : List ℕ → ℕ → ℕ
 value_of values b = cond (ltb b 128) b (get_or values (b - 128) 0)
 
 -- "Atoms are numbered by predicate, then by arguments with the first one slowest."
-abbrev pub groundNumber : ℕ → List ℕ → ℕ → List ℕ → ℕ
-groundNumber c arities p args = firstAtom c arities p + horner c args
+abbrev pub ground_number : ℕ → List ℕ → ℕ → List ℕ → ℕ
+ground_number c arities p args = first_atom c arities p + horner c args
 
 -- the number of an atom once its variables have values
 abbrev pub number : ℕ → List ℕ → List ℕ → Atom → ℕ
-number c arities values a = groundNumber c arities a.pred (map (value_of values) a.args)
+number c arities values a = ground_number c arities a.pred (map (value_of values) a.args)
 
 -- a ground atom: a predicate, and as many constants as it takes
 pub record GroundAtom (c : ℕ) (arities : List ℕ) (p : ℕ) (args : List ℕ) : Type 0 where
@@ -36,36 +36,36 @@ pub record AtomOf (c : ℕ) (arities : List ℕ) (n : ℕ) : Type 0 where
   pub pred : ℕ
   pub args : List ℕ
   pub atom : GroundAtom c arities pred args
-  pub numbered : groundNumber c arities pred args ≡ n
+  pub numbered : ground_number c arities pred args ≡ n
 
-abbrev pub noClause : Clause
-noClause = record { vars = 0; conds = []; alts = [] }
+abbrev pub no_clause : Clause
+no_clause = record { vars = 0; conds = []; alts = [] }
 
-abbrev pub clauseOf : Problem → ℕ → Clause
-clauseOf q k = get_or q.clauses k noClause
+abbrev pub clause_of : Problem → ℕ → Clause
+clause_of q k = get_or q.clauses k no_clause
 
 -- an instance: a clause, and a constant for each of its variables
 pub record InstanceOf (q : Problem) (i : Instance) : Type 0 where
   pub known : i.clause < length q.clauses
-  pub each-variable : length i.values ≡ (clauseOf q i.clause).vars
+  pub each_variable : length i.values ≡ (clause_of q i.clause).vars
   pub constants : All (λ d. d < q.constants) i.values
 
 -- the instances of a clause: "order is by clause, then by the values of 80, 81, 82, 83 with 80 slowest"
-abbrev pub instancesOf : Problem → ℕ → List Instance
-instancesOf q k = map (λ values. record { clause = k; values = values }) (tuples q.constants (clauseOf q k).vars)
+abbrev pub instances_of : Problem → ℕ → List Instance
+instances_of q k = map (λ values. record { clause = k; values = values }) (tuples q.constants (clause_of q k).vars)
 
-abbrev pub groundAtoms : Problem → List ℕ → List Atom → List ℕ
-groundAtoms q values atoms = map (number q.constants q.arities values) atoms
+abbrev pub ground_atoms : Problem → List ℕ → List Atom → List ℕ
+ground_atoms q values atoms = map (number q.constants q.arities values) atoms
 
-unfoldable pub groundOf : Problem → Ground Instance
-groundOf q =
+unfoldable pub ground_of : Problem → Ground Instance
+ground_of q =
     record {
-      atoms = atomCount q.constants q.arities;
-      instances = flat_map (instancesOf q) (tabulate (λ k. k) (length q.clauses));
-      conds = λ i. groundAtoms q i.values (clauseOf q i.clause).conds;
-      alts = λ i. groundAtoms q i.values (clauseOf q i.clause).alts;
+      atoms = atom_count q.constants q.arities;
+      instances = flat_map (instances_of q) (tabulate (λ k. k) (length q.clauses));
+      conds = λ i. ground_atoms q i.values (clause_of q i.clause).conds;
+      alts = λ i. ground_atoms q i.values (clause_of q i.clause).alts;
     }
 
 -- the ground problem of a table
-abbrev pub groundIn : List ℕ → Ground Instance
-groundIn tb = groundOf (problemIn tb)
+abbrev pub ground_in : List ℕ → Ground Instance
+ground_in tb = ground_of (problem_in tb)

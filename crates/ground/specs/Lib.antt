@@ -5,4 +5,4 @@ pub mod Walks
 pub mod Cases
 pub mod Claims
 pub mod Verdict
-pub mod contracts
+pub mod terms

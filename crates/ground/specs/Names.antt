@@ -2,22 +2,22 @@
 use Rattle.std.specs.Prelude.{Bool, ◌&&◌, ◌≡◌, T, eqb}
 use Rattle.std.proofs.Common.{eqb→eq}
 use Rattle.std.proofs.Math.Dec.{eqb_refl}
-use Rattle.lists.specs.Bytes.{same_list, same-equal, same_refl}
+use Rattle.lists.specs.Bytes.{same_list, same_equal, same_refl}
 use Rattle.lists.specs.Key.{Key}
-use Rattle.lists.specs.Test.{and_T, T-left, T-right}
+use Rattle.lists.specs.Test.{and-T, T_left, T_right}
 use Rattle.ground.specs.Instance.{Instance}
 
-abbrev pub sameInstance : Instance → Instance → Bool
-sameInstance i j = eqb i.clause j.clause && same_list i.values j.values
+abbrev pub same_instance : Instance → Instance → Bool
+same_instance i j = eqb i.clause j.clause && same_list i.values j.values
 
-pub same-instance : (i j : Instance) → T (sameInstance i j) → i ≡ j
-same-instance i j t =
-    let k : i.clause ≡ j.clause = eqb→eq i.clause j.clause (T-left (eqb i.clause j.clause) (same_list i.values j.values) t) in
-    let w : i.values ≡ j.values = same-equal i.values j.values (T-right (eqb i.clause j.clause) (same_list i.values j.values) t) in
+pub same_instance_lem : (i j : Instance) → T (same_instance i j) → i ≡ j
+same_instance_lem i j t =
+    let k : i.clause ≡ j.clause = eqb→eq i.clause j.clause (T_left (eqb i.clause j.clause) (same_list i.values j.values) t) in
+    let w : i.values ≡ j.values = same_equal i.values j.values (T_right (eqb i.clause j.clause) (same_list i.values j.values) t) in
     λ d. record { clause = k d; values = w d }
 
-pub instance-refl : (i : Instance) → T (sameInstance i i)
-instance-refl i = and_T (eqb i.clause i.clause) (same_list i.values i.values) (eqb_refl i.clause) (same_refl i.values)
+pub instance_refl : (i : Instance) → T (same_instance i i)
+instance_refl i = and-T (eqb i.clause i.clause) (same_list i.values i.values) (eqb_refl i.clause) (same_refl i.values)
 
-abbrev pub instanceKey : Key Instance
-instanceKey = record { same = sameInstance; same-eq = same-instance; same_refl = instance-refl }
+abbrev pub instance_key : Key Instance
+instance_key = record { same = same_instance; same_eq = same_instance_lem; same_refl = instance_refl }

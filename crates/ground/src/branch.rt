@@ -1,10 +1,10 @@
 // The alternatives of a split that are entered: those that are not equal to an earlier one.
 ghost use Rattle.std.specs.Prelude.{cond, ◌≡◌, ◌≤◌, length, take};
-ghost use Rattle.lists.specs.Key.{natKey};
+ghost use Rattle.lists.specs.Key.{nat_key};
 ghost use Rattle.lists.specs.Member.{has};
 ghost use Rattle.search.specs.Relevancy.{branches};
-ghost use Rattle.ground.specs.contracts.Heading.{Headed};
-ghost use Rattle.ground.specs.contracts.Branching.{SlotsNumbered, slotNumbers, NextOf};
+ghost use Rattle.ground.specs.terms.Heading.{Headed};
+ghost use Rattle.ground.specs.terms.Branching.{SlotsNumbered, slot_numbers, NextOf};
 
 use crate::atom::number_in;
 
@@ -18,7 +18,7 @@ pub enum NextBranch {
 // 1 if a is not among the first n numbers of `seen`, else 0.
 fn fresh(seen: &[usize], n: usize, a: usize) -> usize
     requires { (length seen.now ≡ 4) × (n ≤ 4) }
-    ensures { result ≡ cond (has natKey (take n seen.now) a) 0 1 }
+    ensures { result ≡ cond (has nat_key (take n seen.now) a) 0 1 }
 {
     let mut j: usize = 0;
     while j < n {
@@ -42,7 +42,7 @@ pub fn branch_after(
 ) -> NextBranch
     requires headed { Headed bs.now }
     requires slots_numbered { SlotsNumbered bs.now first stride count values.now }
-    ensures { NextOf (branches (slotNumbers bs.now first stride values.now count)) n result }
+    ensures { NextOf (branches (slot_numbers bs.now first stride values.now count)) n result }
 {
     if n >= count {
         return NextBranch::Nothing;

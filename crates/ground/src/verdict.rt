@@ -1,10 +1,10 @@
 // An engine's verdict, and the model that it gives.
 ghost use Rattle.std.specs.Prelude.{◌≡◌, [], ◌∷◌, ◌++◌, map, ◌+◌, ◌≤◌, length, take, drop};
-ghost use Rattle.search.specs.Relevancy.{modelBits};
+ghost use Rattle.search.specs.Relevancy.{model_bits};
 ghost use Rattle.lists.specs.Bytes.{is_set, bit};
 ghost use Rattle.lists.specs.Digits.{horner};
-ghost use Rattle.problem.specs.Problem.{limitOf};
-ghost use Rattle.ground.specs.contracts.Chosen.{chosenBit};
+ghost use Rattle.problem.specs.Problem.{limit_of};
+ghost use Rattle.ground.specs.terms.Chosen.{chosen_bit};
 
 use store::holds;
 
@@ -27,7 +27,7 @@ pub fn number_of(a: u8, b: u8, c: u8, d: u8) -> u32
 // The limit in a table.
 pub fn limit_in(table: &[u8]) -> u32
     requires { length table.now ≡ 4096 }
-    ensures { result ≡ limitOf (take 4 (drop 4 table.now)) }
+    ensures { result ≡ limit_of (take 4 (drop 4 table.now)) }
 {
     number_of(table[4], table[5], table[6], table[7])
 }
@@ -39,7 +39,7 @@ const IRRELEVANT: u8 = 1;
 fn in_model(work: &[u8], a: usize) -> u8
     requires a_bound { 1025 + a ≤ 6149 }
     requires in_bounds { 6150 ≤ length work.now }
-    ensures { result ≡ bit (chosenBit work.now a) }
+    ensures { result ≡ bit (chosen_bit work.now a) }
 {
     if holds(work, a) {
         return 1;
@@ -53,7 +53,7 @@ fn in_model(work: &[u8], a: usize) -> u8
 // Puts the model's bits into the answer.
 pub fn give(work: &[u8], answer: &mut [u8], atoms: usize)
     requires { (atoms ≤ 1024) × (atoms ≤ length answer.old) × (6150 ≤ length work.now) }
-    ensures { answer.new ≡ map bit (modelBits atoms (is_set work.now) (λ a. is_set work.now (1025 + a))) ++ drop atoms answer.old }
+    ensures { answer.new ≡ map bit (model_bits atoms (is_set work.now) (λ a. is_set work.now (1025 + a))) ++ drop atoms answer.old }
 {
     let mut a: usize = 0;
     while a < atoms {

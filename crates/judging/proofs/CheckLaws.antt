@@ -11,23 +11,23 @@ use borrow.Author.Tests.{eq-eqb}
 use lib.Dec.{T, T_not, eqb, eqb→eq}
 use lib.ListN.{length, get_or, length-map}
 use Rattle.lists.specs.Member.{All, Any, every, first, lead}
-use Rattle.lists.proofs.Member.{all_map, every-all, all-every, some-fails, first-none, none_first, first-of, lead-all, all-lead}
+use Rattle.lists.proofs.Member.{all_map, every-All, All-every, some_fails, first-none, none_first, first_of_lem, lead-All, All-lead}
 use Rattle.lists.proofs.Test.{decided, fails, not-not}
-use Rattle.lists.specs.Test.{and_T, T-left, T-right}
+use Rattle.lists.specs.Test.{and-T, T_left, T_right}
 use Rattle.search.specs.Ground.{Model}
 use Rattle.problem.specs.Problem.{Problem}
 use Rattle.judging.specs.declared.judge.Judging.TheVariants.{Model as IsModel, Violated}
-use Rattle.ground.specs.Instance.{Instance, number, clauseOf, groundAtoms, groundOf}
+use Rattle.ground.specs.Instance.{Instance, number, clause_of, ground_atoms, ground_of}
 use Rattle.lists.specs.Bytes.{is_set}
-use Rattle.judging.specs.ModelCheck.{violates, named, checkOf}
+use Rattle.judging.specs.ModelCheck.{violates, named, check_of}
 use Rattle.judging.specs.Claims.{FirstViolated}
 
 -- ---- tests
 
 module _ {A : Type 0} where
-  any-map : (P Q : A → Type 0) → ((x : A) → P x → Q x) → (xs : List A) → Any P xs → Any Q xs
-  any-map P Q f (x ∷ xs) (inl p) = inl (f x p)
-  any-map P Q f (x ∷ xs) (inr p) = inr (any-map P Q f xs p)
+  any_map : (P Q : A → Type 0) → ((x : A) → P x → Q x) → (xs : List A) → Any P xs → Any Q xs
+  any_map P Q f (x ∷ xs) (inl p) = inl (f x p)
+  any_map P Q f (x ∷ xs) (inr p) = inr (any_map P Q f xs p)
 
   -- no member passes a test that every member fails
   apart : (p : A → Bool) (xs : List A) → Any (λ x. T (p x)) xs → All (λ x. T (not (p x))) xs → ⊥
@@ -38,96 +38,96 @@ module _ {A : Type 0} where
 
 module _ (q : Problem) (answer : List ℕ) (i : Instance) where
   abbrev conds : List ℕ
-  conds = groundAtoms q i.values (clauseOf q i.clause).conds
+  conds = ground_atoms q i.values (clause_of q i.clause).conds
 
   abbrev alts : List ℕ
-  alts = groundAtoms q i.values (clauseOf q i.clause).alts
+  alts = ground_atoms q i.values (clause_of q i.clause).alts
 
-  sizes : length conds ≡ length (clauseOf q i.clause).conds
-  sizes = length-map (clauseOf q i.clause).conds (number q.constants q.arities i.values)
+  sizes : length conds ≡ length (clause_of q i.clause).conds
+  sizes = length-map (clause_of q i.clause).conds (number q.constants q.arities i.values)
 
   abbrev holding : Bool
-  holding = eqb (lead (is_set answer) conds) (length (clauseOf q i.clause).conds)
+  holding = eqb (lead (is_set answer) conds) (length (clause_of q i.clause).conds)
 
-  abbrev none-holding : Bool
-  none-holding = every (λ a. not (is_set answer a)) alts
+  abbrev none_holding : Bool
+  none_holding = every (λ a. not (is_set answer a)) alts
 
-  pub violated-from : T (violates q answer i) → All (λ a. T (is_set answer a)) ((groundOf q).conds i) × All (λ a. T (not (is_set answer a))) ((groundOf q).alts i)
-  unfolding groundOf
-  violated-from t = (
-    lead-all (is_set answer) conds (eqb→eq (lead (is_set answer) conds) (length (clauseOf q i.clause).conds) (T-left holding none-holding t) ∙ sym sizes),
-    every-all (λ a. not (is_set answer a)) alts (T-right holding none-holding t),
+  pub violated_from : T (violates q answer i) → All (λ a. T (is_set answer a)) ((ground_of q).conds i) × All (λ a. T (not (is_set answer a))) ((ground_of q).alts i)
+  unfolding ground_of
+  violated_from t = (
+    lead-All (is_set answer) conds (eqb→eq (lead (is_set answer) conds) (length (clause_of q i.clause).conds) (T_left holding none_holding t) ∙ sym sizes),
+    every-All (λ a. not (is_set answer a)) alts (T_right holding none_holding t),
   )
 
-  pub violated-to : All (λ a. T (is_set answer a)) ((groundOf q).conds i) × All (λ a. T (not (is_set answer a))) ((groundOf q).alts i) → T (violates q answer i)
-  unfolding groundOf
-  violated-to p =
-      let n = length (clauseOf q i.clause).conds in
-      and_T holding none-holding
-      (rw (eq-eqb (lead (is_set answer) conds) n (all-lead (is_set answer) conds p.0 ∙ sizes)) tt)
-      (all-every (λ a. not (is_set answer a)) alts p.1)
+  pub violated_to : All (λ a. T (is_set answer a)) ((ground_of q).conds i) × All (λ a. T (not (is_set answer a))) ((ground_of q).alts i) → T (violates q answer i)
+  unfolding ground_of
+  violated_to p =
+      let n = length (clause_of q i.clause).conds in
+      and-T holding none_holding
+      (rw (eq-eqb (lead (is_set answer) conds) n (All-lead (is_set answer) conds p.0 ∙ sizes)) tt)
+      (All-every (λ a. not (is_set answer a)) alts p.1)
 
   -- an instance is not violated exactly if it has an alternative in the set where all its conditions are
   abbrev Kept : Type 0
-  Kept = All (λ a. T (is_set answer a)) ((groundOf q).conds i) → ∥ Any (λ a. T (is_set answer a)) ((groundOf q).alts i) ∥₁
+  Kept = All (λ a. T (is_set answer a)) ((ground_of q).conds i) → ∥ Any (λ a. T (is_set answer a)) ((ground_of q).alts i) ∥₁
 
   pub kept_from : T (not (violates q answer i)) → Kept
-  kept_from t c = go (decided (every (λ a. not (is_set answer a)) ((groundOf q).alts i)))
+  kept_from t c = go (decided (every (λ a. not (is_set answer a)) ((ground_of q).alts i)))
     where
-      go : T (every (λ a. not (is_set answer a)) ((groundOf q).alts i)) ⊎ T (not (every (λ a. not (is_set answer a)) ((groundOf q).alts i)))
-          → ∥ Any (λ a. T (is_set answer a)) ((groundOf q).alts i) ∥₁
-      go (inl n) = absurd (T_not (violates q answer i) t (violated-to (c, every-all (λ a. not (is_set answer a)) ((groundOf q).alts i) n)))
+      go : T (every (λ a. not (is_set answer a)) ((ground_of q).alts i)) ⊎ T (not (every (λ a. not (is_set answer a)) ((ground_of q).alts i)))
+          → ∥ Any (λ a. T (is_set answer a)) ((ground_of q).alts i) ∥₁
+      go (inl n) = absurd (T_not (violates q answer i) t (violated_to (c, every-All (λ a. not (is_set answer a)) ((ground_of q).alts i) n)))
       go (inr n) =
-          let some-alt = some-fails (λ a. not (is_set answer a)) ((groundOf q).alts i) n in
-          ∣ any-map (λ a. T (not (not (is_set answer a)))) (λ a. T (is_set answer a)) (λ a. not-not (is_set answer a)) ((groundOf q).alts i) some-alt ∣₁
+          let some_alt = some_fails (λ a. not (is_set answer a)) ((ground_of q).alts i) n in
+          ∣ any_map (λ a. T (not (not (is_set answer a)))) (λ a. T (is_set answer a)) (λ a. not-not (is_set answer a)) ((ground_of q).alts i) some_alt ∣₁
 
-  pub kept-to : Kept → T (not (violates q answer i))
-  kept-to k =
+  pub kept_to : Kept → T (not (violates q answer i))
+  kept_to k =
       fails (violates q answer i)
       (λ t.
-      let p = violated-from t in
-      ∥∥₁_elim (k p.0) ⊥_prop (λ s. apart (λ a. is_set answer a) ((groundOf q).alts i) s p.1))
+      let p = violated_from t in
+      ∥∥₁_elim (k p.0) ⊥_prop (λ s. apart (λ a. is_set answer a) ((ground_of q).alts i) s p.1))
 
 -- ---- the answer named
 
-pub named-model : (o : Option Instance) → named o ≡ IsModel → o ≡ none
-named-model none e = refl
-named-model (some i) e = absurd (let z : ◌≡◌ {A = ℕ} 0 1 = cc in omega arith)
+pub named_model : (o : Option Instance) → named o ≡ IsModel → o ≡ none
+named_model none e = refl
+named_model (some i) e = absurd (let z : ◌≡◌ {A = ℕ} 0 1 = cc in omega arith)
 
 -- the instance that is named by clause and values
 pub record Named (o : Option Instance) (k a b c d : ℕ) : Type 0 where
   pub found : Instance
-  pub some-found : o ≡ some found
+  pub some_found : o ≡ some found
   pub clause : found.clause ≡ k
-  pub value-80 : get_or found.values 0 0 ≡ a
-  pub value-81 : get_or found.values 1 0 ≡ b
-  pub value-82 : get_or found.values 2 0 ≡ c
-  pub value-83 : get_or found.values 3 0 ≡ d
+  pub value_80 : get_or found.values 0 0 ≡ a
+  pub value_81 : get_or found.values 1 0 ≡ b
+  pub value_82 : get_or found.values 2 0 ≡ c
+  pub value_83 : get_or found.values 3 0 ≡ d
 
-pub named-violated : (o : Option Instance) (k a b c d : ℕ) → named o ≡ Violated k a b c d → Named o k a b c d
-named-violated none k a b c d e = absurd (let z : ◌≡◌ {A = ℕ} 0 1 = cc in omega arith)
-named-violated (some i) k a b c d e = record { found = i; some-found = refl; clause = cc; value-80 = cc; value-81 = cc; value-82 = cc; value-83 = cc }
+pub named-Violated : (o : Option Instance) (k a b c d : ℕ) → named o ≡ Violated k a b c d → Named o k a b c d
+named-Violated none k a b c d e = absurd (let z : ◌≡◌ {A = ℕ} 0 1 = cc in omega arith)
+named-Violated (some i) k a b c d e = record { found = i; some_found = refl; clause = cc; value_80 = cc; value_81 = cc; value_82 = cc; value_83 = cc }
 
 module _ (q : Problem) (answer : List ℕ) where
-  pub checked-model : checkOf q answer ≡ IsModel → Model (groundOf q) (λ a. T (is_set answer a))
-  unfolding checkOf
-  checked-model e =
-      let is = (groundOf q).instances in
+  pub checked_model : check_of q answer ≡ IsModel → Model (ground_of q) (λ a. T (is_set answer a))
+  unfolding check_of
+  checked_model e =
+      let is = (ground_of q).instances in
       all_map (λ i. T (not (violates q answer i))) (Kept q answer) (kept_from q answer) is
-      (first-none (violates q answer) is (named-model (first (violates q answer) is) e))
+      (first-none (violates q answer) is (named_model (first (violates q answer) is) e))
 
-  pub model-checked : Model (groundOf q) (λ a. T (is_set answer a)) → checkOf q answer ≡ IsModel
-  unfolding checkOf
-  model-checked m =
-      let is = (groundOf q).instances in
-      ap named (none_first (violates q answer) is (all_map (Kept q answer) (λ i. T (not (violates q answer i))) (kept-to q answer) is m))
+  pub model_checked : Model (ground_of q) (λ a. T (is_set answer a)) → check_of q answer ≡ IsModel
+  unfolding check_of
+  model_checked m =
+      let is = (ground_of q).instances in
+      ap named (none_first (violates q answer) is (all_map (Kept q answer) (λ i. T (not (violates q answer i))) (kept_to q answer) is m))
 
-  pub violated-first : (k a b c d : ℕ) → checkOf q answer ≡ Violated k a b c d → FirstViolated q answer k a b c d
-  unfolding checkOf
-  violated-first k a b c d e =
-      let is = (groundOf q).instances in
-      let n = named-violated (first (violates q answer) is) k a b c d e in
-      let s = first-of (violates q answer) (λ i. T (violates q answer i)) (λ i t. t) (λ i t. t) is n.found n.some-found in
+  pub violated_first : (k a b c d : ℕ) → check_of q answer ≡ Violated k a b c d → FirstViolated q answer k a b c d
+  unfolding check_of
+  violated_first k a b c d e =
+      let is = (ground_of q).instances in
+      let n = named-Violated (first (violates q answer) is) k a b c d e in
+      let s = first_of_lem (violates q answer) (λ i. T (violates q answer i)) (λ i t. t) (λ i t. t) is n.found n.some_found in
       record {
         before = s.before;
         found = n.found;
@@ -136,8 +136,8 @@ module _ (q : Problem) (answer : List ℕ) where
         none_before = all_map (λ i. T (violates q answer i) → ⊥) (λ i. T (not (violates q answer i))) (λ i. fails (violates q answer i)) s.before s.none_before;
         here = s.here;
         clause = n.clause;
-        value-80 = n.value-80;
-        value-81 = n.value-81;
-        value-82 = n.value-82;
-        value-83 = n.value-83;
+        value_80 = n.value_80;
+        value_81 = n.value_81;
+        value_82 = n.value_82;
+        value_83 = n.value_83;
       }

@@ -1,9 +1,9 @@
 // How far an instance holds, named by clause and values: how many of its conditions an answer marks, from the left, before the first that it does not.
 ghost use Rattle.std.specs.Prelude.{[], ◌∷◌, ◌≡◌, ◌≤◌, ltb, length, take};
 ghost use Rattle.lists.specs.Member.{every};
-ghost use Rattle.problem.specs.Layout.{problemIn};
+ghost use Rattle.problem.specs.Layout.{problem_in};
 ghost use Rattle.problem.specs.Table.{Lawful};
-ghost use Rattle.judging.specs.Holding.{holdingNamed, holdingResult};
+ghost use Rattle.judging.specs.Holding.{holding_named, holding_result};
 
 use crate::judge::refused;
 use ground::instance::holding;
@@ -35,7 +35,7 @@ fn are_constants(values: &[u32], v: u8, c: u8) -> bool
 fn held(table: &[u8], flags: &[u8], clause: u32, a: u32, b: u32, c: u32, d: u32) -> Holding
     requires lawful { Lawful table.now }
     requires in_bounds { 1024 ≤ length flags.now }
-    ensures { result ≡ holdingNamed (problemIn table.now) flags.now clause (a ∷ b ∷ c ∷ d ∷ []) }
+    ensures { result ≡ holding_named (problem_in table.now) flags.now clause (a ∷ b ∷ c ∷ d ∷ []) }
 {
     if (table[2] as u32) <= clause {
         return Holding::Unheld(44);
@@ -56,7 +56,7 @@ fn held(table: &[u8], flags: &[u8], clause: u32, a: u32, b: u32, c: u32, d: u32)
 
 // How many conditions of the instance of a clause with four values hold, by a lent table and answer.
 pub fn how_far(table: &[u8], answer: &[u8], clause: u32, a: u32, b: u32, c: u32, d: u32) -> Holding
-    ensures { result ≡ holdingResult table.now answer.now clause a b c d }
+    ensures { result ≡ holding_result table.now answer.now clause a b c d }
 {
     let e = refused(table, answer);
     if 0 < e {

@@ -1,10 +1,10 @@
 // The model check (01: judging): whether the atoms that an answer marks are a model.
 ghost use Rattle.std.specs.Prelude.{◌≡◌, ◌≤◌, ◌<◌, length, get_or, take, ltb};
 ghost use Rattle.lists.specs.Member.{every};
-ghost use Rattle.problem.specs.Layout.{problemIn};
+ghost use Rattle.problem.specs.Layout.{problem_in};
 ghost use Rattle.problem.specs.Table.{Lawful};
-ghost use Rattle.judging.specs.ModelCheck.{clauseCheck, checkOf, judgeable, judgeResult, violatedBy};
-ghost use Rattle.ground.specs.contracts.Placed.{Placed};
+ghost use Rattle.judging.specs.ModelCheck.{clause_check, check_of, judgeable, judge_result, violated_by};
+ghost use Rattle.ground.specs.terms.Placed.{Placed};
 
 use ground::instance::{holding, none_holds, step};
 use lists::pair;
@@ -22,7 +22,7 @@ pub enum Judging {
 fn violated(table: &[u8], k: u8, values: &[u8], flags: &[u8]) -> bool
     requires lawful { Lawful table.now }
     requires placed { Placed table.now k values.now flags.now }
-    ensures { result ≡ violatedBy (problemIn table.now) flags.now k values.now }
+    ensures { result ≡ violated_by (problem_in table.now) flags.now k values.now }
 {
     if holding(table, k, values, flags) < table[144 + 56 * (k as usize)] {
         return false;
@@ -34,7 +34,7 @@ fn violated(table: &[u8], k: u8, values: &[u8], flags: &[u8]) -> bool
 fn check_clause(table: &[u8], k: u8, flags: &[u8]) -> Judging
     requires lawful { Lawful table.now }
     requires k_bound { (k < get_or table.now 2 0) × (1024 ≤ length flags.now) }
-    ensures { result ≡ clauseCheck (problemIn table.now) flags.now k }
+    ensures { result ≡ clause_check (problem_in table.now) flags.now k }
 {
     let at = 144 + 56 * (k as usize);
     let c = table[0];
@@ -56,7 +56,7 @@ fn check_clause(table: &[u8], k: u8, flags: &[u8]) -> Judging
 fn check_clauses(table: &[u8], flags: &[u8]) -> Judging
     requires lawful { Lawful table.now }
     requires in_bounds { 1024 ≤ length flags.now }
-    ensures { result ≡ checkOf (problemIn table.now) flags.now }
+    ensures { result ≡ check_of (problem_in table.now) flags.now }
 {
     let count = table[2];
     let mut k: u8 = 0;
@@ -104,7 +104,7 @@ pub fn refused(table: &[u8], answer: &[u8]) -> u8
 
 // Judges an answer by a lent table.
 pub fn judge(table: &[u8], answer: &[u8]) -> Judging
-    ensures { result ≡ judgeResult table.now answer.now }
+    ensures { result ≡ judge_result table.now answer.now }
 {
     let e = refused(table, answer);
     if 0 < e {

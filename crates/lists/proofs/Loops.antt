@@ -21,11 +21,11 @@ copy_more s d i h l =
 pub copy_done : (s d : List ℕ) (i : ℕ) → i ≡ length s → take i s ++ drop i d ≡ s ++ drop (length s) d
 copy_done s d i e = rw (e, take-length)
 
-pub same-apart : (a b : List ℕ) → (length a ≡ length b → ⊥) → same_list a b ≡ false
-same-apart [] [] h = absurd (h refl)
-same-apart [] (y ∷ b) h = refl
-same-apart (x ∷ a) [] h = refl
-same-apart (x ∷ a) (y ∷ b) h = rw (same-apart a b (λ e. h (ap suc e))) (and-false (eqb x y))
+pub same_apart : (a b : List ℕ) → (length a ≡ length b → ⊥) → same_list a b ≡ false
+same_apart [] [] h = absurd (h refl)
+same_apart [] (y ∷ b) h = refl
+same_apart (x ∷ a) [] h = refl
+same_apart (x ∷ a) (y ∷ b) h = rw (same_apart a b (λ e. h (ap suc e))) (and-false (eqb x y))
 
 -- a turn keeps what the bytes passed and the rest decide together
 module _ (a b : List ℕ) (i : ℕ) (ha : i < length a) (hb : i < length b) (all now : Bool) where
@@ -35,5 +35,5 @@ module _ (a b : List ℕ) (i : ℕ) (ha : i < length a) (hb : i < length b) (all
   pub same_differs : (get_or a i 0 ≡ get_or b i 0 → ⊥) → now ≡ false → (all && same_list (drop i a) (drop i b)) ≡ (now && same_list (drop (i + 1) a) (drop (i + 1) b))
   same_differs n s = rw (s, drop-cons a i 0, drop-cons b i 0, ne_eqb (get_or a i 0) (get_or b i 0) n) (and-false all)
 
-pub same-done : (a b : List ℕ) (i : ℕ) (all : Bool) → i ≡ length a → length a ≡ length b → (all && same_list (drop i a) (drop i b)) ≡ all
-same-done a b i all e l = rw (e, drop-length a, l, drop-length b) (and-true all)
+pub same_done : (a b : List ℕ) (i : ℕ) (all : Bool) → i ≡ length a → length a ≡ length b → (all && same_list (drop i a) (drop i b)) ≡ all
+same_done a b i all e l = rw (e, drop-length a, l, drop-length b) (and-true all)

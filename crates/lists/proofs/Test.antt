@@ -24,28 +24,28 @@ decided true = inl tt
 decided false = inr tt
 
 -- two numbers are equal or not
-pub same-or-other : (a b : ℕ) → (a ≡ b) ⊎ (a ≡ b → ⊥)
-same-or-other a b = go (eqb a b) refl
+pub same_or_other : (a b : ℕ) → (a ≡ b) ⊎ (a ≡ b → ⊥)
+same_or_other a b = go (eqb a b) refl
   where
     go : (t : Bool) → eqb a b ≡ t → (a ≡ b) ⊎ (a ≡ b → ⊥)
     go true e = inl (eqb-true a b e)
     go false e = inr (eqb-false a b e)
 
 -- a number is below another or not
-pub lt-or-le : (a b : ℕ) → (a < b) ⊎ (b ≤ a)
-lt-or-le a b = go (ltb a b) refl
+pub lt_or_le : (a b : ℕ) → (a < b) ⊎ (b ≤ a)
+lt_or_le a b = go (ltb a b) refl
   where
     go : (t : Bool) → ltb a b ≡ t → (a < b) ⊎ (b ≤ a)
     go true e = inl (ltb-true a b e)
     go false e = inr (ltb-false a b e)
 
-pub T_true : (b : Bool) → T b → b ≡ true
-T_true true p = refl
-T_true false p = absurd p
+pub T-true : (b : Bool) → T b → b ≡ true
+T-true true p = refl
+T-true false p = absurd p
 
-pub T_false : (b : Bool) → T (not b) → b ≡ false
-T_false true p = absurd p
-T_false false p = refl
+pub T-false : (b : Bool) → T (not b) → b ≡ false
+T-false true p = absurd p
+T-false false p = refl
 
 pub fails : (b : Bool) → (T b → ⊥) → T (not b)
 fails true f = f tt

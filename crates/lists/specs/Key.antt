@@ -5,8 +5,8 @@ use Rattle.std.proofs.Math.Dec.{eqb_refl}
 
 pub record Key (K : Type 0) : Type 0 where
   pub same : K → K → Bool
-  pub same-eq : (x y : K) → T (same x y) → x ≡ y
+  pub same_eq : (x y : K) → T (same x y) → x ≡ y
   pub same_refl : (x : K) → T (same x x)
 
-abbrev pub natKey : Key ℕ
-natKey = record { same = eqb; same-eq = eqb→eq; same_refl = eqb_refl }
+abbrev pub nat_key : Key ℕ
+nat_key = record { same = eqb; same_eq = eqb→eq; same_refl = eqb_refl }

@@ -6,4 +6,4 @@ pub mod Bytes
 pub mod Digits
 pub mod Powers
 pub mod Claims
-pub mod contracts
+pub mod terms

@@ -92,19 +92,19 @@ module _ {M : Type 1} {𝓤 : Ura M} (𝓛 : Logic 𝓤) where
 module _ {M : Type 1} {𝓤 : Ura M} {𝓛 : Logic 𝓤} {K : Type 0} where
   open 𝓛 use {H}
 
-  allocs-all : K → (ls : List Local) (Γ : List (Item 𝓤)) (Kt : Env 𝓤 H → Goal 𝓤 H) → ((bs : Blocks ls) → Seq K 𝓛 (rooms 𝓛 (made 𝓛 ls bs) ++ Γ) (Kt (made 𝓛 ls bs))) → Seq K 𝓛 Γ (allocs ls Kt)
-  allocs-all t [] Γ Kt k = alloc0 t $ k tt
-  allocs-all t (local τ h ∷ ls) Γ Kt k =
-      alloc1 t (λ b. allocs-all t ls (‵ (froom τ b 0) ∷ ‵ (fdies τ b) ∷ Γ) (λ E. Kt ((τ, b) ∷ E)) (λ bs.
+  allocs_all : K → (ls : List Local) (Γ : List (Item 𝓤)) (Kt : Env 𝓤 H → Goal 𝓤 H) → ((bs : Blocks ls) → Seq K 𝓛 (rooms 𝓛 (made 𝓛 ls bs) ++ Γ) (Kt (made 𝓛 ls bs))) → Seq K 𝓛 Γ (allocs ls Kt)
+  allocs_all t [] Γ Kt k = alloc0 t $ k tt
+  allocs_all t (local τ h ∷ ls) Γ Kt k =
+      alloc1 t (λ b. allocs_all t ls (‵ (froom τ b 0) ∷ ‵ (fdies τ b) ∷ Γ) (λ E. Kt ((τ, b) ∷ E)) (λ bs.
       by t (via 𝓤 (⋆ 𝓛 (rooms 𝓛 (made 𝓛 (local τ h ∷ ls) (b, bs)) ++ Γ)) (rises 𝓛 (rooms 𝓛 (made 𝓛 ls bs)) (‵ (froom τ b 0)) (‵ (fdies τ b)) Γ) (k (b, bs)).prf)))
 
-  passes-all : K → (E : Env 𝓤 H) (vs : List Val) (Γ : List (Item 𝓤)) (g : Goal 𝓤 H) → WellTyped 𝓛 E vs → Seq K 𝓛 (filled 𝓛 E vs ++ Γ) g → Seq K 𝓛 (rooms 𝓛 E ++ Γ) (passes E vs g)
-  passes-all t E [] Γ g fits s = pass0 t $ s
-  passes-all t [] (v ∷ vs) Γ g fits s = absurd fits
-  passes-all t (e ∷ E) (v ∷ vs) Γ g fits s =
+  passes_all : K → (E : Env 𝓤 H) (vs : List Val) (Γ : List (Item 𝓤)) (g : Goal 𝓤 H) → WellTyped 𝓛 E vs → Seq K 𝓛 (filled 𝓛 E vs ++ Γ) g → Seq K 𝓛 (rooms 𝓛 E ++ Γ) (passes E vs g)
+  passes_all t E [] Γ g fits s = pass0 t $ s
+  passes_all t [] (v ∷ vs) Γ g fits s = absurd fits
+  passes_all t (e ∷ E) (v ∷ vs) Γ g fits s =
       pass1 t (init t 0 refl fits.0) $
       by t (via 𝓤 (⋆ 𝓛 (rooms 𝓛 E ++ (‵ (fat full_share e.0 e.1 0 v) ∷ ‵ (fdies e.0 e.1) ∷ Γ))) (sinks 𝓛 (rooms 𝓛 E) (‵ (fat full_share e.0 e.1 0 v)) (‵ (fdies e.0 e.1)) Γ)
-      (passes-all t E vs (‵ (fat full_share e.0 e.1 0 v) ∷ ‵ (fdies e.0 e.1) ∷ Γ) g fits.1
+      (passes_all t E vs (‵ (fat full_share e.0 e.1 0 v) ∷ ‵ (fdies e.0 e.1) ∷ Γ) g fits.1
       (by t (via 𝓤 (⋆ 𝓛 (filled 𝓛 (e ∷ E) (v ∷ vs) ++ Γ)) (rises 𝓛 (filled 𝓛 E vs) (‵ (fat full_share e.0 e.1 0 v)) (‵ (fdies e.0 e.1)) Γ) s.prf))).prf)
 
   frees_all : K → (E : Env 𝓤 H) (vs : Values 𝓛 E) (Γ : List (Item 𝓤)) (g : Goal 𝓤 H) → Seq K 𝓛 Γ g → Seq K 𝓛 (held 𝓛 E vs ++ Γ) (frees E g)
@@ -116,9 +116,9 @@ module _ {M : Type 1} {𝓤 : Ura M} {𝓛 : Logic 𝓤} {K : Type 0} where
       → ((bs : Blocks (l ∷ ls)) → Seq K 𝓛 (Γ ++ entered 𝓛 (made 𝓛 (l ∷ ls) bs) vs) (runs C Λ (made 𝓛 (l ∷ ls) bs) f.body (at_ret (made 𝓛 (l ∷ ls) bs) Kf))) → Seq K 𝓛 Γ (prop (WpFn 𝓤 H C Λ f vs Kf))
   enters t C Λ f l ls vs Kf Γ e fits k =
       enter t C Λ f vs Kf $
-      subst (λ (ms : List Local). Seq K 𝓛 Γ (allocs ms Kt)) (sym e) (allocs-all t (l ∷ ls) Γ Kt (λ bs. params1 t $
+      subst (λ (ms : List Local). Seq K 𝓛 Γ (allocs ms Kt)) (sym e) (allocs_all t (l ∷ ls) Γ Kt (λ bs. params1 t $
       by t (via 𝓤 (⋆ 𝓛 (rooms 𝓛 (made 𝓛 ls bs.1) ++ (room bs ∷ dies bs ∷ Γ))) (sinks 𝓛 (rooms 𝓛 (made 𝓛 ls bs.1)) (room bs) (dies bs) Γ)
-      (passes-all t (made 𝓛 ls bs.1) vs (room bs ∷ dies bs ∷ Γ) (runs C Λ (made 𝓛 (l ∷ ls) bs) f.body (at_ret (made 𝓛 (l ∷ ls) bs) Kf)) (fits bs.1)
+      (passes_all t (made 𝓛 ls bs.1) vs (room bs ∷ dies bs ∷ Γ) (runs C Λ (made 𝓛 (l ∷ ls) bs) f.body (at_ret (made 𝓛 (l ∷ ls) bs) Kf)) (fits bs.1)
       (by t (via 𝓤 (⋆ 𝓛 (room bs ∷ dies bs ∷ (filled 𝓛 (made 𝓛 ls bs.1) vs ++ Γ))) (rises 𝓛 (filled 𝓛 (made 𝓛 ls bs.1) vs) (room bs) (dies bs) Γ)
       (via 𝓤 (⋆ 𝓛 (Γ ++ entered 𝓛 (made 𝓛 (l ∷ ls) bs) vs)) (trade 𝓛 (entered 𝓛 (made 𝓛 (l ∷ ls) bs) vs) Γ) (k bs).prf)))).prf)))
     where
@@ -146,15 +146,15 @@ holding 𝓛 k i τ b v Γ = put 𝓛 (past k (i + i)) (‵ (fat full_share τ b
 
 module _ {M : Type 1} {𝓤 : Ura M} {𝓛 : Logic 𝓤} {K : Type 0} {Γ : List (Item 𝓤)} where
   -- a part of entry n is read
-  pub look-part : K → (n : ℕ) {i : Item 𝓤} {q : Share} {τ : Ty} {b o : ℕ} {v : Val} {back : Val → Item 𝓤} → nth 𝓛 n Γ ≡ i → Part K 𝓛 i q τ b o v back → Reads K 𝓛 Γ τ b o v
-  look-part t n {i} {q} {τ} {b} {o} {v} {back} e p = look_in t n (subst (λ (it : Item 𝓤). Part K 𝓛 it q τ b o v back) (sym e) p)
+  pub look_part : K → (n : ℕ) {i : Item 𝓤} {q : Share} {τ : Ty} {b o : ℕ} {v : Val} {back : Val → Item 𝓤} → nth 𝓛 n Γ ≡ i → Part K 𝓛 i q τ b o v back → Reads K 𝓛 Γ τ b o v
+  look_part t n {i} {q} {τ} {b} {o} {v} {back} e p = look_in t n (subst (λ (it : Item 𝓤). Part K 𝓛 it q τ b o v back) (sym e) p)
 
 module _ {M : Type 1} {𝓤 : Ura M} {𝓛 : Logic 𝓤} {K : Type 0} {Γ : List (Item 𝓤)} {E : Env 𝓤 𝓛.H} where
   -- a place, from where its local stands
   open 𝓛 use {H}
 
-  pub from-spot : K → {i : ℕ} {st : List PStep} {sp sp' : Spot 𝓤 H} → spot_of 𝓤 H E i ≡ sp → Walks K 𝓛 Γ E sp st sp' → Finds K 𝓛 Γ E (place i st) sp'
-  from-spot t {i} {st} {sp} {sp'} e w = from t (subst (λ (s : Spot 𝓤 H). Walks K 𝓛 Γ E s st sp') (sym e) w)
+  pub from_spot : K → {i : ℕ} {st : List PStep} {sp sp' : Spot 𝓤 H} → spot_of 𝓤 H E i ≡ sp → Walks K 𝓛 Γ E sp st sp' → Finds K 𝓛 Γ E (place i st) sp'
+  from_spot t {i} {st} {sp} {sp'} e w = from t (subst (λ (s : Spot 𝓤 H). Walks K 𝓛 Γ E s st sp') (sym e) w)
 
   -- a local is read whole
   pub copied : K → (k : ℕ) {i : ℕ} {q : Share} {v : Val} → nth 𝓛 (past k (i + i)) Γ ≡ ‵ (fat q (spot_of 𝓤 H E i).0 (spot_of 𝓤 H E i).1 0 v) → Opd K 𝓛 Γ E (copy (place i [])) v
@@ -173,6 +173,6 @@ module _ {M : Type 1} {𝓤 : Ura M} {𝓛 : Logic 𝓤} {K : Type 0} {Γ : List
       → Step K 𝓛 (holding 𝓛 k l (slice_ty (ty_ref ℓ₃ mut σ₃)) b₃ (slice_val p m) (holding 𝓛 k j (ty_ref ℓ₂ mut σ₂) b₂ (vptr p.0 p.1) Γ)) (runs C Λ E rest post)
       Γ (runs C Λ E (seq (assign (place j []) (addr_of (place i (field 0 ∷ deref τ ∷ [])))) (seq (assign (place l []) (aggregate (copy (place j []) ∷ copy (place i (field 1 ∷ [])) ∷ []))) rest)) post)
   relends t k {i} {j} {l} spots before after fits = step (λ s.
-      assigns t (addr t (from-spot t (λ x. (spots x).0) (fld t refl (hop t (look-part t (past k (i + i)) (λ x. (before x).0) (sub t 0 refl (whole t))) (stop t))))) (from-spot t (λ x. (spots x).1) (stop t)) (init t (past k (j + j)) (λ x. (before x).1) (tt, tt)) $
-      assigns t (agg t (and_then t (load t (from-spot t (λ x. (spots x).1) (stop t)) (look t (past k (j + j)) (λ x. (after x).1))) (and_then t (load t (from-spot t (λ x. (spots x).0) (fld t refl (stop t))) (look-part t (past k (i + i)) (λ x. (after x).0) (sub t 1 refl (whole t)))) (no_more t))))
-      (from-spot t (λ x. (spots x).2) (stop t)) (init t (past k (l + l)) (λ x. (after x).2) (tt, (tt, (record { fits = fits }, tt)))) $ s)
+      assigns t (addr t (from_spot t (λ x. (spots x).0) (fld t refl (hop t (look_part t (past k (i + i)) (λ x. (before x).0) (sub t 0 refl (whole t))) (stop t))))) (from_spot t (λ x. (spots x).1) (stop t)) (init t (past k (j + j)) (λ x. (before x).1) (tt, tt)) $
+      assigns t (agg t (and_then t (load t (from_spot t (λ x. (spots x).1) (stop t)) (look t (past k (j + j)) (λ x. (after x).1))) (and_then t (load t (from_spot t (λ x. (spots x).0) (fld t refl (stop t))) (look_part t (past k (i + i)) (λ x. (after x).0) (sub t 1 refl (whole t)))) (no_more t))))
+      (from_spot t (λ x. (spots x).2) (stop t)) (init t (past k (l + l)) (λ x. (after x).2) (tt, (tt, (record { fits = fits }, tt)))) $ s)

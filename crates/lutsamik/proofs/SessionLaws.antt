@@ -51,7 +51,7 @@ use Rattle.session.proofs.record.Session.TheLaws as S'
 use Rattle.lutsamik.specs.declared.calls.Returned.{Returned}
 use Rattle.lutsamik.specs.contracts.calls.Returned as T
 use Rattle.lutsamik.proofs.calls.Returned.TheLaws as T'
-use Rattle.lutsamik.proofs.LocalLaws.{past, result, others, Blocks, made, entered, WellTyped, Values, held, enters, leaves, from-spot, look-part}
+use Rattle.lutsamik.proofs.LocalLaws.{past, result, others, Blocks, made, entered, WellTyped, Values, held, enters, leaves, from_spot, look_part}
 
 -- ---- a parameter that is handed on
 pub record Passed (n : ℕ) : Type 2 where
@@ -128,15 +128,15 @@ module _ {M : Type 1} {𝓤 : Ura M} (𝓛 : Logic 𝓤) {n : ℕ} where
   had κs (p ∷ ps) a ws vss = mono_r 𝓤 (sem 𝓛 (left ((p.slot.row κs).exit yes) a.0 ws.0)) (had κs ps a.1 ws.1 vss.1)
 
 -- ---- a session's machine values
-abbrev pub session-vals : Session → List Val
-session-vals = LL.vals S.the_type S'.the_laws
+abbrev pub session_vals : Session → List Val
+session_vals = LL.vals S.the_type S'.the_laws
 
 -- what whoever holds a `Returned` knows of its fields
-returned-session : (r : Returned) (vs : List Val) → Is T.the_row r vs → Is S.the_row r.session (session-vals r.session)
-returned-session r vs is = (LL.owed T.the_type T'.the_laws r vs is).0
+Returned-session : (r : Returned) (vs : List Val) → Is T.the_row r vs → Is S.the_row r.session (session_vals r.session)
+Returned-session r vs is = (LL.owed T.the_type T'.the_laws r vs is).0
 
-returned-number : (r : Returned) (vs : List Val) → Is T.the_row r vs → r.number < 2 ^ 64
-returned-number r vs is = (LL.owed T.the_type T'.the_laws r vs is).1.0.1
+Returned-number : (r : Returned) (vs : List Val) → Is T.the_row r vs → r.number < 2 ^ 64
+Returned-number r vs is = (LL.owed T.the_type T'.the_laws r vs is).1.0.1
 
 -- ---- the function: n lifetimes beside the session's
 module _ (n : ℕ) (ps : List (Passed (suc n))) where
@@ -182,7 +182,7 @@ module _ (n : ℕ) (ps : List (Passed (suc n))) where
 
       -- what the walk has before the call: that, what the callee is handed, and the locals
       abbrev pub Ready : List (Item 𝓤) → List (Item 𝓤)
-      Ready Γ = raw Tokens ∷ ‵ ((S.the_row).own_val a.0.now (session-vals a.0.now)) ∷ ‵ Owned ∷ Opened Γ
+      Ready Γ = raw Tokens ∷ ‵ ((S.the_row).own_val a.0.now (session_vals a.0.now)) ∷ ‵ Owned ∷ Opened Γ
 
       exits : (r : Returned) → r.number < 2 ^ 64 → ent 𝓤 (⋆ 𝓛 (Closed r)) (Post (vint w64 r.number))
       exits r fits =
@@ -194,12 +194,12 @@ module _ (n : ℕ) (ps : List (Passed (suc n))) where
           owned ! u64 (Is u64) (uint_Makes 𝓛 w64) r.number (vint w64 r.number ∷ []) (refl, fits) $ move ! (1 ∷ 0 ∷ []) $ join ! $ move ! (2 ∷ 3 ∷ []) $ join ! $ join ! $ frame ! $ done !)
 
       -- the session is copied into the local s
-      pub takes : {K : Type 0} → K → {E : Env 𝓤 H} {q : Ending 𝓤 H} {Γ : List (Item 𝓤)} {rest : Code} {i s l : ℕ} → Is S.the_row a.0.now (session-vals a.0.now)
+      pub takes : {K : Type 0} → K → {E : Env 𝓤 H} {q : Ending 𝓤 H} {Γ : List (Item 𝓤)} {rest : Code} {i s l : ℕ} → Is S.the_row a.0.now (session_vals a.0.now)
           → nth 𝓛 (i + i) Γ ≡ ‵ (fat full_share (spot_of 𝓤 H E i).0 (spot_of 𝓤 H E i).1 0 (vptr a.0.ptr.0 a.0.ptr.1)) → spot_of 𝓤 H E s ≡ (S'.mir, l, 0) → nth 𝓛 (s + s) Γ ≡ ‵ (froom S'.mir l 0)
           → Seq K 𝓛 (Ready (put 𝓛 (s + s) (‵ (fat full_share S'.mir l 0 (LL.val S.the_type S'.the_laws a.0.now))) Γ)) (runs 𝓣.C 𝓣.Λ E rest q)
           → Seq K 𝓛 (Ready Γ) (runs 𝓣.C 𝓣.Λ E (seq (assign (place s []) (rv_opd (copy (place i (deref S'.mir ∷ []))))) rest) q)
-      takes t {i = i} {s = s} was at_i at-s room k =
-          assigns t (of_opd t (load t (from t (hop t (look t (past 7 (i + i)) at_i) (stop t))) (look_raw t 3 refl))) (from-spot t at-s (stop t))
+      takes t {i = i} {s = s} was at_i at_s room k =
+          assigns t (of_opd t (load t (from t (hop t (look t (past 7 (i + i)) at_i) (stop t))) (look_raw t 3 refl))) (from_spot t at_s (stop t))
           (init t (past 7 (s + s)) room ((LL.lawful S.the_type S'.the_laws 𝓛).typed a.0.now _ was).0) $ k
 
       -- the locals from the result on: the session's reference is local 1, and every other has a value but the result
@@ -216,33 +216,33 @@ module _ (n : ℕ) (ps : List (Passed (suc n))) where
       stores : {K : Type 0} → K → {l₀ l₁ : ℕ} {τ : Ty} {E : Env 𝓤 H} {d l : ℕ} (r : Returned) (vs : Values 𝓛 E) → Is T.the_row r (LL.vals T.the_type T'.the_laws r) → spot_of 𝓤 H (Locals l₀ l₁ τ E) d ≡ (T'.mir, l, 0)
           → nth 𝓛 (d + d) (Filled l₀ l₁ τ E vs) ≡ ‵ (fat full_share T'.mir l 0 (LL.val T.the_type T'.the_laws r))
           → Seq K 𝓛 (raw Tokens ∷ raw (Ensured r) ∷ Opened (Filled l₀ l₁ τ E vs)) (runs 𝓣.C 𝓣.Λ (Locals l₀ l₁ τ E) (After d) (at_ret (Locals l₀ l₁ τ E) Post))
-      stores t {l₀} {l₁} {τ} {E} {d} r vs is at-d cell =
-          let put_back = returned-session r _ is in
-          let fits = returned-number r _ is in
-          assigns t (of_opd t (load t (from-spot t at-d (fld t refl (stop t))) (look-part t (past 6 (d + d)) cell (sub t 0 refl (whole t))))) (from t (hop t (look t 8 refl) (stop t)))
+      stores t {l₀} {l₁} {τ} {E} {d} r vs is at_d cell =
+          let put_back = Returned-session r _ is in
+          let fits = Returned-number r _ is in
+          assigns t (of_opd t (load t (from_spot t at_d (fld t refl (stop t))) (look_part t (past 6 (d + d)) cell (sub t 0 refl (whole t))))) (from t (hop t (look t 8 refl) (stop t)))
           (store_raw t 2 refl ((LL.lawful S.the_type S'.the_laws 𝓛).typed r.session _ put_back).0) $
-          assigns t (of_opd t (load t (from-spot t at-d (fld t refl (stop t))) (look-part t (past 6 (d + d)) cell (sub t 1 refl (whole t))))) (from t (stop t)) (init t 6 refl (tt, record { fits = fits })) $
-          owned t S.the_row (Is S.the_row) (LL.makes S.the_type S'.the_plain 𝓛) r.session (session-vals r.session) put_back $
-          move t (3 ∷ 0 ∷ 4 ∷ 5 ∷ 6 ∷ []) $ closes t tt S.the_row r.session (session-vals r.session) a.0.ptr.0 a.0.ptr.1 $
+          assigns t (of_opd t (load t (from_spot t at_d (fld t refl (stop t))) (look_part t (past 6 (d + d)) cell (sub t 1 refl (whole t))))) (from t (stop t)) (init t 6 refl (tt, record { fits = fits })) $
+          owned t S.the_row (Is S.the_row) (LL.makes S.the_type S'.the_plain 𝓛) r.session (session_vals r.session) put_back $
+          move t (3 ∷ 0 ∷ 4 ∷ 5 ∷ 6 ∷ []) $ closes t tt S.the_row r.session (session_vals r.session) a.0.ptr.0 a.0.ptr.1 $
           returns t (look t 5 refl) $ leaves t (Closed r) (Locals l₀ l₁ τ E) (vint w64 r.number, (vptr a.0.ptr.0 a.0.ptr.1, vs)) _ (by t (exits r fits))
 
       -- the callee is called at the other lifetimes and shares, with the session and the other parameters
       pub turns : {K : Type 0} → K → {l₀ l₁ : ℕ} {τ : Ty} {E : Env 𝓤 H} {d l : ℕ} {f : Name} {xs : List Operand} {Γ : List (Item 𝓤)} (inner : Contract 𝓤) → Triple 𝓤 (𝓣.C f) inner → (y : inner.Ghost) (vs : Returned → Values 𝓛 E)
-          → ent 𝓤 (sep 𝓤 (sep 𝓤 Tokens (sep 𝓤 (sem 𝓛 ((S.the_row).own_val a.0.now (session-vals a.0.now))) (sem 𝓛 Owned))) (emp 𝓤)) (inner.pre y)
+          → ent 𝓤 (sep 𝓤 (sep 𝓤 Tokens (sep 𝓤 (sem 𝓛 ((S.the_row).own_val a.0.now (session_vals a.0.now))) (sem 𝓛 Owned))) (emp 𝓤)) (inner.pre y)
           → ((v : Val) → ent 𝓤 (inner.post y v) (H.⇛ (ex 𝓤 (λ (r : Returned). sep 𝓤 (sep 𝓤 Tokens (sem 𝓛 ((T.the_row).own_val r (v ∷ [])))) (Ensured r)))))
           → Opds K 𝓛 (raw (inner.pre y) ∷ Opened Γ) (Locals l₀ l₁ τ E) xs (inner.args y) → spot_of 𝓤 H (Locals l₀ l₁ τ E) d ≡ (T'.mir, l, 0) → nth 𝓛 (d + d) Γ ≡ ‵ (froom T'.mir l 0)
           → ((r : Returned) → put 𝓛 (d + d) (‵ (fat full_share T'.mir l 0 (LL.val T.the_type T'.the_laws r))) Γ ≡ Filled l₀ l₁ τ E (vs r))
           → ((r : Returned) → nth 𝓛 (d + d) (Filled l₀ l₁ τ E (vs r)) ≡ ‵ (fat full_share T'.mir l 0 (LL.val T.the_type T'.the_laws r)))
           → Seq K 𝓛 (Ready Γ) (runs 𝓣.C 𝓣.Λ (Locals l₀ l₁ τ E) (seq (call f xs (place d [])) (After d)) (at_ret (Locals l₀ l₁ τ E) Post))
-      turns {K} t {l₀} {l₁} {τ} {E} {d} {l} {Γ = Γ} inner known y vs goes comes opds at-d room filled cell =
+      turns {K} t {l₀} {l₁} {τ} {E} {d} {l} {Γ = Γ} inner known y vs goes comes opds at_d room filled cell =
           use3 𝓛 (raw (inner.pre y)) (via 𝓤 _ (pop 𝓛 (raw _) []) goes) $ calls_at t (fm_of 𝓤 H 𝓛.laws 𝓣) inner known y opds (λ v.
           use1 𝓛 (later (some (λ (r : Returned). (raw Tokens ⊛ ‵ ((T.the_row).own_val r (v ∷ []))) ⊛ raw (Ensured r)))) (comes v) $ await t tt $ pick t (λ r. split t $ split t $ move t (1 ∷ []) $
           peeks t T.the_row (Is T.the_row) (shows 𝓛 T.the_row) r (v ∷ []) (λ is. drop t $
           let e = LL.tells T.the_type T'.the_laws r (v ∷ []) is in
           let is' = subst (Is T.the_row r) e is in
           regoal t (λ (u : Val). lands 𝓣.C 𝓣.Λ (Locals l₀ l₁ τ E) (place d []) u (After d) (at_ret (Locals l₀ l₁ τ E) Post)) (ap only e) refl $
-          land t (from-spot t at-d (stop t)) (init t (past 6 (d + d)) room ((LL.lawful T.the_type T'.the_laws 𝓛).typed r _ is').0) $
-          subst (λ (Δ : List (Item 𝓤)). Seq K 𝓛 (raw Tokens ∷ raw (Ensured r) ∷ Opened Δ) (runs 𝓣.C 𝓣.Λ (Locals l₀ l₁ τ E) (After d) (at_ret (Locals l₀ l₁ τ E) Post))) (sym (filled r)) (stores t {d = d} {l = l} r (vs r) is' at-d (cell r)))))
+          land t (from_spot t at_d (stop t)) (init t (past 6 (d + d)) room ((LL.lawful T.the_type T'.the_laws 𝓛).typed r _ is').0) $
+          subst (λ (Δ : List (Item 𝓤)). Seq K 𝓛 (raw Tokens ∷ raw (Ensured r) ∷ Opened Δ) (runs 𝓣.C 𝓣.Λ (Locals l₀ l₁ τ E) (After d) (at_ret (Locals l₀ l₁ τ E) Post))) (sym (filled r)) (stores t {d = d} {l = l} r (vs r) is' at_d (cell r)))))
 
     module _ (f : Fn) where
       abbrev Frame : Blocks (result f.locals ∷ others f.locals) → Env 𝓤 H
@@ -250,7 +250,7 @@ module _ (n : ℕ) (ps : List (Passed (suc n))) where
 
       abbrev pub Walk : Type 1
       Walk = (κs : Lfts (suc n)) (qs : Shares (suc n)) (a : Args ended.signature κs) (g : (c κs a).ghost) → Are (types_at (slots ps) κs) (Ises (types_at (slots ps) κs)) a.1 (vals κs a).1
-          → (bs : Blocks (result f.locals ∷ others f.locals)) → Is S.the_row a.0.now (session-vals a.0.now)
+          → (bs : Blocks (result f.locals ∷ others f.locals)) → Is S.the_row a.0.now (session_vals a.0.now)
           → Sq 𝓛 (Ready κs qs a g (entered 𝓛 (Frame bs) (flat (types_at ended.signature.params κs) (vals κs a)))) (runs 𝓣.C 𝓣.Λ (Frame bs) f.body (at_ret (Frame bs) (Post κs qs a g)))
 
       -- f's locals are the result's and others, of which the first are the parameters'
@@ -264,8 +264,8 @@ module _ (n : ℕ) (ps : List (Passed (suc n))) where
           (qed 𝓛 ((‵ (flft κs.0 qs.0) ⊛ raw (Tokens κs qs a g)) ∷ ‵ (owns (types_at ended.signature.params κs) a (vals κs a)) ∷ []) ∵
           enters ! 𝓣.C 𝓣.Λ f (result f.locals) (others f.locals) (flat (types_at ended.signature.params κs) (vals κs a)) (Post κs qs a g) _ e (fits κs a (all_Typed 𝓛 (types_at (slots ps) κs) (lawfuls 𝓛 κs ps) a.1 (vals κs a).1 are.1)) (λ bs.
           split ! $ move ! (2 ∷ []) $ fsplit ! $ fsplit3 ! $ drop ! $ move ! (0 ∷ 1 ∷ 3 ∷ []) $
-          opens ! tt S.the_row {h = a.0.now} a.0.ref_ptr.0 a.0.ref_ptr.1 (λ us. spelt ! S.the_row (Is S.the_row) (shows 𝓛 S.the_row) session-vals (LL.tells S.the_type S'.the_laws) full_share a.0.now us a.0.ref_ptr.0 a.0.ref_ptr.1 $
-          move ! (1 ∷ []) $ peeks ! S.the_row (Is S.the_row) (shows 𝓛 S.the_row) a.0.now (session-vals a.0.now) (λ was. move ! (6 ∷ 0 ∷ 5 ∷ []) $ walk κs qs a g are.1 bs was))))))
+          opens ! tt S.the_row {h = a.0.now} a.0.ref_ptr.0 a.0.ref_ptr.1 (λ us. spelt ! S.the_row (Is S.the_row) (shows 𝓛 S.the_row) session_vals (LL.tells S.the_type S'.the_laws) full_share a.0.now us a.0.ref_ptr.0 a.0.ref_ptr.1 $
+          move ! (1 ∷ []) $ peeks ! S.the_row (Is S.the_row) (shows 𝓛 S.the_row) a.0.now (session_vals a.0.now) (λ was. move ! (6 ∷ 0 ∷ 5 ∷ []) $ walk κs qs a g are.1 bs was))))))
 
 -- `Walk` of f at the clauses c, in every model, where the callee k meets its contract
 abbrev pub Walking : (n : ℕ) (ps : List (Passed (suc n))) → ((M : Type 1) (𝓤 : Ura M) (𝓛 : Logic 𝓤) → (Memory → SProp 𝓤) → (Routine → Fun 𝓤) → Clauses 𝓤 (ended n ps))

@@ -1,24 +1,24 @@
 -- Packing loses nothing: the number that an operation gives back, taken apart, is its answer. `proofs/Theorems.antt` proves `Theorems`.
 use Rattle.std.specs.Prelude.{ℕ, ◌<◌, Bool, List, ◌≡◌}
 use Rattle.problem.specs.Numbers.{Numbers}
-use Rattle.reading.specs.Read.{readResult}
-use Rattle.writing.specs.Write.{writeResult}
-use Rattle.offering.specs.Offer.{offerResult, setResult}
-use Rattle.judging.specs.ModelCheck.{judgeResult}
-use Rattle.judging.specs.Holding.{holdingResult}
-use Rattle.rewriting.specs.Rewrite.{rewriteResult}
+use Rattle.reading.specs.Read.{read_result}
+use Rattle.writing.specs.Write.{write_result}
+use Rattle.offering.specs.Offer.{offer_result, set_result}
+use Rattle.judging.specs.ModelCheck.{judge_result}
+use Rattle.judging.specs.Holding.{holding_result}
+use Rattle.rewriting.specs.Rewrite.{rewrite_result}
 use Rattle.ground.specs.declared.verdict.Verdict.{Verdict}
 use Rattle.session.specs.declared.record.Session.{Session as Record}
-use Rattle.session.specs.Calls.{verdictTold, deepestTold}
-use Rattle.relevancy.specs.Engine.{fitResult, fitDeepest}
+use Rattle.session.specs.Calls.{verdict_told, deepest_told}
+use Rattle.relevancy.specs.Engine.{fit_result, fit_deepest}
 use Rattle.relevancy.specs.Sessions.{resumed}
-use Rattle.staged.specs.Engine.{stagedResult}
-use Rattle.magic.specs.Engine.{magicResult, magicDeepest}
-use Rattle.magic.specs.Sessions.{magicResumed}
-use Rattle.assuming.specs.Assume.{assumedOf}
-use Rattle.assuming.specs.Engines.{relevancyRuns, magicRuns}
-use Rattle.parting.specs.Runs.{partsResult}
-use Rattle.lutsamik.specs.Pack.{packed, packReading, packWriting, packOffering, packJudging, packHolding, packVerdict, packStaged, packRewriting, packAssumed, packParting, unpacked, deepestOf, asReading, asWriting, asOffering, asJudging, asHolding, asVerdict, asRewriting, asAssumed, asParting}
+use Rattle.staged.specs.Engine.{staged_result}
+use Rattle.magic.specs.Engine.{magic_result, magic_deepest}
+use Rattle.magic.specs.Sessions.{magic_resumed}
+use Rattle.assuming.specs.Assume.{assumed_of}
+use Rattle.assuming.specs.Engines.{relevancy_runs, magic_runs}
+use Rattle.parting.specs.Runs.{parts_result}
+use Rattle.lutsamik.specs.Pack.{packed, pack_reading, pack_writing, pack_offering, pack_judging, pack_holding, pack_verdict, pack_staged, pack_rewriting, pack_assumed, pack_parting, unpacked, deepest_of, as_reading, as_writing, as_offering, as_judging, as_holding, as_verdict, as_rewriting, as_assumed, as_parting}
 
 -- numbers that have room in their bits
 pub record Narrow (a : Numbers) : Type 0 where
@@ -29,32 +29,32 @@ pub record Narrow (a : Numbers) : Type 0 where
 
 -- a verdict with its figure
 pub record VerdictBack (v : Verdict) (d : ℕ) : Type 0 where
-  pub verdict-back : asVerdict (unpacked (packVerdict v d)) ≡ v
-  pub deepest-back : deepestOf (packVerdict v d) ≡ d
+  pub verdict_back : as_verdict (unpacked (pack_verdict v d)) ≡ v
+  pub deepest_back : deepest_of (pack_verdict v d) ≡ d
 
 pub record Theorems : Type 0 where
-  pub parts-back : (a : Numbers) → Narrow a → unpacked (packed a) ≡ a
-  pub reading-back : (x tb : List ℕ) → asReading (unpacked (packReading (readResult x tb))) ≡ readResult x tb
-  pub writing-back : (tb out : List ℕ) → asWriting (unpacked (packWriting (writeResult tb out))) ≡ writeResult tb out
-  pub offer-back : (tb f slip : List ℕ) → asOffering (unpacked (packOffering (offerResult tb f slip))) ≡ offerResult tb f slip
-  pub set_back : (tb slip : List ℕ) → asOffering (unpacked (packOffering (setResult tb slip))) ≡ setResult tb slip
-  pub judging-back : (tb answer : List ℕ) → asJudging (unpacked (packJudging (judgeResult tb answer))) ≡ judgeResult tb answer
-  pub holding-back : (tb answer : List ℕ) (k a b c d : ℕ) → asHolding (unpacked (packHolding (holdingResult tb answer k a b c d))) ≡ holdingResult tb answer k a b c d
-  pub rewriting-back : (tb rules : List ℕ) → asRewriting (unpacked (packRewriting (rewriteResult tb rules))) ≡ rewriteResult tb rules
+  pub parts_back : (a : Numbers) → Narrow a → unpacked (packed a) ≡ a
+  pub reading_back : (x tb : List ℕ) → as_reading (unpacked (pack_reading (read_result x tb))) ≡ read_result x tb
+  pub writing_back : (tb out : List ℕ) → as_writing (unpacked (pack_writing (write_result tb out))) ≡ write_result tb out
+  pub offer_back : (tb f slip : List ℕ) → as_offering (unpacked (pack_offering (offer_result tb f slip))) ≡ offer_result tb f slip
+  pub set_back : (tb slip : List ℕ) → as_offering (unpacked (pack_offering (set_result tb slip))) ≡ set_result tb slip
+  pub judging_back : (tb answer : List ℕ) → as_judging (unpacked (pack_judging (judge_result tb answer))) ≡ judge_result tb answer
+  pub holding_back : (tb answer : List ℕ) (k a b c d : ℕ) → as_holding (unpacked (pack_holding (holding_result tb answer k a b c d))) ≡ holding_result tb answer k a b c d
+  pub rewriting_back : (tb rules : List ℕ) → as_rewriting (unpacked (pack_rewriting (rewrite_result tb rules))) ≡ rewrite_result tb rules
   -- an engine's verdict, and its deepest figure, which is 0 where it is refused
-  pub relevancy-back : (tb answer work : List ℕ) → VerdictBack (fitResult tb answer work) (fitDeepest tb answer work)
-  pub magic-back : (tb rules answer work : List ℕ) → VerdictBack (magicResult tb rules answer work) (magicDeepest tb rules answer work)
+  pub relevancy_back : (tb answer work : List ℕ) → VerdictBack (fit_result tb answer work) (fit_deepest tb answer work)
+  pub magic_back : (tb rules answer work : List ℕ) → VerdictBack (magic_result tb rules answer work) (magic_deepest tb rules answer work)
   -- the staged engine's verdict; the figure's bits are 0
-  pub staged-back : (tb answer work : List ℕ) → asVerdict (unpacked (packStaged (stagedResult tb answer work))) ≡ stagedResult tb answer work
-  pub staged-figureless : (tb answer work : List ℕ) → deepestOf (packStaged (stagedResult tb answer work)) ≡ 0
+  pub staged_back : (tb answer work : List ℕ) → as_verdict (unpacked (pack_staged (staged_result tb answer work))) ≡ staged_result tb answer work
+  pub staged_figureless : (tb answer work : List ℕ) → deepest_of (pack_staged (staged_result tb answer work)) ≡ 0
   -- the calls that go on with a session
-  pub relevancy-resumed-back : (r : Record) (further : ℕ) (tb answer work : List ℕ)
-      → VerdictBack (verdictTold (resumed r further tb answer work)) (deepestTold (resumed r further tb answer work))
-  pub magic-resumed-back : (r : Record) (further : ℕ) (tb rules answer work : List ℕ)
-      → VerdictBack (verdictTold (magicResumed r further tb rules answer work)) (deepestTold (magicResumed r further tb rules answer work))
+  pub relevancy_resumed_back : (r : Record) (further : ℕ) (tb answer work : List ℕ)
+      → VerdictBack (verdict_told (resumed r further tb answer work)) (deepest_told (resumed r further tb answer work))
+  pub magic_resumed_back : (r : Record) (further : ℕ) (tb rules answer work : List ℕ)
+      → VerdictBack (verdict_told (magic_resumed r further tb rules answer work)) (deepest_told (magic_resumed r further tb rules answer work))
   -- the calls with assumptions
-  pub relevancy-assumed-back : (tb facts answer work : List ℕ) → asAssumed (unpacked (packAssumed (assumedOf (relevancyRuns tb facts answer work)))) ≡ assumedOf (relevancyRuns tb facts answer work)
-  pub magic-assumed-back : (tb facts rules answer work : List ℕ)
-      → asAssumed (unpacked (packAssumed (assumedOf (magicRuns tb facts rules answer work)))) ≡ assumedOf (magicRuns tb facts rules answer work)
+  pub relevancy_assumed_back : (tb facts answer work : List ℕ) → as_assumed (unpacked (pack_assumed (assumed_of (relevancy_runs tb facts answer work)))) ≡ assumed_of (relevancy_runs tb facts answer work)
+  pub magic_assumed_back : (tb facts rules answer work : List ℕ)
+      → as_assumed (unpacked (pack_assumed (assumed_of (magic_runs tb facts rules answer work)))) ≡ assumed_of (magic_runs tb facts rules answer work)
   -- the calls by parts, of either engine, whether or not a lent buffer is too short
-  pub parted-back : (magic short : Bool) (tb : List ℕ) → asParting (unpacked (packParting (partsResult magic short tb))) ≡ partsResult magic short tb
+  pub parted_back : (magic short : Bool) (tb : List ℕ) → as_parting (unpacked (pack_parting (parts_result magic short tb))) ≡ parts_result magic short tb

@@ -5,128 +5,128 @@ use Rattle.lists.specs.Digits.{bytes_of}
 use Rattle.problem.specs.Numbers.{Numbers}
 use Rattle.reading.specs.declared.read.Reading.{Reading}
 use Rattle.reading.specs.declared.read.Reading.TheVariants as reading
-use Rattle.reading.specs.Read.{readingNumbers}
+use Rattle.reading.specs.Read.{reading_numbers}
 use Rattle.writing.specs.declared.write.Writing.{Writing}
 use Rattle.writing.specs.declared.write.Writing.TheVariants as writing
-use Rattle.writing.specs.Write.{writingNumbers}
+use Rattle.writing.specs.Write.{writing_numbers}
 use Rattle.offering.specs.declared.offer.Offering.{Offering}
 use Rattle.offering.specs.declared.offer.Offering.TheVariants as offering
-use Rattle.offering.specs.Offer.{offeringNumbers}
+use Rattle.offering.specs.Offer.{offering_numbers}
 use Rattle.judging.specs.declared.judge.Judging.{Judging}
 use Rattle.judging.specs.declared.judge.Judging.TheVariants as judging
-use Rattle.judging.specs.ModelCheck.{judgingNumbers}
+use Rattle.judging.specs.ModelCheck.{judging_numbers}
 use Rattle.judging.specs.declared.how_far.Holding.{Holding}
 use Rattle.judging.specs.declared.how_far.Holding.TheVariants as holding
-use Rattle.judging.specs.Holding.{holdingNumbers}
+use Rattle.judging.specs.Holding.{holding_numbers}
 use Rattle.rewriting.specs.declared.rewrite.Rewriting.{Rewriting}
 use Rattle.rewriting.specs.declared.rewrite.Rewriting.TheVariants as rewriting
-use Rattle.rewriting.specs.Rewrite.{rewritingNumbers}
+use Rattle.rewriting.specs.Rewrite.{rewriting_numbers}
 use Rattle.ground.specs.declared.verdict.Verdict.{Verdict}
 use Rattle.ground.specs.declared.verdict.Verdict.TheVariants as verdict
-use Rattle.ground.specs.Verdict.{verdictNumbers}
+use Rattle.ground.specs.Verdict.{verdict_numbers}
 use Rattle.assuming.specs.declared.assume.Assumed.{Assumed}
 use Rattle.assuming.specs.declared.assume.Assumed.TheVariants as assumed
-use Rattle.assuming.specs.Assume.{assumedNumbers}
+use Rattle.assuming.specs.Assume.{assumed_numbers}
 use Rattle.parting.specs.declared.parts.Parting.{Parting}
 use Rattle.parting.specs.declared.parts.Parting.TheVariants as parting
-use Rattle.parting.specs.Runs.{partingNumbers}
+use Rattle.parting.specs.Runs.{parting_numbers}
 
 abbrev pub packed : Numbers → ℕ
 packed a = a.refusal + 256 * a.number + 16777216 * a.clause + 4294967296 * a.value
 
-abbrev pub packReading : Reading → ℕ
-packReading r = packed (readingNumbers r)
+abbrev pub pack_reading : Reading → ℕ
+pack_reading r = packed (reading_numbers r)
 
-abbrev pub packWriting : Writing → ℕ
-packWriting w = packed (writingNumbers w)
+abbrev pub pack_writing : Writing → ℕ
+pack_writing w = packed (writing_numbers w)
 
-abbrev pub packOffering : Offering → ℕ
-packOffering o = packed (offeringNumbers o)
+abbrev pub pack_offering : Offering → ℕ
+pack_offering o = packed (offering_numbers o)
 
-abbrev pub packJudging : Judging → ℕ
-packJudging j = packed (judgingNumbers j)
+abbrev pub pack_judging : Judging → ℕ
+pack_judging j = packed (judging_numbers j)
 
-abbrev pub packHolding : Holding → ℕ
-packHolding h = packed (holdingNumbers h)
+abbrev pub pack_holding : Holding → ℕ
+pack_holding h = packed (holding_numbers h)
 
 -- the figure of a verdict's answer beside its numbers, which leave these bits free
-abbrev pub withDeepest : Numbers → ℕ → ℕ
-withDeepest a d = packed a + 65536 * (d % 65536)
+abbrev pub with_deepest : Numbers → ℕ → ℕ
+with_deepest a d = packed a + 65536 * (d % 65536)
 
-abbrev pub packVerdict : Verdict → ℕ → ℕ
-packVerdict (verdict.Refused e) d = packed (verdictNumbers (verdict.Refused e))
-packVerdict (verdict.Refuted n) d = withDeepest (verdictNumbers (verdict.Refuted n)) d
-packVerdict (verdict.Satisfied n) d = withDeepest (verdictNumbers (verdict.Satisfied n)) d
-packVerdict (verdict.Exhausted n) d = withDeepest (verdictNumbers (verdict.Exhausted n)) d
+abbrev pub pack_verdict : Verdict → ℕ → ℕ
+pack_verdict (verdict.Refused e) d = packed (verdict_numbers (verdict.Refused e))
+pack_verdict (verdict.Refuted n) d = with_deepest (verdict_numbers (verdict.Refuted n)) d
+pack_verdict (verdict.Satisfied n) d = with_deepest (verdict_numbers (verdict.Satisfied n)) d
+pack_verdict (verdict.Exhausted n) d = with_deepest (verdict_numbers (verdict.Exhausted n)) d
 
 -- a verdict without a figure: the staged engine's
-abbrev pub packStaged : Verdict → ℕ
-packStaged v = packed (verdictNumbers v)
+abbrev pub pack_staged : Verdict → ℕ
+pack_staged v = packed (verdict_numbers v)
 
-abbrev pub packRewriting : Rewriting → ℕ
-packRewriting r = packed (rewritingNumbers r)
+abbrev pub pack_rewriting : Rewriting → ℕ
+pack_rewriting r = packed (rewriting_numbers r)
 
-abbrev pub packAssumed : Assumed → ℕ
-packAssumed a = packed (assumedNumbers a)
+abbrev pub pack_assumed : Assumed → ℕ
+pack_assumed a = packed (assumed_numbers a)
 
 -- of the calls by parts; the sum of the counts goes into a lent number
-abbrev pub packParting : Parting → ℕ
-packParting p = packed (partingNumbers p)
+abbrev pub pack_parting : Parting → ℕ
+pack_parting p = packed (parting_numbers p)
 
 -- The parts of a number, as a host takes them out, and what they say
 abbrev pub unpacked : ℕ → Numbers
 unpacked n = record { refusal = n % 256; number = n / 256 % 256; clause = n / 16777216 % 256; value = n / 4294967296 % 4294967296 }
 
 -- the deepest figure of an engine's answer, as a host takes it out
-abbrev pub deepestOf : ℕ → ℕ
-deepestOf n = n / 65536 % 65536
+abbrev pub deepest_of : ℕ → ℕ
+deepest_of n = n / 65536 % 65536
 
-abbrev pub asReading : Numbers → Reading
-asReading a = cond (eqb a.refusal 0) reading.Accepted (reading.Refused a.refusal a.value)
+abbrev pub as_reading : Numbers → Reading
+as_reading a = cond (eqb a.refusal 0) reading.Accepted (reading.Refused a.refusal a.value)
 
-abbrev pub asWriting : Numbers → Writing
-asWriting a = cond (eqb a.refusal 0) (writing.Written a.value) (writing.Unwritten a.refusal)
+abbrev pub as_writing : Numbers → Writing
+as_writing a = cond (eqb a.refusal 0) (writing.Written a.value) (writing.Unwritten a.refusal)
 
-abbrev pub asOffering : Numbers → Offering
-asOffering a = cond (eqb a.refusal 0) offering.Done (offering.Refused a.refusal)
+abbrev pub as_offering : Numbers → Offering
+as_offering a = cond (eqb a.refusal 0) offering.Done (offering.Refused a.refusal)
 
 -- clause k with the values of 83, 82, 81 and 80
-abbrev pub violatedBy : ℕ → List ℕ → Judging
-violatedBy k values = judging.Violated k (get_or values 3 0) (get_or values 2 0) (get_or values 1 0) (get_or values 0 0)
+abbrev pub violated_by : ℕ → List ℕ → Judging
+violated_by k values = judging.Violated k (get_or values 3 0) (get_or values 2 0) (get_or values 1 0) (get_or values 0 0)
 
-abbrev pub asJudging : Numbers → Judging
-asJudging a =
+abbrev pub as_judging : Numbers → Judging
+as_judging a =
     cond (eqb a.refusal 0)
-    (cond (eqb a.number 1) judging.Model (violatedBy a.clause (bytes_of 4 a.value)))
+    (cond (eqb a.number 1) judging.Model (violated_by a.clause (bytes_of 4 a.value)))
     (judging.Unjudged a.refusal)
 
-abbrev pub asHolding : Numbers → Holding
-asHolding a = cond (eqb a.refusal 0) (holding.Held a.value) (holding.Unheld a.refusal)
+abbrev pub as_holding : Numbers → Holding
+as_holding a = cond (eqb a.refusal 0) (holding.Held a.value) (holding.Unheld a.refusal)
 
-abbrev pub verdictBy : ℕ → ℕ → Verdict
-verdictBy zero n = verdict.Refuted n
-verdictBy (suc zero) n = verdict.Satisfied n
-verdictBy (suc (suc k)) n = verdict.Exhausted n
+abbrev pub verdict_by : ℕ → ℕ → Verdict
+verdict_by zero n = verdict.Refuted n
+verdict_by (suc zero) n = verdict.Satisfied n
+verdict_by (suc (suc k)) n = verdict.Exhausted n
 
-abbrev pub asVerdict : Numbers → Verdict
-asVerdict a = cond (eqb a.refusal 0) (verdictBy a.number a.value) (verdict.Refused a.refusal)
+abbrev pub as_verdict : Numbers → Verdict
+as_verdict a = cond (eqb a.refusal 0) (verdict_by a.number a.value) (verdict.Refused a.refusal)
 
-abbrev pub asRewriting : Numbers → Rewriting
-asRewriting a = cond (eqb a.refusal 0) (rewriting.Rewritten a.value) (rewriting.Refused a.refusal)
+abbrev pub as_rewriting : Numbers → Rewriting
+as_rewriting a = cond (eqb a.refusal 0) (rewriting.Rewritten a.value) (rewriting.Refused a.refusal)
 
-abbrev pub assumedBy : ℕ → Assumed
-assumedBy zero = assumed.Always
-assumedBy (suc zero) = assumed.Never
-assumedBy (suc (suc zero)) = assumed.Exhausted
-assumedBy (suc (suc (suc k))) = assumed.Sometimes
+abbrev pub assumed_by : ℕ → Assumed
+assumed_by zero = assumed.Always
+assumed_by (suc zero) = assumed.Never
+assumed_by (suc (suc zero)) = assumed.Exhausted
+assumed_by (suc (suc (suc k))) = assumed.Sometimes
 
-abbrev pub asAssumed : Numbers → Assumed
-asAssumed a = cond (eqb a.refusal 0) (assumedBy a.number) (assumed.Refused a.refusal)
+abbrev pub as_assumed : Numbers → Assumed
+as_assumed a = cond (eqb a.refusal 0) (assumed_by a.number) (assumed.Refused a.refusal)
 
-abbrev pub partingBy : ℕ → Parting
-partingBy zero = parting.Refuted
-partingBy (suc zero) = parting.Satisfied
-partingBy (suc (suc k)) = parting.Exhausted
+abbrev pub parting_by : ℕ → Parting
+parting_by zero = parting.Refuted
+parting_by (suc zero) = parting.Satisfied
+parting_by (suc (suc k)) = parting.Exhausted
 
-abbrev pub asParting : Numbers → Parting
-asParting a = cond (eqb a.refusal 0) (partingBy a.number) (parting.Refused a.refusal)
+abbrev pub as_parting : Numbers → Parting
+as_parting a = cond (eqb a.refusal 0) (parting_by a.number) (parting.Refused a.refusal)

@@ -1,8 +1,8 @@
 // The calls with assumptions, for a host in C: the facts are lent as a slice of numbers, the two counts as numbers to write to.
 ghost use Rattle.std.specs.Prelude.{◌≡◌};
-ghost use Rattle.assuming.specs.Assume.{assumedOf, firstLeft, secondLeft, workLeft};
-ghost use Rattle.assuming.specs.Engines.{relevancyRuns, magicRuns, rulesLeft};
-ghost use Rattle.lutsamik.specs.Pack.{packAssumed};
+ghost use Rattle.assuming.specs.Assume.{assumed_of, first_left, second_left, work_left};
+ghost use Rattle.assuming.specs.Engines.{relevancy_runs, magic_runs, rules_left};
+ghost use Rattle.lutsamik.specs.Pack.{pack_assumed};
 
 use crate::packed;
 use assume_calls::by_magic::assume_magic;
@@ -10,7 +10,7 @@ use assume_calls::by_relevancy::assume_relevancy;
 use assuming::assume::Assumed;
 
 fn pack_assumed(a: Assumed) -> u64
-    ensures { result ≡ packAssumed a }
+    ensures { result ≡ pack_assumed a }
 {
     match a {
         Assumed::Refused(e) => packed(e, 0, 0, 0),
@@ -31,7 +31,7 @@ pub extern "C" fn lutsamik_assume_relevancy(
     answer: &[u8],
     work: &mut [u8],
 ) -> u64
-    ensures { (result ≡ packAssumed (assumedOf (relevancyRuns table.now facts.now answer.now work.old))) × (first.new ≡ firstLeft (relevancyRuns table.now facts.now answer.now work.old) first.old) × (second.new ≡ secondLeft (relevancyRuns table.now facts.now answer.now work.old) second.old) × (work.new ≡ workLeft (relevancyRuns table.now facts.now answer.now work.old) work.old) }
+    ensures { (result ≡ pack_assumed (assumed_of (relevancy_runs table.now facts.now answer.now work.old))) × (first.new ≡ first_left (relevancy_runs table.now facts.now answer.now work.old) first.old) × (second.new ≡ second_left (relevancy_runs table.now facts.now answer.now work.old) second.old) × (work.new ≡ work_left (relevancy_runs table.now facts.now answer.now work.old) work.old) }
 {
     pack_assumed(assume_relevancy(table, facts, first, second, answer, work))
 }
@@ -47,7 +47,7 @@ pub extern "C" fn lutsamik_assume_magic(
     answer: &[u8],
     work: &mut [u8],
 ) -> u64
-    ensures { (result ≡ packAssumed (assumedOf (magicRuns table.now facts.now rules.old answer.now work.old))) × (first.new ≡ firstLeft (magicRuns table.now facts.now rules.old answer.now work.old) first.old) × (second.new ≡ secondLeft (magicRuns table.now facts.now rules.old answer.now work.old) second.old) × (rules.new ≡ rulesLeft (magicRuns table.now facts.now rules.old answer.now work.old) table.now facts.now rules.old) × (work.new ≡ workLeft (magicRuns table.now facts.now rules.old answer.now work.old) work.old) }
+    ensures { (result ≡ pack_assumed (assumed_of (magic_runs table.now facts.now rules.old answer.now work.old))) × (first.new ≡ first_left (magic_runs table.now facts.now rules.old answer.now work.old) first.old) × (second.new ≡ second_left (magic_runs table.now facts.now rules.old answer.now work.old) second.old) × (rules.new ≡ rules_left (magic_runs table.now facts.now rules.old answer.now work.old) table.now facts.now rules.old) × (work.new ≡ work_left (magic_runs table.now facts.now rules.old answer.now work.old) work.old) }
 {
     pack_assumed(assume_magic(table, facts, first, second, rules, answer, work))
 }

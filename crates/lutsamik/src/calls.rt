@@ -1,11 +1,11 @@
 // The calls with a session, for a host in C: the session is a struct lent by address, and one number comes back.
 ghost use Rattle.std.specs.Prelude.{◌≡◌};
-ghost use Rattle.session.specs.Calls.{verdictTold, deepestTold, recordLeft, answerLeft, workLeft};
-ghost use Rattle.relevancy.specs.Engine.{fitResult, fitDeepest, fitAnswer, fitWork};
+ghost use Rattle.session.specs.Calls.{verdict_told, deepest_told, record_left, answer_left, work_left};
+ghost use Rattle.relevancy.specs.Engine.{fit_result, fit_deepest, fit_answer, fit_work};
 ghost use Rattle.relevancy.specs.Sessions.{begun, resumed};
-ghost use Rattle.magic.specs.Engine.{magicResult, magicDeepest, magicRules, magicAnswer, magicWork};
-ghost use Rattle.magic.specs.Sessions.{magicBegun, magicResumed, rulesLeft};
-ghost use Rattle.lutsamik.specs.Pack.{packVerdict};
+ghost use Rattle.magic.specs.Engine.{magic_result, magic_deepest, magic_rules, magic_answer, magic_work};
+ghost use Rattle.magic.specs.Sessions.{magic_begun, magic_resumed, rules_left};
+ghost use Rattle.lutsamik.specs.Pack.{pack_verdict};
 
 use crate::pack_verdict;
 use session::record::{Moved, Session};
@@ -18,7 +18,7 @@ pub struct Returned {
 }
 
 fn pack_moved(moved: Moved) -> Returned
-    ensures { (result.number ≡ packVerdict moved.verdict moved.session.deepest) × (result.session ≡ moved.session) }
+    ensures { (result.number ≡ pack_verdict moved.verdict moved.session.deepest) × (result.session ≡ moved.session) }
 {
     let session = moved.session;
     let verdict = moved.verdict;
@@ -30,7 +30,7 @@ fn pack_moved(moved: Moved) -> Returned
 }
 
 fn begin_relevancy(session: Session, table: &[u8], answer: &mut [u8], work: &mut [u8]) -> Returned
-    ensures { (result.number ≡ packVerdict (fitResult table.now answer.old work.old) (fitDeepest table.now answer.old work.old)) × (result.session ≡ recordLeft (begun table.now answer.old work.old) session) × (answer.new ≡ fitAnswer table.now answer.old work.old) × (work.new ≡ fitWork table.now answer.old work.old) }
+    ensures { (result.number ≡ pack_verdict (fit_result table.now answer.old work.old) (fit_deepest table.now answer.old work.old)) × (result.session ≡ record_left (begun table.now answer.old work.old) session) × (answer.new ≡ fit_answer table.now answer.old work.old) × (work.new ≡ fit_work table.now answer.old work.old) }
 {
     pack_moved(relevancy_calls::fit::begin(session, table, answer, work))
 }
@@ -42,7 +42,7 @@ fn resume_relevancy(
     answer: &mut [u8],
     work: &mut [u8],
 ) -> Returned
-    ensures { (result.number ≡ packVerdict (verdictTold (resumed session further table.now answer.old work.old)) (deepestTold (resumed session further table.now answer.old work.old))) × (result.session ≡ recordLeft (resumed session further table.now answer.old work.old) session) × (answer.new ≡ answerLeft (resumed session further table.now answer.old work.old) answer.old) × (work.new ≡ workLeft (resumed session further table.now answer.old work.old) work.old) }
+    ensures { (result.number ≡ pack_verdict (verdict_told (resumed session further table.now answer.old work.old)) (deepest_told (resumed session further table.now answer.old work.old))) × (result.session ≡ record_left (resumed session further table.now answer.old work.old) session) × (answer.new ≡ answer_left (resumed session further table.now answer.old work.old) answer.old) × (work.new ≡ work_left (resumed session further table.now answer.old work.old) work.old) }
 {
     pack_moved(relevancy_calls::fit::resume(session, further, table, answer, work))
 }
@@ -54,7 +54,7 @@ fn begin_magic(
     answer: &mut [u8],
     work: &mut [u8],
 ) -> Returned
-    ensures { (result.number ≡ packVerdict (magicResult table.now rules.old answer.old work.old) (magicDeepest table.now rules.old answer.old work.old)) × (result.session ≡ recordLeft (magicBegun table.now rules.old answer.old work.old) session) × (rules.new ≡ magicRules table.now rules.old answer.old work.old) × (answer.new ≡ magicAnswer table.now rules.old answer.old work.old) × (work.new ≡ magicWork table.now rules.old answer.old work.old) }
+    ensures { (result.number ≡ pack_verdict (magic_result table.now rules.old answer.old work.old) (magic_deepest table.now rules.old answer.old work.old)) × (result.session ≡ record_left (magic_begun table.now rules.old answer.old work.old) session) × (rules.new ≡ magic_rules table.now rules.old answer.old work.old) × (answer.new ≡ magic_answer table.now rules.old answer.old work.old) × (work.new ≡ magic_work table.now rules.old answer.old work.old) }
 {
     pack_moved(magic_calls::fit::begin(session, table, rules, answer, work))
 }
@@ -67,7 +67,7 @@ fn resume_magic(
     answer: &mut [u8],
     work: &mut [u8],
 ) -> Returned
-    ensures { (result.number ≡ packVerdict (verdictTold (magicResumed session further table.now rules.old answer.old work.old)) (deepestTold (magicResumed session further table.now rules.old answer.old work.old))) × (result.session ≡ recordLeft (magicResumed session further table.now rules.old answer.old work.old) session) × (rules.new ≡ rulesLeft (magicResumed session further table.now rules.old answer.old work.old) table.now rules.old) × (answer.new ≡ answerLeft (magicResumed session further table.now rules.old answer.old work.old) answer.old) × (work.new ≡ workLeft (magicResumed session further table.now rules.old answer.old work.old) work.old) }
+    ensures { (result.number ≡ pack_verdict (verdict_told (magic_resumed session further table.now rules.old answer.old work.old)) (deepest_told (magic_resumed session further table.now rules.old answer.old work.old))) × (result.session ≡ record_left (magic_resumed session further table.now rules.old answer.old work.old) session) × (rules.new ≡ rules_left (magic_resumed session further table.now rules.old answer.old work.old) table.now rules.old) × (answer.new ≡ answer_left (magic_resumed session further table.now rules.old answer.old work.old) answer.old) × (work.new ≡ work_left (magic_resumed session further table.now rules.old answer.old work.old) work.old) }
 {
     pack_moved(magic_calls::fit::resume(session, further, table, rules, answer, work))
 }
@@ -80,7 +80,7 @@ pub extern "C" fn lutsamik_begin_relevancy(
     answer: &mut [u8],
     work: &mut [u8],
 ) -> u64
-    ensures { (result ≡ packVerdict (fitResult table.now answer.old work.old) (fitDeepest table.now answer.old work.old)) × (session.new ≡ recordLeft (begun table.now answer.old work.old) session.old) × (answer.new ≡ fitAnswer table.now answer.old work.old) × (work.new ≡ fitWork table.now answer.old work.old) }
+    ensures { (result ≡ pack_verdict (fit_result table.now answer.old work.old) (fit_deepest table.now answer.old work.old)) × (session.new ≡ record_left (begun table.now answer.old work.old) session.old) × (answer.new ≡ fit_answer table.now answer.old work.old) × (work.new ≡ fit_work table.now answer.old work.old) }
 {
     let m = begin_relevancy(*session, table, answer, work);
     *session = m.session;
@@ -96,7 +96,7 @@ pub extern "C" fn lutsamik_resume_relevancy(
     answer: &mut [u8],
     work: &mut [u8],
 ) -> u64
-    ensures { (result ≡ packVerdict (verdictTold (resumed session.old further table.now answer.old work.old)) (deepestTold (resumed session.old further table.now answer.old work.old))) × (session.new ≡ recordLeft (resumed session.old further table.now answer.old work.old) session.old) × (answer.new ≡ answerLeft (resumed session.old further table.now answer.old work.old) answer.old) × (work.new ≡ workLeft (resumed session.old further table.now answer.old work.old) work.old) }
+    ensures { (result ≡ pack_verdict (verdict_told (resumed session.old further table.now answer.old work.old)) (deepest_told (resumed session.old further table.now answer.old work.old))) × (session.new ≡ record_left (resumed session.old further table.now answer.old work.old) session.old) × (answer.new ≡ answer_left (resumed session.old further table.now answer.old work.old) answer.old) × (work.new ≡ work_left (resumed session.old further table.now answer.old work.old) work.old) }
 {
     let m = resume_relevancy(*session, further, table, answer, work);
     *session = m.session;
@@ -112,7 +112,7 @@ pub extern "C" fn lutsamik_begin_magic(
     answer: &mut [u8],
     work: &mut [u8],
 ) -> u64
-    ensures { (result ≡ packVerdict (magicResult table.now rules.old answer.old work.old) (magicDeepest table.now rules.old answer.old work.old)) × (session.new ≡ recordLeft (magicBegun table.now rules.old answer.old work.old) session.old) × (rules.new ≡ magicRules table.now rules.old answer.old work.old) × (answer.new ≡ magicAnswer table.now rules.old answer.old work.old) × (work.new ≡ magicWork table.now rules.old answer.old work.old) }
+    ensures { (result ≡ pack_verdict (magic_result table.now rules.old answer.old work.old) (magic_deepest table.now rules.old answer.old work.old)) × (session.new ≡ record_left (magic_begun table.now rules.old answer.old work.old) session.old) × (rules.new ≡ magic_rules table.now rules.old answer.old work.old) × (answer.new ≡ magic_answer table.now rules.old answer.old work.old) × (work.new ≡ magic_work table.now rules.old answer.old work.old) }
 {
     let m = begin_magic(*session, table, rules, answer, work);
     *session = m.session;
@@ -129,7 +129,7 @@ pub extern "C" fn lutsamik_resume_magic(
     answer: &mut [u8],
     work: &mut [u8],
 ) -> u64
-    ensures { (result ≡ packVerdict (verdictTold (magicResumed session.old further table.now rules.old answer.old work.old)) (deepestTold (magicResumed session.old further table.now rules.old answer.old work.old))) × (session.new ≡ recordLeft (magicResumed session.old further table.now rules.old answer.old work.old) session.old) × (rules.new ≡ rulesLeft (magicResumed session.old further table.now rules.old answer.old work.old) table.now rules.old) × (answer.new ≡ answerLeft (magicResumed session.old further table.now rules.old answer.old work.old) answer.old) × (work.new ≡ workLeft (magicResumed session.old further table.now rules.old answer.old work.old) work.old) }
+    ensures { (result ≡ pack_verdict (verdict_told (magic_resumed session.old further table.now rules.old answer.old work.old)) (deepest_told (magic_resumed session.old further table.now rules.old answer.old work.old))) × (session.new ≡ record_left (magic_resumed session.old further table.now rules.old answer.old work.old) session.old) × (rules.new ≡ rules_left (magic_resumed session.old further table.now rules.old answer.old work.old) table.now rules.old) × (answer.new ≡ answer_left (magic_resumed session.old further table.now rules.old answer.old work.old) answer.old) × (work.new ≡ work_left (magic_resumed session.old further table.now rules.old answer.old work.old) work.old) }
 {
     let m = resume_magic(*session, further, table, rules, answer, work);
     *session = m.session;

@@ -6,15 +6,15 @@ pub mod parts;
 
 ghost use Rattle.std.specs.Prelude.{◌≡◌};
 ghost use Rattle.problem.specs.Numbers.{answered};
-ghost use Rattle.reading.specs.Read.{readResult, readLeaves};
-ghost use Rattle.writing.specs.Write.{writeResult, writeLeaves};
-ghost use Rattle.offering.specs.Offer.{offerResult, offerLeaves, setResult, setLeaves};
-ghost use Rattle.judging.specs.ModelCheck.{judgeResult};
-ghost use Rattle.judging.specs.Holding.{holdingResult};
-ghost use Rattle.relevancy.specs.Engine.{fitResult, fitDeepest, fitAnswer, fitWork};
-ghost use Rattle.magic.specs.Engine.{magicResult, magicDeepest, magicRules, magicAnswer, magicWork};
-ghost use Rattle.rewriting.specs.Rewrite.{rewriteResult, rewriteLeaves};
-ghost use Rattle.lutsamik.specs.Pack.{packed, packReading, packWriting, packOffering, packJudging, packHolding, withDeepest, packVerdict, packRewriting};
+ghost use Rattle.reading.specs.Read.{read_result, read_leaves};
+ghost use Rattle.writing.specs.Write.{write_result, write_leaves};
+ghost use Rattle.offering.specs.Offer.{offer_result, offer_leaves, set_result, set_leaves};
+ghost use Rattle.judging.specs.ModelCheck.{judge_result};
+ghost use Rattle.judging.specs.Holding.{holding_result};
+ghost use Rattle.relevancy.specs.Engine.{fit_result, fit_deepest, fit_answer, fit_work};
+ghost use Rattle.magic.specs.Engine.{magic_result, magic_deepest, magic_rules, magic_answer, magic_work};
+ghost use Rattle.rewriting.specs.Rewrite.{rewrite_result, rewrite_leaves};
+ghost use Rattle.lutsamik.specs.Pack.{packed, pack_reading, pack_writing, pack_offering, pack_judging, pack_holding, with_deepest, pack_verdict, pack_rewriting};
 
 use ground::verdict::{Verdict, number_of};
 use judging::how_far::Holding;
@@ -36,7 +36,7 @@ fn packed(refusal: u8, number: u8, clause: u8, value: u32) -> u64
 }
 
 fn pack_reading(r: Reading) -> u64
-    ensures { result ≡ packReading r }
+    ensures { result ≡ pack_reading r }
 {
     match r {
         Reading::Refused(e, line) => packed(e, 0, 0, line as u32),
@@ -45,7 +45,7 @@ fn pack_reading(r: Reading) -> u64
 }
 
 fn pack_writing(w: Writing) -> u64
-    ensures { result ≡ packWriting w }
+    ensures { result ≡ pack_writing w }
 {
     match w {
         Writing::Unwritten(e) => packed(e, 0, 0, 0),
@@ -54,7 +54,7 @@ fn pack_writing(w: Writing) -> u64
 }
 
 fn pack_offering(o: Offering) -> u64
-    ensures { result ≡ packOffering o }
+    ensures { result ≡ pack_offering o }
 {
     match o {
         Offering::Refused(e) => packed(e, 0, 0, 0),
@@ -63,7 +63,7 @@ fn pack_offering(o: Offering) -> u64
 }
 
 fn pack_judging(j: Judging) -> u64
-    ensures { result ≡ packJudging j }
+    ensures { result ≡ pack_judging j }
 {
     match j {
         Judging::Unjudged(e) => packed(e, 0, 0, 0),
@@ -73,7 +73,7 @@ fn pack_judging(j: Judging) -> u64
 }
 
 fn pack_holding(h: Holding) -> u64
-    ensures { result ≡ packHolding h }
+    ensures { result ≡ pack_holding h }
 {
     match h {
         Holding::Unheld(e) => packed(e, 0, 0, 0),
@@ -83,13 +83,13 @@ fn pack_holding(h: Holding) -> u64
 
 // A verdict's number and count, with the deepest figure beside them.
 fn with_deepest(number: u8, count: u32, deepest: u32) -> u64
-    ensures { result ≡ withDeepest (answered number count) deepest }
+    ensures { result ≡ with_deepest (answered number count) deepest }
 {
     packed(0, number, 0, count) + 65536 * ((deepest % 65536) as u64)
 }
 
 fn pack_verdict(v: Verdict, deepest: u32) -> u64
-    ensures { result ≡ packVerdict v deepest }
+    ensures { result ≡ pack_verdict v deepest }
 {
     match v {
         Verdict::Refused(e) => packed(e, 0, 0, 0),
@@ -101,14 +101,14 @@ fn pack_verdict(v: Verdict, deepest: u32) -> u64
 
 // What a run without a session gives back, as one number.
 fn pack_reply(reply: Reply) -> u64
-    ensures { result ≡ packVerdict reply.verdict reply.deepest }
+    ensures { result ≡ pack_verdict reply.verdict reply.deepest }
 {
     let verdict = reply.verdict;
     pack_verdict(verdict, reply.deepest)
 }
 
 fn pack_rewriting(r: Rewriting) -> u64
-    ensures { result ≡ packRewriting r }
+    ensures { result ≡ pack_rewriting r }
 {
     match r {
         Rewriting::Refused(e) => packed(e, 0, 0, 0),
@@ -119,7 +119,7 @@ fn pack_rewriting(r: Rewriting) -> u64
 // Reads a text into a table of 4,096 bytes.
 #[unsafe(no_mangle)]
 pub extern "C" fn lutsamik_read(text: &[u8], table: &mut [u8]) -> u64
-    ensures { (result ≡ packReading (readResult text.now table.old)) × (table.new ≡ readLeaves text.now table.old) }
+    ensures { (result ≡ pack_reading (read_result text.now table.old)) × (table.new ≡ read_leaves text.now table.old) }
 {
     pack_reading(reading::read::read(text, table))
 }
@@ -127,7 +127,7 @@ pub extern "C" fn lutsamik_read(text: &[u8], table: &mut [u8]) -> u64
 // Writes a table out as text, into 7,168 bytes.
 #[unsafe(no_mangle)]
 pub extern "C" fn lutsamik_write(table: &[u8], out: &mut [u8]) -> u64
-    ensures { (result ≡ packWriting (writeResult table.now out.old)) × (out.new ≡ writeLeaves table.now out.old) }
+    ensures { (result ≡ pack_writing (write_result table.now out.old)) × (out.new ≡ write_leaves table.now out.old) }
 {
     pack_writing(writing::write::write(table, out))
 }
@@ -135,7 +135,7 @@ pub extern "C" fn lutsamik_write(table: &[u8], out: &mut [u8]) -> u64
 // Offers the bytes of a clause frame to a table, with a slip of 37 bytes.
 #[unsafe(no_mangle)]
 pub extern "C" fn lutsamik_offer(table: &[u8], frame: &[u8], slip: &mut [u8]) -> u64
-    ensures { (result ≡ packOffering (offerResult table.now frame.now slip.old)) × (slip.new ≡ offerLeaves table.now frame.now slip.old) }
+    ensures { (result ≡ pack_offering (offer_result table.now frame.now slip.old)) × (slip.new ≡ offer_leaves table.now frame.now slip.old) }
 {
     pack_offering(offering::offer::offer(table, frame, slip))
 }
@@ -143,7 +143,7 @@ pub extern "C" fn lutsamik_offer(table: &[u8], frame: &[u8], slip: &mut [u8]) ->
 // Sets the clause frame that a slip holds.
 #[unsafe(no_mangle)]
 pub extern "C" fn lutsamik_set(table: &mut [u8], slip: &[u8]) -> u64
-    ensures { (result ≡ packOffering (setResult table.old slip.now)) × (table.new ≡ setLeaves table.old slip.now) }
+    ensures { (result ≡ pack_offering (set_result table.old slip.now)) × (table.new ≡ set_leaves table.old slip.now) }
 {
     pack_offering(offering::offer::set(table, slip))
 }
@@ -151,7 +151,7 @@ pub extern "C" fn lutsamik_set(table: &mut [u8], slip: &[u8]) -> u64
 // Judges an answer of 1,024 bytes by a table.
 #[unsafe(no_mangle)]
 pub extern "C" fn lutsamik_judge(table: &[u8], answer: &[u8]) -> u64
-    ensures { result ≡ packJudging (judgeResult table.now answer.now) }
+    ensures { result ≡ pack_judging (judge_result table.now answer.now) }
 {
     pack_judging(judging::judge::judge(table, answer))
 }
@@ -167,7 +167,7 @@ pub extern "C" fn lutsamik_holding(
     c: u32,
     d: u32,
 ) -> u64
-    ensures { result ≡ packHolding (holdingResult table.now answer.now clause a b c d) }
+    ensures { result ≡ pack_holding (holding_result table.now answer.now clause a b c d) }
 {
     pack_holding(judging::how_far::how_far(table, answer, clause, a, b, c, d))
 }
@@ -175,7 +175,7 @@ pub extern "C" fn lutsamik_holding(
 // Fits a table by the relevancy engine, with 1,024 answer bytes and 65,536 to work in.
 #[unsafe(no_mangle)]
 pub extern "C" fn lutsamik_fit_relevancy(table: &[u8], answer: &mut [u8], work: &mut [u8]) -> u64
-    ensures { (result ≡ packVerdict (fitResult table.now answer.old work.old) (fitDeepest table.now answer.old work.old)) × (answer.new ≡ fitAnswer table.now answer.old work.old) × (work.new ≡ fitWork table.now answer.old work.old) }
+    ensures { (result ≡ pack_verdict (fit_result table.now answer.old work.old) (fit_deepest table.now answer.old work.old)) × (answer.new ≡ fit_answer table.now answer.old work.old) × (work.new ≡ fit_work table.now answer.old work.old) }
 {
     pack_reply(relevancy_calls::fit::fit(table, answer, work))
 }
@@ -183,7 +183,7 @@ pub extern "C" fn lutsamik_fit_relevancy(table: &[u8], answer: &mut [u8], work: 
 // Rewrites a table into magic rules, in a rules buffer of 16,384 bytes.
 #[unsafe(no_mangle)]
 pub extern "C" fn lutsamik_rewrite(table: &[u8], rules: &mut [u8]) -> u64
-    ensures { (result ≡ packRewriting (rewriteResult table.now rules.old)) × (rules.new ≡ rewriteLeaves table.now rules.old) }
+    ensures { (result ≡ pack_rewriting (rewrite_result table.now rules.old)) × (rules.new ≡ rewrite_leaves table.now rules.old) }
 {
     pack_rewriting(rewriting::rewrite::rewrite(table, rules))
 }
@@ -196,7 +196,7 @@ pub extern "C" fn lutsamik_fit_magic(
     answer: &mut [u8],
     work: &mut [u8],
 ) -> u64
-    ensures { (result ≡ packVerdict (magicResult table.now rules.old answer.old work.old) (magicDeepest table.now rules.old answer.old work.old)) × (rules.new ≡ magicRules table.now rules.old answer.old work.old) × (answer.new ≡ magicAnswer table.now rules.old answer.old work.old) × (work.new ≡ magicWork table.now rules.old answer.old work.old) }
+    ensures { (result ≡ pack_verdict (magic_result table.now rules.old answer.old work.old) (magic_deepest table.now rules.old answer.old work.old)) × (rules.new ≡ magic_rules table.now rules.old answer.old work.old) × (answer.new ≡ magic_answer table.now rules.old answer.old work.old) × (work.new ≡ magic_work table.now rules.old answer.old work.old) }
 {
     pack_reply(magic_calls::fit::fit(table, rules, answer, work))
 }

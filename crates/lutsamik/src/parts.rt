@@ -1,15 +1,15 @@
 // Fitting part by part, for a host in C: the sum of the counts goes into a lent number, and one number comes back.
 ghost use Rattle.std.specs.Prelude.{true, false, ◌≡◌};
-ghost use Rattle.relevancy.specs.Engine.{tooShort, fitWork};
-ghost use Rattle.magic.specs.Engine.{magicTooShort, magicRules, magicWork};
-ghost use Rattle.parting.specs.Runs.{partsResult, partsCount, partsAnswer};
-ghost use Rattle.lutsamik.specs.Pack.{packParting};
+ghost use Rattle.relevancy.specs.Engine.{too_short, fit_work};
+ghost use Rattle.magic.specs.Engine.{magic_too_short, magic_rules, magic_work};
+ghost use Rattle.parting.specs.Runs.{parts_result, parts_count, parts_answer};
+ghost use Rattle.lutsamik.specs.Pack.{pack_parting};
 
 use crate::packed;
 use parting::parts::Parting;
 
 fn pack_parting(p: Parting) -> u64
-    ensures { result ≡ packParting p }
+    ensures { result ≡ pack_parting p }
 {
     match p {
         Parting::Refused(e) => packed(e, 0, 0, 0),
@@ -27,7 +27,7 @@ pub extern "C" fn lutsamik_parts_relevancy(
     answer: &mut [u8],
     work: &mut [u8],
 ) -> u64
-    ensures { (result ≡ packParting (partsResult false (tooShort table.now answer.old work.old) table.now)) × (count.new ≡ partsCount false (tooShort table.now answer.old work.old) table.now count.old) × (answer.new ≡ partsAnswer false (tooShort table.now answer.old work.old) table.now answer.old) × (work.new ≡ fitWork table.now answer.old work.old) }
+    ensures { (result ≡ pack_parting (parts_result false (too_short table.now answer.old work.old) table.now)) × (count.new ≡ parts_count false (too_short table.now answer.old work.old) table.now count.old) × (answer.new ≡ parts_answer false (too_short table.now answer.old work.old) table.now answer.old) × (work.new ≡ fit_work table.now answer.old work.old) }
 {
     pack_parting(parts_calls::by_relevancy::parts_relevancy(table, count, answer, work))
 }
@@ -41,7 +41,7 @@ pub extern "C" fn lutsamik_parts_magic(
     answer: &mut [u8],
     work: &mut [u8],
 ) -> u64
-    ensures { (result ≡ packParting (partsResult true (magicTooShort table.now rules.old answer.old work.old) table.now)) × (count.new ≡ partsCount true (magicTooShort table.now rules.old answer.old work.old) table.now count.old) × (rules.new ≡ magicRules table.now rules.old answer.old work.old) × (answer.new ≡ partsAnswer true (magicTooShort table.now rules.old answer.old work.old) table.now answer.old) × (work.new ≡ magicWork table.now rules.old answer.old work.old) }
+    ensures { (result ≡ pack_parting (parts_result true (magic_too_short table.now rules.old answer.old work.old) table.now)) × (count.new ≡ parts_count true (magic_too_short table.now rules.old answer.old work.old) table.now count.old) × (rules.new ≡ magic_rules table.now rules.old answer.old work.old) × (answer.new ≡ parts_answer true (magic_too_short table.now rules.old answer.old work.old) table.now answer.old) × (work.new ≡ magic_work table.now rules.old answer.old work.old) }
 {
     pack_parting(parts_calls::by_magic::parts_magic(table, count, rules, answer, work))
 }

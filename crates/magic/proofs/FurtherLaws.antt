@@ -11,59 +11,59 @@ use lib.Seq.{take_all}
 use Rattle.search.specs.Ground.{Found}
 use Rattle.search.specs.Machine.{Outcome, Satisfied, Refuted, Exhausted}
 use Rattle.search.specs.Session.{Session, Called, declined, told}
-use Rattle.problem.specs.Layout.{problemIn}
+use Rattle.problem.specs.Layout.{problem_in}
 use Rattle.problem.specs.Table.{Lawful}
 use Rattle.ground.specs.declared.verdict.Verdict.{Verdict}
 use Rattle.ground.specs.declared.verdict.Verdict.TheVariants.{Refused}
 use Rattle.ground.specs.Instance.{Instance}
-use Rattle.ground.specs.Verdict.{verdictOf}
+use Rattle.ground.specs.Verdict.{verdict_of}
 use Rattle.ground.specs.contracts.verdict.Verdict.{the_type as verdict-type}
-use Rattle.rewriting.specs.RulesLayout.{rulesLayout}
-use Rattle.rewriting.specs.Facts.{findIn}
-use Rattle.rewriting.specs.Rewrite.{rulesOver}
-use Rattle.rewriting.proofs.RegroupLaws.{find-by}
+use Rattle.rewriting.specs.RulesLayout.{rules_layout}
+use Rattle.rewriting.specs.Facts.{find_in}
+use Rattle.rewriting.specs.Rewrite.{rules_over}
+use Rattle.rewriting.proofs.RegroupLaws.{find_by_lem}
 use Rattle.session.specs.declared.record.Session.{Session as Record}
 use Rattle.session.specs.declared.record.Moved.{Moved}
-use Rattle.session.specs.Calls.{calledIn, verdictTold, recordLeft, answerLeft, workLeft}
-use Rattle.magic.specs.Sessions.{rulesLeft}
+use Rattle.session.specs.Calls.{called_in, verdict_told, record_left, answer_left, work_left}
+use Rattle.magic.specs.Sessions.{rules_left}
 
 -- ---- the rules of a table, over whatever a buffer held, are walked by alike
 
-pub called-alike : (tb xs ys : List ℕ) → Lawful tb → (atoms : ℕ) (r : Record) (further : ℕ)
-    → calledIn (findIn (rulesOver tb xs)) atoms r further ≡ calledIn (findIn (rulesOver tb ys)) atoms r further
-called-alike tb xs ys h atoms r further =
-    let n : ℕ = length (rulesLayout (problemIn tb)) in
-    ap (λ (find : List ℕ → Found Instance). calledIn find atoms r further)
-    (find-by (problemIn tb) h.fits (drop n xs) ∙ sym (find-by (problemIn tb) h.fits (drop n ys)))
+pub called_alike : (tb xs ys : List ℕ) → Lawful tb → (atoms : ℕ) (r : Record) (further : ℕ)
+    → called_in (find_in (rules_over tb xs)) atoms r further ≡ called_in (find_in (rules_over tb ys)) atoms r further
+called_alike tb xs ys h atoms r further =
+    let n : ℕ = length (rules_layout (problem_in tb)) in
+    ap (λ (find : List ℕ → Found Instance). called_in find atoms r further)
+    (find_by_lem (problem_in tb) h.fits (drop n xs) ∙ sym (find_by_lem (problem_in tb) h.fits (drop n ys)))
 
 -- ---- a call's verdict, session and answer
 
 module _ (c : Called) (r : Record) (answer : List ℕ) where
   abbrev pub Says : Moved → List ℕ → Type 0
-  Says m left = (m.verdict ≡ verdictTold c) × (m.session ≡ recordLeft c r) × (left ≡ answerLeft c answer)
+  Says m left = (m.verdict ≡ verdict_told c) × (m.session ≡ record_left c r) × (left ≡ answer_left c answer)
 
   -- a refusal gives the session back, and leaves the answer
-  pub says-declined : (e : ℕ) → c ≡ declined e → (m : Moved) → (m.verdict ≡ Refused e) × (m.session ≡ r) → Says m answer
-  says-declined e so m was = (was.0 ∙ rw so, was.1 ∙ rw so, rw so)
+  pub Says-declined : (e : ℕ) → c ≡ declined e → (m : Moved) → (m.verdict ≡ Refused e) × (m.session ≡ r) → Says m answer
+  Says-declined e so m was = (was.0 ∙ rw so, was.1 ∙ rw so, rw so)
 
 -- by another name of the call
-pub says-alike : (c d : Called) (r : Record) (answer : List ℕ) → c ≡ d → (m : Moved) (left : List ℕ) → Says c r answer m left → Says d r answer m left
-says-alike c d r answer e m left h = subst (λ (x : Called). Says x r answer m left) e h
+pub says_alike : (c d : Called) (r : Record) (answer : List ℕ) → c ≡ d → (m : Moved) (left : List ℕ) → Says c r answer m left → Says d r answer m left
+says_alike c d r answer e m left h = subst (λ (x : Called). Says x r answer m left) e h
 
 -- ---- its verdict alone tells a refusal
 
-pub refused-declined : (c : Called) (v : Verdict) → v ≡ verdictTold c → tag_of verdict-type v ≡ 0 → (e : ℕ) × (c ≡ declined e)
-refused-declined (declined e) v is tag = (e, refl)
-refused-declined (told o s) v is tag = absurd (go o (sym (ap (tag_of verdict-type) is) ∙ tag))
+pub refused_declined : (c : Called) (v : Verdict) → v ≡ verdict_told c → tag_of verdict-type v ≡ 0 → (e : ℕ) × (c ≡ declined e)
+refused_declined (declined e) v is tag = (e, refl)
+refused_declined (told o s) v is tag = absurd (go o (sym (ap (tag_of verdict-type) is) ∙ tag))
   where
-    go : (o : Outcome) → tag_of verdict-type (verdictOf o) ≡ 0 → ⊥
+    go : (o : Outcome) → tag_of verdict-type (verdict_of o) ≡ 0 → ⊥
     go (Satisfied n bits) t = let z : ◌≡◌ {A = ℕ} 1 0 = t in omega arith
     go (Refuted n) t = let z : ◌≡◌ {A = ℕ} 2 0 = t in omega arith
     go (Exhausted n) t = let z : ◌≡◌ {A = ℕ} 3 0 = t in omega arith
 
-pub else-told : (c : Called) (v : Verdict) → v ≡ verdictTold c → OneOf (1 ∷ 2 ∷ 3 ∷ []) (tag_of verdict-type v) → (o : Outcome) × (s : Session) × (c ≡ told o s)
-else-told (told o s) v is tag = (o, s, refl)
-else-told (declined e) v is tag = absurd (none_of (subst (OneOf (1 ∷ 2 ∷ 3 ∷ [])) (ap (tag_of verdict-type) is) tag))
+pub else_told : (c : Called) (v : Verdict) → v ≡ verdict_told c → OneOf (1 ∷ 2 ∷ 3 ∷ []) (tag_of verdict-type v) → (o : Outcome) × (s : Session) × (c ≡ told o s)
+else_told (told o s) v is tag = (o, s, refl)
+else_told (declined e) v is tag = absurd (none_of (subst (OneOf (1 ∷ 2 ∷ 3 ∷ [])) (ap (tag_of verdict-type) is) tag))
   where
     none_of : OneOf (1 ∷ 2 ∷ 3 ∷ []) 0 → ⊥
     none_of (inl z) = omega arith
@@ -75,26 +75,26 @@ else-told (declined e) v is tag = absurd (none_of (subst (OneOf (1 ∷ 2 ∷ 3 �
 module _ (c : Called) (r : Record) (tb rules answer work : List ℕ) where
   abbrev pub CallMade : Moved → List ℕ → List ℕ → List ℕ → Type 0
   CallMade m rs left rest =
-      (m.verdict ≡ verdictTold c) × (m.session ≡ recordLeft c r) × (rs ≡ rulesLeft c tb rules) × (left ≡ answerLeft c answer) × (rest ≡ workLeft c work)
+      (m.verdict ≡ verdict_told c) × (m.session ≡ record_left c r) × (rs ≡ rules_left c tb rules) × (left ≡ answer_left c answer) × (rest ≡ work_left c work)
 
-  pub made-declined : (e : ℕ) → c ≡ declined e → (m : Moved) (left : List ℕ) → Says c r answer m left → CallMade m rules left work
-  made-declined e so m left says = (says.0, says.1, rw so, says.2, rw so)
+  pub made_declined : (e : ℕ) → c ≡ declined e → (m : Moved) (left : List ℕ) → Says c r answer m left → CallMade m rules left work
+  made_declined e so m left says = (says.0, says.1, rw so, says.2, rw so)
 
   -- of buffers that have no more bytes than it writes
-  module _ (table-long : length tb ≡ 4096) (rules-long : length rules ≡ 16384) (work-long : length work ≡ 65536) where
-    all-rules : rulesOver (take 4096 tb) (take 16384 rules) ++ drop 16384 rules ≡ rulesOver tb rules
-    all-rules =
-        let own : take 4096 tb ≡ tb = take_all 4096 tb (omega (arith, table-long)) in
-        let part : take 16384 rules ≡ rules = take_all 16384 rules (omega (arith, rules-long)) in
-        let rest : drop 16384 rules ≡ [] = drop_of_length-le rules {i = 16384} (omega (arith, rules-long)) in
-        rw (own, part, rest) (append-nil (rulesOver tb rules))
+  module _ (table_long : length tb ≡ 4096) (rules_long : length rules ≡ 16384) (work_long : length work ≡ 65536) where
+    all_rules : rules_over (take 4096 tb) (take 16384 rules) ++ drop 16384 rules ≡ rules_over tb rules
+    all_rules =
+        let own : take 4096 tb ≡ tb = take_all 4096 tb (omega (arith, table_long)) in
+        let part : take 16384 rules ≡ rules = take_all 16384 rules (omega (arith, rules_long)) in
+        let rest : drop 16384 rules ≡ [] = drop_of_length-le rules {i = 16384} (omega (arith, rules_long)) in
+        rw (own, part, rest) (append-nil (rules_over tb rules))
 
-    all-work : replicate 65536 0 ++ drop 65536 work ≡ replicate 65536 0
-    all-work =
-        let rest : drop 65536 work ≡ [] = drop_of_length-le work {i = 65536} (omega (arith, work-long)) in
+    all_work : replicate 65536 0 ++ drop 65536 work ≡ replicate 65536 0
+    all_work =
+        let rest : drop 65536 work ≡ [] = drop_of_length-le work {i = 65536} (omega (arith, work_long)) in
         rw rest (append-nil (replicate 65536 0))
 
     pub made_told : (o : Outcome) (s : Session) → c ≡ told o s → (m : Moved) (rs left rest : List ℕ) → Says c r answer m left
-        → rs ≡ rulesOver tb rules → rest ≡ replicate 65536 0 → CallMade m rs left rest
-    made_told o s so m rs left rest says is-r is-w =
-        (says.0, says.1, is-r ∙ sym all-rules ∙ ap (λ (x : Called). rulesLeft x tb rules) (sym so), says.2, is-w ∙ sym all-work ∙ ap (λ (x : Called). workLeft x work) (sym so))
+        → rs ≡ rules_over tb rules → rest ≡ replicate 65536 0 → CallMade m rs left rest
+    made_told o s so m rs left rest says is_r is_w =
+        (says.0, says.1, is_r ∙ sym all_rules ∙ ap (λ (x : Called). rules_left x tb rules) (sym so), says.2, is_w ∙ sym all_work ∙ ap (λ (x : Called). work_left x work) (sym so))

@@ -1,12 +1,12 @@
 // A first run that keeps no session.
 ghost use Rattle.std.specs.Prelude.{◌≡◌, ◌≤◌, length, replicate};
 ghost use Rattle.problem.specs.Table.{Lawful};
-ghost use Rattle.ground.specs.Verdict.{verdictOf, answer_of};
-ghost use Rattle.rewriting.specs.contracts.Ruled.{Ruled};
-ghost use Rattle.rewriting.specs.Rewrite.{rulesOver};
-ghost use Rattle.session.specs.contracts.End.{Replied};
-ghost use Rattle.magic_walk.specs.contracts.Place.{magicWalker};
-ghost use Rattle.magic.specs.Engine.{magicOutcome, magicDeepestIn};
+ghost use Rattle.ground.specs.Verdict.{verdict_of, answer_of};
+ghost use Rattle.rewriting.specs.terms.Ruled.{Ruled};
+ghost use Rattle.rewriting.specs.Rewrite.{rules_over};
+ghost use Rattle.session.specs.terms.End.{Replied};
+ghost use Rattle.magic_walk.specs.terms.Place.{magic_walker};
+ghost use Rattle.magic.specs.Engine.{magic_outcome, magic_deepest_in};
 
 use crate::end::reply;
 use crate::whole::walk_whole;
@@ -18,7 +18,7 @@ use session::record::Reply;
 fn decide(rules: &[u8], limit: u32, answer: &mut [u8], path: &mut [u8]) -> Reply
     requires ruled { Ruled rules.now }
     requires in_bounds { (1024 ≤ length answer.old) × (length path.old ≡ 9227) }
-    ensures { Replied (magicWalker rules.now) limit answer.old result answer.new }
+    ensures { Replied (magic_walker rules.now) limit answer.old result answer.new }
 {
     let mut facts = [0u8; 6150];
     let whole = walk_whole(rules, &mut facts, path, limit);
@@ -30,7 +30,7 @@ fn decide(rules: &[u8], limit: u32, answer: &mut [u8], path: &mut [u8]) -> Reply
 pub fn run(table: &[u8], rules: &mut [u8], answer: &mut [u8], work: &mut [u8]) -> Reply
     requires lawful { Lawful table.now }
     requires rules_len { (length rules.old ≡ 16384) × (1024 ≤ length answer.old) × (length work.old ≡ 65536) }
-    ensures { (result.verdict ≡ verdictOf (magicOutcome table.now rules.old)) × (result.deepest ≡ magicDeepestIn table.now rules.old) × (rules.new ≡ rulesOver table.now rules.old) × (answer.new ≡ answer_of (magicOutcome table.now rules.old) answer.old) × (work.new ≡ replicate 65536 0) }
+    ensures { (result.verdict ≡ verdict_of (magic_outcome table.now rules.old)) × (result.deepest ≡ magic_deepest_in table.now rules.old) × (rules.new ≡ rules_over table.now rules.old) × (answer.new ≡ answer_of (magic_outcome table.now rules.old) answer.old) × (work.new ≡ replicate 65536 0) }
 {
     write_rules(table, rules);
     let limit = limit_in(table);

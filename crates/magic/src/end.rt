@@ -1,12 +1,12 @@
 // The end of a run: its verdict, the model where there is one, and the session that it leaves, if one is kept.
 ghost use Rattle.std.specs.Prelude.{List, [], ◌≡◌, ℕ, ◌≤◌, length};
-ghost use Rattle.search.specs.Session.{altsFound};
+ghost use Rattle.search.specs.Session.{alts_found};
 ghost use Rattle.ground.specs.Instance.{Instance};
-ghost use Rattle.rewriting.specs.contracts.Ruled.{Ruled};
-ghost use Rattle.walk.specs.contracts.Walker.{Run, fromRoot};
-ghost use Rattle.walk.specs.contracts.Walk.{Walks};
-ghost use Rattle.magic_walk.specs.contracts.Place.{magicWalker};
-ghost use Rattle.session.specs.contracts.End.{LeftBy, Replied, Concluded};
+ghost use Rattle.rewriting.specs.terms.Ruled.{Ruled};
+ghost use Rattle.walk.specs.terms.Walker.{Run, from_root};
+ghost use Rattle.walk.specs.terms.Walk.{Walks};
+ghost use Rattle.magic_walk.specs.terms.Place.{magic_walker};
+ghost use Rattle.session.specs.terms.End.{LeftBy, Replied, Concluded};
 
 use lists::pair;
 use magic_resume::left::steps;
@@ -19,9 +19,9 @@ use walk::node::{deepest, next};
 fn path_left(rules: &[u8], path: &[u8], walked: Walked, used: u8) -> Left
     requires ruled { Ruled rules.now }
     requires path_len { length path.now ≡ 9227 }
-    requires by_index { (facts : List ℕ) × ((r : Run Instance) × Walks (magicWalker rules.now) r walked facts path.now) }
-    requires used_value { used ≡ length (altsFound ((magicWalker rules.now).find [])) }
-    ensures { LeftBy (magicWalker rules.now) walked path.now result }
+    requires by_index { (facts : List ℕ) × ((r : Run Instance) × Walks (magic_walker rules.now) r walked facts path.now) }
+    requires used_value { used ≡ length (alts_found ((magic_walker rules.now).find [])) }
+    ensures { LeftBy (magic_walker rules.now) walked path.now result }
 {
     let mut atoms = [0u16; 1024];
     let mut nexts = [0u8; 1024];
@@ -68,9 +68,9 @@ pub fn conclude(
     requires ruled { Ruled rules.now }
     requires path_len { length path.now ≡ 9227 }
     requires in_bounds { (1024 ≤ length answer.old) × (length facts.now ≡ 6150) }
-    requires limit_value { (r : Run Instance) × ((r.limit ≡ limit) × Walks (magicWalker rules.now) r walked facts.now path.now) }
-    requires used_value { used ≡ length (altsFound ((magicWalker rules.now).find [])) }
-    ensures { (r : Run Instance) → r.limit ≡ limit → Walks (magicWalker rules.now) r walked facts.now path.now → Concluded (magicWalker rules.now) r answer.old result answer.new }
+    requires limit_value { (r : Run Instance) × ((r.limit ≡ limit) × Walks (magic_walker rules.now) r walked facts.now path.now) }
+    requires used_value { used ≡ length (alts_found ((magic_walker rules.now).find [])) }
+    ensures { (r : Run Instance) → r.limit ≡ limit → Walks (magic_walker rules.now) r walked facts.now path.now → Concluded (magic_walker rules.now) r answer.old result answer.new }
 {
     let atoms = pair(rules[8], rules[9]);
     give_model(walked, facts, answer, atoms);
@@ -89,8 +89,8 @@ pub fn reply(
 ) -> Reply
     requires ruled { Ruled rules.now }
     requires in_bounds { (1024 ≤ length answer.old) × (length facts.now ≡ 6150) × (length path.now ≡ 9227) }
-    requires walks { Walks (magicWalker rules.now) (fromRoot (magicWalker rules.now) 0 limit) walked facts.now path.now }
-    ensures { Replied (magicWalker rules.now) limit answer.old result answer.new }
+    requires walks { Walks (magic_walker rules.now) (from_root (magic_walker rules.now) 0 limit) walked facts.now path.now }
+    ensures { Replied (magic_walker rules.now) limit answer.old result answer.new }
 {
     let atoms = pair(rules[8], rules[9]);
     give_model(walked, facts, answer, atoms);

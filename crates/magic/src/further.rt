@@ -1,12 +1,12 @@
 // Going on with the session of a record: 41 and 42, then the run from where it stands.
 ghost use Rattle.std.specs.Prelude.{◌≡◌, ◌+◌, ◌≤◌, length, replicate};
 ghost use Rattle.problem.specs.Table.{Lawful};
-ghost use Rattle.ground.specs.Instance.{groundIn};
-ghost use Rattle.rewriting.specs.contracts.Ruled.{Ruled};
-ghost use Rattle.rewriting.specs.Facts.{findIn};
-ghost use Rattle.rewriting.specs.Rewrite.{rulesOver};
-ghost use Rattle.session.specs.Calls.{calledIn, verdictTold, recordLeft, answerLeft, workLeft};
-ghost use Rattle.magic.specs.Sessions.{rulesLeft};
+ghost use Rattle.ground.specs.Instance.{ground_in};
+ghost use Rattle.rewriting.specs.terms.Ruled.{Ruled};
+ghost use Rattle.rewriting.specs.Facts.{find_in};
+ghost use Rattle.rewriting.specs.Rewrite.{rules_over};
+ghost use Rattle.session.specs.Calls.{called_in, verdict_told, record_left, answer_left, work_left};
+ghost use Rattle.magic.specs.Sessions.{rules_left};
 
 use crate::end::conclude;
 use ground::verdict::Verdict;
@@ -33,7 +33,7 @@ fn further_run(
     requires in_bounds { 1024 ≤ length answer.old }
     requires verdict_bound { (session.verdict ≤ 2) × (session.length ≤ 1024) × (session.count + further ≤ 4294967295) }
     requires length_le_deepest { (session.length ≤ session.deepest) × (session.deepest ≤ atoms) × (atoms ≤ 1024) }
-    ensures { (result.verdict ≡ verdictTold (calledIn (findIn rules.now) atoms session further)) × (result.session ≡ recordLeft (calledIn (findIn rules.now) atoms session further) session) × (answer.new ≡ answerLeft (calledIn (findIn rules.now) atoms session further) answer.old) }
+    ensures { (result.verdict ≡ verdict_told (called_in (find_in rules.now) atoms session further)) × (result.session ≡ record_left (called_in (find_in rules.now) atoms session further) session) × (answer.new ≡ answer_left (called_in (find_in rules.now) atoms session further) answer.old) }
 {
     let mut index = [0u16; 6656];
     build(rules, &mut index);
@@ -65,7 +65,7 @@ fn further_run(
 fn go_further(session: Session, further: u32, table: &[u8], answer: &mut [u8]) -> Moved
     requires lawful { Lawful table.now }
     requires in_bounds { 1024 ≤ length answer.old }
-    ensures { (result.verdict ≡ verdictTold (calledIn (findIn (rulesOver table.now (replicate 16384 0))) (groundIn table.now).atoms session further)) × (result.session ≡ recordLeft (calledIn (findIn (rulesOver table.now (replicate 16384 0))) (groundIn table.now).atoms session further) session) × (answer.new ≡ answerLeft (calledIn (findIn (rulesOver table.now (replicate 16384 0))) (groundIn table.now).atoms session further) answer.old) }
+    ensures { (result.verdict ≡ verdict_told (called_in (find_in (rules_over table.now (replicate 16384 0))) (ground_in table.now).atoms session further)) × (result.session ≡ record_left (called_in (find_in (rules_over table.now (replicate 16384 0))) (ground_in table.now).atoms session further) session) × (answer.new ≡ answer_left (called_in (find_in (rules_over table.now (replicate 16384 0))) (ground_in table.now).atoms session further) answer.old) }
 {
     if further > 4294967295 - session.count {
         return refused(session, 41);
@@ -90,7 +90,7 @@ pub fn run_on(
 ) -> Moved
     requires lawful { Lawful table.now }
     requires rules_len { (length rules.old ≡ 16384) × (1024 ≤ length answer.old) × (length work.old ≡ 65536) }
-    ensures { (result.verdict ≡ verdictTold (calledIn (findIn (rulesOver table.now rules.old)) (groundIn table.now).atoms session further)) × (result.session ≡ recordLeft (calledIn (findIn (rulesOver table.now rules.old)) (groundIn table.now).atoms session further) session) × (rules.new ≡ rulesLeft (calledIn (findIn (rulesOver table.now rules.old)) (groundIn table.now).atoms session further) table.now rules.old) × (answer.new ≡ answerLeft (calledIn (findIn (rulesOver table.now rules.old)) (groundIn table.now).atoms session further) answer.old) × (work.new ≡ workLeft (calledIn (findIn (rulesOver table.now rules.old)) (groundIn table.now).atoms session further) work.old) }
+    ensures { (result.verdict ≡ verdict_told (called_in (find_in (rules_over table.now rules.old)) (ground_in table.now).atoms session further)) × (result.session ≡ record_left (called_in (find_in (rules_over table.now rules.old)) (ground_in table.now).atoms session further) session) × (rules.new ≡ rules_left (called_in (find_in (rules_over table.now rules.old)) (ground_in table.now).atoms session further) table.now rules.old) × (answer.new ≡ answer_left (called_in (find_in (rules_over table.now rules.old)) (ground_in table.now).atoms session further) answer.old) × (work.new ≡ work_left (called_in (find_in (rules_over table.now rules.old)) (ground_in table.now).atoms session further) work.old) }
 {
     let moved = go_further(session, further, table, answer);
     let verdict = moved.verdict;

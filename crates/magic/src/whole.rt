@@ -1,11 +1,11 @@
 // The walk by the rules of a buffer, from the root on.
 ghost use Rattle.std.specs.Prelude.{[], ◌≡◌, length};
-ghost use Rattle.search.specs.Session.{altsFound};
-ghost use Rattle.store.specs.contracts.Store.{Store};
-ghost use Rattle.rewriting.specs.contracts.Ruled.{Ruled};
-ghost use Rattle.walk.specs.contracts.Walker.{fromRoot};
-ghost use Rattle.walk.specs.contracts.Walk.{Walks};
-ghost use Rattle.magic_walk.specs.contracts.Place.{magicWalker};
+ghost use Rattle.search.specs.Session.{alts_found};
+ghost use Rattle.store.specs.terms.Store.{Store};
+ghost use Rattle.rewriting.specs.terms.Ruled.{Ruled};
+ghost use Rattle.walk.specs.terms.Walker.{from_root};
+ghost use Rattle.walk.specs.terms.Walk.{Walks};
+ghost use Rattle.magic_walk.specs.terms.Place.{magic_walker};
 
 use magic_plan::index::build;
 use magic_resume::left::root_alternatives;
@@ -25,7 +25,7 @@ pub struct Whole {
 pub fn walk_whole(rules: &[u8], facts: &mut [u8], path: &mut [u8], limit: u32) -> Whole
     requires ruled { Ruled rules.now }
     requires store { Store 2050 facts.old 0 × (length path.old ≡ 9227) }
-    ensures { (result.used ≡ length (altsFound ((magicWalker rules.now).find []))) × Walks (magicWalker rules.now) (fromRoot (magicWalker rules.now) 0 limit) result.walked facts.new path.new }
+    ensures { (result.used ≡ length (alts_found ((magic_walker rules.now).find []))) × Walks (magic_walker rules.now) (from_root (magic_walker rules.now) 0 limit) result.walked facts.new path.new }
 {
     let mut index = [0u16; 6656];
     build(rules, &mut index);

@@ -1,17 +1,17 @@
 // The magic engine's operations: a first run, and going on with a session.
 ghost use Rattle.std.specs.Prelude.{◌≡◌, ◌≤◌, length, replicate};
-ghost use Rattle.search.specs.Session.{firstSession};
-ghost use Rattle.problem.specs.Problem.{limitOf};
-ghost use Rattle.problem.specs.Layout.{problemIn};
+ghost use Rattle.search.specs.Session.{first_session};
+ghost use Rattle.problem.specs.Problem.{limit_of};
+ghost use Rattle.problem.specs.Layout.{problem_in};
 ghost use Rattle.problem.specs.Table.{Lawful};
-ghost use Rattle.ground.specs.Verdict.{verdictOf, answer_of};
-ghost use Rattle.rewriting.specs.contracts.Ruled.{Ruled};
-ghost use Rattle.rewriting.specs.Facts.{findIn};
-ghost use Rattle.rewriting.specs.Rewrite.{rulesOver};
+ghost use Rattle.ground.specs.Verdict.{verdict_of, answer_of};
+ghost use Rattle.rewriting.specs.terms.Ruled.{Ruled};
+ghost use Rattle.rewriting.specs.Facts.{find_in};
+ghost use Rattle.rewriting.specs.Rewrite.{rules_over};
 ghost use Rattle.session.specs.Record.{laid};
-ghost use Rattle.session.specs.Calls.{verdictTold, recordLeft, answerLeft, workLeft};
-ghost use Rattle.magic.specs.Engine.{rulesOutcome, magicOutcome, magicResult, magicDeepest, magicRules, magicAnswer, magicWork};
-ghost use Rattle.magic.specs.Sessions.{magicBegun, magicResumed, rulesLeft};
+ghost use Rattle.session.specs.Calls.{verdict_told, record_left, answer_left, work_left};
+ghost use Rattle.magic.specs.Engine.{rules_outcome, magic_outcome, magic_result, magic_deepest, magic_rules, magic_answer, magic_work};
+ghost use Rattle.magic.specs.Sessions.{magic_begun, magic_resumed, rules_left};
 
 use ground::verdict::{Verdict, limit_in};
 use magic::alone;
@@ -26,7 +26,7 @@ use writing::lent::{any_too_small, refusal};
 fn decide(rules: &[u8], limit: u32, answer: &mut [u8], path: &mut [u8]) -> Moved
     requires ruled { Ruled rules.now }
     requires in_bounds { (1024 ≤ length answer.old) × (length path.old ≡ 9227) }
-    ensures { (result.verdict ≡ verdictOf (rulesOutcome rules.now limit)) × (result.session ≡ laid (firstSession (findIn rules.now) limit)) × (answer.new ≡ answer_of (rulesOutcome rules.now limit) answer.old) }
+    ensures { (result.verdict ≡ verdict_of (rules_outcome rules.now limit)) × (result.session ≡ laid (first_session (find_in rules.now) limit)) × (answer.new ≡ answer_of (rules_outcome rules.now limit) answer.old) }
 {
     let mut facts = [0u8; 6150];
     let whole = walk_whole(rules, &mut facts, path, limit);
@@ -38,7 +38,7 @@ fn decide(rules: &[u8], limit: u32, answer: &mut [u8], path: &mut [u8]) -> Moved
 fn run(table: &[u8], rules: &mut [u8], answer: &mut [u8], work: &mut [u8]) -> Moved
     requires lawful { Lawful table.now }
     requires rules_len { (length rules.old ≡ 16384) × (1024 ≤ length answer.old) × (length work.old ≡ 65536) }
-    ensures { (result.verdict ≡ verdictOf (magicOutcome table.now rules.old)) × (result.session ≡ laid (firstSession (findIn (rulesOver table.now rules.old)) (limitOf (problemIn table.now).limit))) × (rules.new ≡ rulesOver table.now rules.old) × (answer.new ≡ answer_of (magicOutcome table.now rules.old) answer.old) × (work.new ≡ replicate 65536 0) }
+    ensures { (result.verdict ≡ verdict_of (magic_outcome table.now rules.old)) × (result.session ≡ laid (first_session (find_in (rules_over table.now rules.old)) (limit_of (problem_in table.now).limit))) × (rules.new ≡ rules_over table.now rules.old) × (answer.new ≡ answer_of (magic_outcome table.now rules.old) answer.old) × (work.new ≡ replicate 65536 0) }
 {
     write_rules(table, rules);
     let limit = limit_in(table);
@@ -55,7 +55,7 @@ pub fn begin(
     answer: &mut [u8],
     work: &mut [u8],
 ) -> Moved
-    ensures { (result.verdict ≡ magicResult table.now rules.old answer.old work.old) × (result.session ≡ recordLeft (magicBegun table.now rules.old answer.old work.old) session) × (rules.new ≡ magicRules table.now rules.old answer.old work.old) × (answer.new ≡ magicAnswer table.now rules.old answer.old work.old) × (work.new ≡ magicWork table.now rules.old answer.old work.old) }
+    ensures { (result.verdict ≡ magic_result table.now rules.old answer.old work.old) × (result.session ≡ record_left (magic_begun table.now rules.old answer.old work.old) session) × (rules.new ≡ magic_rules table.now rules.old answer.old work.old) × (answer.new ≡ magic_answer table.now rules.old answer.old work.old) × (work.new ≡ magic_work table.now rules.old answer.old work.old) }
 {
     let e = refusal(table, any_too_small(rules.len(), answer.len(), work.len()));
     if 0 < e {
@@ -71,7 +71,7 @@ pub fn begin(
 
 // The same, without a session.
 pub fn fit(table: &[u8], rules: &mut [u8], answer: &mut [u8], work: &mut [u8]) -> Reply
-    ensures { (result.verdict ≡ magicResult table.now rules.old answer.old work.old) × (result.deepest ≡ magicDeepest table.now rules.old answer.old work.old) × (rules.new ≡ magicRules table.now rules.old answer.old work.old) × (answer.new ≡ magicAnswer table.now rules.old answer.old work.old) × (work.new ≡ magicWork table.now rules.old answer.old work.old) }
+    ensures { (result.verdict ≡ magic_result table.now rules.old answer.old work.old) × (result.deepest ≡ magic_deepest table.now rules.old answer.old work.old) × (rules.new ≡ magic_rules table.now rules.old answer.old work.old) × (answer.new ≡ magic_answer table.now rules.old answer.old work.old) × (work.new ≡ magic_work table.now rules.old answer.old work.old) }
 {
     let e = refusal(table, any_too_small(rules.len(), answer.len(), work.len()));
     if 0 < e {
@@ -97,7 +97,7 @@ pub fn resume(
     answer: &mut [u8],
     work: &mut [u8],
 ) -> Moved
-    ensures { (result.verdict ≡ verdictTold (magicResumed session further table.now rules.old answer.old work.old)) × (result.session ≡ recordLeft (magicResumed session further table.now rules.old answer.old work.old) session) × (rules.new ≡ rulesLeft (magicResumed session further table.now rules.old answer.old work.old) table.now rules.old) × (answer.new ≡ answerLeft (magicResumed session further table.now rules.old answer.old work.old) answer.old) × (work.new ≡ workLeft (magicResumed session further table.now rules.old answer.old work.old) work.old) }
+    ensures { (result.verdict ≡ verdict_told (magic_resumed session further table.now rules.old answer.old work.old)) × (result.session ≡ record_left (magic_resumed session further table.now rules.old answer.old work.old) session) × (rules.new ≡ rules_left (magic_resumed session further table.now rules.old answer.old work.old) table.now rules.old) × (answer.new ≡ answer_left (magic_resumed session further table.now rules.old answer.old work.old) answer.old) × (work.new ≡ work_left (magic_resumed session further table.now rules.old answer.old work.old) work.old) }
 {
     let e = refusal(table, any_too_small(rules.len(), answer.len(), work.len()));
     if 0 < e {

@@ -1,17 +1,17 @@
 // Going on with a session: its path is entered again without being counted, and the walk goes on from its last node.
 ghost use Rattle.std.proofs.Math.Option.{some};
 ghost use Rattle.std.specs.Prelude.{◌≡◌, ◌≤◌, length};
-ghost use Rattle.rewriting.specs.contracts.Ruled.{Ruled};
-ghost use Rattle.magic_rule.specs.contracts.Index.{RulesIndexed};
+ghost use Rattle.rewriting.specs.terms.Ruled.{Ruled};
+ghost use Rattle.magic_rule.specs.terms.Index.{RulesIndexed};
 ghost use Rattle.ground.specs.Instance.{Instance};
-ghost use Rattle.search.specs.Session.{pathOf, place_of};
-ghost use Rattle.walk.specs.contracts.Walker.{Run};
-ghost use Rattle.walk.specs.contracts.Path.{markAt, deepestAt, pathIn};
-ghost use Rattle.walk.specs.contracts.Place.{Beginning, Parted, Reached, Trying};
-ghost use Rattle.walk.specs.contracts.Walk.{Leaves, Ended};
-ghost use Rattle.walk.specs.Numbers.{stepsIn, sessionOf};
-ghost use Rattle.walk.specs.contracts.Resume.{lastIn, Resumes, GoesOn};
-ghost use Rattle.magic_walk.specs.contracts.Place.{magicWalker};
+ghost use Rattle.search.specs.Session.{path_of, place_of};
+ghost use Rattle.walk.specs.terms.Walker.{Run};
+ghost use Rattle.walk.specs.terms.Path.{mark_at, deepest_at, path_in};
+ghost use Rattle.walk.specs.terms.Place.{Beginning, Parted, Reached, Trying};
+ghost use Rattle.walk.specs.terms.Walk.{Leaves, Ended};
+ghost use Rattle.walk.specs.Numbers.{steps_in, session_of};
+ghost use Rattle.walk.specs.terms.Resume.{last_in, Resumes, GoesOn};
+ghost use Rattle.magic_walk.specs.terms.Place.{magic_walker};
 
 use magic_walk::place::{alternatives_at, enter};
 use magic_walk::trail::try_next;
@@ -34,9 +34,9 @@ fn work_off(
 ) -> Walked
     requires ruled { Ruled rules.now }
     requires rules_indexed { RulesIndexed rules.now index.now }
-    requires parted { Parted (magicWalker rules.now) facts.old path.old depth }
-    requires done_bound { (done ≤ markAt path.old depth) × (count ≤ limit) }
-    ensures { Leaves (magicWalker rules.now) facts.old path.old depth done count limit result facts.new path.new × ((r : Run Instance) → r.limit ≡ limit → Trying (magicWalker rules.now) r path.old depth count → Ended (magicWalker rules.now) r path.old depth result facts.new path.new) }
+    requires parted { Parted (magic_walker rules.now) facts.old path.old depth }
+    requires done_bound { (done ≤ mark_at path.old depth) × (count ≤ limit) }
+    ensures { Leaves (magic_walker rules.now) facts.old path.old depth done count limit result facts.new path.new × ((r : Run Instance) → r.limit ≡ limit → Trying (magic_walker rules.now) r path.old depth count → Ended (magic_walker rules.now) r path.old depth result facts.new path.new) }
 {
     let own = mark(path, depth);
     let walked = try_next(rules, index, facts, path, depth, count, limit);
@@ -63,9 +63,9 @@ fn stand(
 ) -> Resumed
     requires ruled { Ruled rules.now }
     requires rules_indexed { RulesIndexed rules.now index.now }
-    requires reached { Reached (magicWalker rules.now) facts.old path.old depth done found }
+    requires reached { Reached (magic_walker rules.now) facts.old path.old depth done found }
     requires count_le_limit { on.count ≤ on.limit }
-    ensures { Resumes (magicWalker rules.now) (lastIn (magicWalker rules.now) path.old depth on.standing on.next) facts.old path.old depth done on.count on.limit result facts.new path.new }
+    ensures { Resumes (magic_walker rules.now) (last_in (magic_walker rules.now) path.old depth on.standing on.next) facts.old path.old depth done on.count on.limit result facts.new path.new }
 {
     match found {
         Found::Split(n) => {
@@ -108,12 +108,12 @@ fn resume(
 ) -> Resumed
     requires ruled { Ruled rules.now }
     requires rules_indexed { RulesIndexed rules.now index.now }
-    requires reached { Reached (magicWalker rules.now) facts.old path.old depth done found }
-    requires depth_value { pathOf (magicWalker rules.now).find (stepsIn atoms.now nexts.now depth) ≡ some (pathIn (magicWalker rules.now) path.old depth) }
+    requires reached { Reached (magic_walker rules.now) facts.old path.old depth done found }
+    requires depth_value { path_of (magic_walker rules.now).find (steps_in atoms.now nexts.now depth) ≡ some (path_in (magic_walker rules.now) path.old depth) }
     requires depth_le_steps { (depth ≤ steps) × (steps ≤ length atoms.now) × (steps ≤ length nexts.now) }
-    requires steps_bound { steps ≤ deepestAt path.old }
+    requires steps_bound { steps ≤ deepest_at path.old }
     requires count_le_limit { on.count ≤ on.limit }
-    ensures { Resumes (magicWalker rules.now) (place_of (magicWalker rules.now).find (sessionOf on.standing on.count atoms.now nexts.now steps on.next (deepestAt path.old))) facts.old path.old depth done on.count on.limit result facts.new path.new }
+    ensures { Resumes (magic_walker rules.now) (place_of (magic_walker rules.now).find (session_of on.standing on.count atoms.now nexts.now steps on.next (deepest_at path.old))) facts.old path.old depth done on.count on.limit result facts.new path.new }
 {
     if depth == steps {
         return stand(rules, index, facts, path, depth, done, found, on);
@@ -167,11 +167,11 @@ pub fn go_on(
 ) -> Resumed
     requires ruled { Ruled rules.now }
     requires rules_indexed { RulesIndexed rules.now index.now }
-    requires beginning { Beginning (magicWalker rules.now) found facts.old path.old }
+    requires beginning { Beginning (magic_walker rules.now) found facts.old path.old }
     requires steps_in_bounds { (steps ≤ length atoms.now) × (steps ≤ length nexts.now) }
-    requires steps_bound { steps ≤ deepestAt path.old }
+    requires steps_bound { steps ≤ deepest_at path.old }
     requires count_le_limit { on.count ≤ on.limit }
-    ensures { GoesOn (magicWalker rules.now) (place_of (magicWalker rules.now).find (sessionOf on.standing on.count atoms.now nexts.now steps on.next (deepestAt path.old))) on.count (deepestAt path.old) on.limit result facts.new path.new }
+    ensures { GoesOn (magic_walker rules.now) (place_of (magic_walker rules.now).find (session_of on.standing on.count atoms.now nexts.now steps on.next (deepest_at path.old))) on.count (deepest_at path.old) on.limit result facts.new path.new }
 {
     resume(
         rules, index, facts, path, atoms, nexts, steps, 0, 0, found, on,

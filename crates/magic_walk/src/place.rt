@@ -1,16 +1,16 @@
 // A place of the walk: making the next one, from the path and the next alternative at each node.
 ghost use Rattle.std.specs.Prelude.{◌≡◌, ℕ, ◌+◌, ◌<◌};
-ghost use Rattle.store.specs.contracts.Store.{Store};
-ghost use Rattle.rewriting.specs.contracts.Ruled.{Ruled};
-ghost use Rattle.magic_rule.specs.contracts.Index.{RulesIndexed};
-ghost use Rattle.magic_rule.specs.contracts.Watch.{sitePlace};
-ghost use Rattle.magic_rule.specs.contracts.Node.{HeldOpening};
-ghost use Rattle.ground.specs.contracts.Branching.{NextOf};
+ghost use Rattle.store.specs.terms.Store.{Store};
+ghost use Rattle.rewriting.specs.terms.Ruled.{Ruled};
+ghost use Rattle.magic_rule.specs.terms.Index.{RulesIndexed};
+ghost use Rattle.magic_rule.specs.terms.Watch.{site_place};
+ghost use Rattle.magic_rule.specs.terms.Node.{HeldOpening};
+ghost use Rattle.ground.specs.terms.Branching.{NextOf};
 ghost use Rattle.ground.specs.declared.branch.NextBranch.TheVariants.{Atom};
-ghost use Rattle.walk.specs.contracts.Alternatives.{listed, Listing};
-ghost use Rattle.walk.specs.contracts.Path.{Room, next_at, deepestAt, siteAt, altsAt};
-ghost use Rattle.walk.specs.contracts.Place.{Parted, Finding, Making, Beginning};
-ghost use Rattle.magic_walk.specs.contracts.Place.{ruleSite, magicWalker, HeldFresh, OwnFacts};
+ghost use Rattle.walk.specs.terms.Alternatives.{listed, Listing};
+ghost use Rattle.walk.specs.terms.Path.{Room, next_at, deepest_at, site_at, alts_at};
+ghost use Rattle.walk.specs.terms.Place.{Parted, Finding, Making, Beginning};
+ghost use Rattle.magic_walk.specs.terms.Place.{rule_site, magic_walker, HeldFresh, OwnFacts};
 
 use ground::branch::{NextBranch, branch_after};
 use magic_close::close::start;
@@ -25,8 +25,8 @@ use walk::node::{mark, next, note, number, pass, values};
 // Alternative j of the split node at `depth`.
 pub fn alternative_at(rules: &[u8], path: &[u8], depth: usize, j: u8) -> NextBranch
     requires ruled { Ruled rules.now }
-    requires room { Room path.now depth × (magicWalker rules.now).Named (siteAt (magicWalker rules.now) path.now depth) }
-    ensures { NextOf (altsAt (magicWalker rules.now) path.now depth) j result }
+    requires room { Room path.now depth × (magic_walker rules.now).Named (site_at (magic_walker rules.now) path.now depth) }
+    ensures { NextOf (alts_at (magic_walker rules.now) path.now depth) j result }
 {
     let four = values(path, depth);
     let record = 144 + 42 * number(path, depth);
@@ -37,8 +37,8 @@ pub fn alternative_at(rules: &[u8], path: &[u8], depth: usize, j: u8) -> NextBra
 // All alternatives of the split node at `depth`.
 pub fn alternatives_at(rules: &[u8], path: &[u8], depth: usize) -> Alternatives
     requires ruled { Ruled rules.now }
-    requires room { Room path.now depth × (magicWalker rules.now).Named (siteAt (magicWalker rules.now) path.now depth) }
-    ensures { Listing result × (listed result ≡ altsAt (magicWalker rules.now) path.now depth) }
+    requires room { Room path.now depth × (magic_walker rules.now).Named (site_at (magic_walker rules.now) path.now depth) }
+    ensures { Listing result × (listed result ≡ alts_at (magic_walker rules.now) path.now depth) }
 {
     let mut atoms = [0u16; 4];
     let mut n: u8 = 0;
@@ -56,8 +56,8 @@ pub fn alternatives_at(rules: &[u8], path: &[u8], depth: usize) -> Alternatives
 // The alternative that the split node at `depth` enters next.
 pub fn alternative(rules: &[u8], path: &[u8], depth: usize) -> NextBranch
     requires ruled { Ruled rules.now }
-    requires room { Room path.now depth × (magicWalker rules.now).Named (siteAt (magicWalker rules.now) path.now depth) }
-    ensures { NextOf (altsAt (magicWalker rules.now) path.now depth) (next_at path.now depth) result }
+    requires room { Room path.now depth × (magic_walker rules.now).Named (site_at (magic_walker rules.now) path.now depth) }
+    ensures { NextOf (alts_at (magic_walker rules.now) path.now depth) (next_at path.now depth) result }
 {
     let j = next(path, depth);
     alternative_at(rules, path, depth, j)
@@ -66,8 +66,8 @@ pub fn alternative(rules: &[u8], path: &[u8], depth: usize) -> NextBranch
 // The place, in the walk's order, of the instance that it is split at.
 fn split_place(rules: &[u8], path: &[u8], depth: usize) -> usize
     requires ruled { Ruled rules.now }
-    requires room { Room path.now depth × (magicWalker rules.now).Named (siteAt (magicWalker rules.now) path.now depth) }
-    ensures { result ≡ sitePlace rules.now (ruleSite (siteAt (magicWalker rules.now) path.now depth)) }
+    requires room { Room path.now depth × (magic_walker rules.now).Named (site_at (magic_walker rules.now) path.now depth) }
+    ensures { result ≡ site_place rules.now (rule_site (site_at (magic_walker rules.now) path.now depth)) }
 {
     let four = values(path, depth);
     place_at(rules, number(path, depth) as u16, &four)
@@ -87,7 +87,7 @@ fn find(
     requires ruled { Ruled rules.now }
     requires rules_indexed { RulesIndexed rules.now index.now }
     requires room { Room path.old depth × HeldOpening rules.now facts.old n done from × HeldFresh rules.now facts.old path.old depth n }
-    ensures { Finding (magicWalker rules.now) facts.old path.old depth n done result facts.new path.new × OwnFacts path.new depth result }
+    ensures { Finding (magic_walker rules.now) facts.old path.old depth n done result facts.new path.new × OwnFacts path.new depth result }
 {
     let node = settle(rules, index, facts, n, done, from);
     match node {
@@ -115,9 +115,9 @@ pub fn enter(
 ) -> Found
     requires ruled { Ruled rules.now }
     requires rules_indexed { RulesIndexed rules.now index.now }
-    requires parted { Parted (magicWalker rules.now) facts.old path.old depth }
-    requires next_of { NextOf (altsAt (magicWalker rules.now) path.old depth) (next_at path.old depth) (Atom a) }
-    ensures { ((count : ℕ) → Making (magicWalker rules.now) facts.old path.old depth count result facts.new path.new) × OwnFacts path.new (depth + 1) result }
+    requires parted { Parted (magic_walker rules.now) facts.old path.old depth }
+    requires next_of { NextOf (alts_at (magic_walker rules.now) path.old depth) (next_at path.old depth) (Atom a) }
+    ensures { ((count : ℕ) → Making (magic_walker rules.now) facts.old path.old depth count result facts.new path.new) × OwnFacts path.new (depth + 1) result }
 {
     let own = mark(path, depth);
     let from = split_place(rules, path, depth);
@@ -139,10 +139,10 @@ pub fn place(
 ) -> Found
     requires ruled { Ruled rules.now }
     requires rules_indexed { RulesIndexed rules.now index.now }
-    requires parted { Parted (magicWalker rules.now) facts.old path.old depth }
-    requires next_of { NextOf (altsAt (magicWalker rules.now) path.old depth) (next_at path.old depth) (Atom a) }
+    requires parted { Parted (magic_walker rules.now) facts.old path.old depth }
+    requires next_of { NextOf (alts_at (magic_walker rules.now) path.old depth) (next_at path.old depth) (Atom a) }
     requires count_lt_limit { count < limit }
-    ensures { Making (magicWalker rules.now) facts.old path.old depth count result facts.new path.new × OwnFacts path.new (depth + 1) result }
+    ensures { Making (magic_walker rules.now) facts.old path.old depth count result facts.new path.new × OwnFacts path.new (depth + 1) result }
 {
     enter(rules, index, facts, path, depth, a)
 }
@@ -152,7 +152,7 @@ pub fn root(rules: &[u8], index: &[u16; 6656], facts: &mut [u8], path: &mut [u8]
     requires ruled { Ruled rules.now }
     requires rules_indexed { RulesIndexed rules.now index.now }
     requires store { Store 2050 facts.old 0 × Room path.old 0 }
-    ensures { Beginning (magicWalker rules.now) result facts.new path.new × OwnFacts path.new 0 result × (deepestAt path.new ≡ deepestAt path.old) }
+    ensures { Beginning (magic_walker rules.now) result facts.new path.new × OwnFacts path.new 0 result × (deepest_at path.new ≡ deepest_at path.old) }
 {
     let n = start(rules, facts);
     find(rules, index, facts, path, 0, n, 0, 0)

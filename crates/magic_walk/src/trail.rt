@@ -1,13 +1,13 @@
 // The walk: visiting a node, which calls the trying of alternatives, which calls visiting.
 ghost use Rattle.std.specs.Prelude.{◌≡◌, ◌≤◌};
-ghost use Rattle.rewriting.specs.contracts.Ruled.{Ruled};
-ghost use Rattle.magic_rule.specs.contracts.Index.{RulesIndexed};
+ghost use Rattle.rewriting.specs.terms.Ruled.{Ruled};
+ghost use Rattle.magic_rule.specs.terms.Index.{RulesIndexed};
 ghost use Rattle.ground.specs.Instance.{Instance};
-ghost use Rattle.walk.specs.contracts.Walker.{Run, fromRoot};
-ghost use Rattle.walk.specs.contracts.Path.{markAt, deepestAt};
-ghost use Rattle.walk.specs.contracts.Place.{Beginning, Parted, Reached, Visiting, Trying};
-ghost use Rattle.walk.specs.contracts.Walk.{Leaves, Ended, Walks};
-ghost use Rattle.magic_walk.specs.contracts.Place.{magicWalker, OwnFacts};
+ghost use Rattle.walk.specs.terms.Walker.{Run, from_root};
+ghost use Rattle.walk.specs.terms.Path.{mark_at, deepest_at};
+ghost use Rattle.walk.specs.terms.Place.{Beginning, Parted, Reached, Visiting, Trying};
+ghost use Rattle.walk.specs.terms.Walk.{Leaves, Ended, Walks};
+ghost use Rattle.magic_walk.specs.terms.Place.{magic_walker, OwnFacts};
 
 use crate::place::{alternative, place};
 use ground::branch::NextBranch;
@@ -30,9 +30,9 @@ pub fn visit(
 ) -> Walked
     requires ruled { Ruled rules.now }
     requires rules_indexed { RulesIndexed rules.now index.now }
-    requires reached { Reached (magicWalker rules.now) facts.old path.old depth done found × OwnFacts path.old depth found }
+    requires reached { Reached (magic_walker rules.now) facts.old path.old depth done found × OwnFacts path.old depth found }
     requires count_le_limit { count ≤ limit }
-    ensures { Leaves (magicWalker rules.now) facts.old path.old depth done count limit result facts.new path.new × ((r : Run Instance) → r.limit ≡ limit → Visiting (magicWalker rules.now) r facts.old path.old depth found count → Ended (magicWalker rules.now) r path.old depth result facts.new path.new) }
+    ensures { Leaves (magic_walker rules.now) facts.old path.old depth done count limit result facts.new path.new × ((r : Run Instance) → r.limit ≡ limit → Visiting (magic_walker rules.now) r facts.old path.old depth found count → Ended (magic_walker rules.now) r path.old depth result facts.new path.new) }
 {
     match found {
         Found::Split(n) => {
@@ -68,9 +68,9 @@ pub fn try_next(
 ) -> Walked
     requires ruled { Ruled rules.now }
     requires rules_indexed { RulesIndexed rules.now index.now }
-    requires parted { Parted (magicWalker rules.now) facts.old path.old depth }
+    requires parted { Parted (magic_walker rules.now) facts.old path.old depth }
     requires count_le_limit { count ≤ limit }
-    ensures { Leaves (magicWalker rules.now) facts.old path.old depth (markAt path.old depth) count limit result facts.new path.new × ((r : Run Instance) → r.limit ≡ limit → Trying (magicWalker rules.now) r path.old depth count → Ended (magicWalker rules.now) r path.old depth result facts.new path.new) }
+    ensures { Leaves (magic_walker rules.now) facts.old path.old depth (mark_at path.old depth) count limit result facts.new path.new × ((r : Run Instance) → r.limit ≡ limit → Trying (magic_walker rules.now) r path.old depth count → Ended (magic_walker rules.now) r path.old depth result facts.new path.new) }
 {
     let own = mark(path, depth);
     let mut made = count;
@@ -112,8 +112,8 @@ pub fn from_root(
 ) -> Walked
     requires ruled { Ruled rules.now }
     requires rules_indexed { RulesIndexed rules.now index.now }
-    requires beginning { Beginning (magicWalker rules.now) found facts.old path.old × OwnFacts path.old 0 found }
-    ensures { Walks (magicWalker rules.now) (fromRoot (magicWalker rules.now) (deepestAt path.old) limit) result facts.new path.new }
+    requires beginning { Beginning (magic_walker rules.now) found facts.old path.old × OwnFacts path.old 0 found }
+    ensures { Walks (magic_walker rules.now) (from_root (magic_walker rules.now) (deepest_at path.old) limit) result facts.new path.new }
 {
     visit(rules, index, facts, path, 0, 0, found, 0, limit)
 }

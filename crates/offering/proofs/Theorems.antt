@@ -9,312 +9,312 @@ use lib.Dec.{T, eqb, ltb, eqb→eq}
 use lib.ListN.{length, take, drop, get_or, replicate, length-append, length-drop}
 use lib.Seq.{take_at, drop_at}
 use Rattle.lists.specs.Bytes.{pad}
-use Rattle.lists.specs.Key.{natKey}
+use Rattle.lists.specs.Key.{nat_key}
 use Rattle.lists.specs.Member.{All, In}
 use Rattle.lists.proofs.Bytes.{pad-length}
-use Rattle.lists.proofs.Test.{T_true, T_false, fails}
+use Rattle.lists.proofs.Test.{T-true, T-false, fails}
 use Rattle.problem.specs.declared.judge.Judged.{Judged}
 use Rattle.problem.specs.declared.judge.Judged.TheVariants.{Fault, Found}
 use Rattle.problem.specs.Problem.{Problem, Fits}
-use Rattle.problem.specs.Judge.{clauseAt}
-use Rattle.problem.specs.Layout.{layout, problemIn}
+use Rattle.problem.specs.Judge.{clause_at}
+use Rattle.problem.specs.Layout.{layout, problem_in}
 use Rattle.problem.specs.Print.{text_of}
-use Rattle.problem.specs.Table.{Valid, isValid}
-use Rattle.problem.specs.Extended.{withClause, judgeNext, textWith, nextRead}
-use Rattle.problem.proofs.Accepted.{parse-accepts}
-use Rattle.problem.proofs.Next.{next-clause, next-line}
-use Rattle.problem.proofs.TableLayout.{layout-length, problem-back}
-use Rattle.problem.proofs.Theorems.{valid-from, valid_to, valid-lawful}
-use Rattle.reading.specs.Read.{reading_of, readResult, readLeaves}
-use Rattle.writing.specs.contracts.Lent.{refusalOf}
-use Rattle.writing.proofs.LentLaws.{refusal-none, Taken}
+use Rattle.problem.specs.Table.{Valid, is_valid}
+use Rattle.problem.specs.Extended.{with_clause, judge_next, text_with, next_read}
+use Rattle.problem.proofs.Accepted.{parse_accepts}
+use Rattle.problem.proofs.Next.{next_clause, next_line}
+use Rattle.problem.proofs.TableLayout.{layout-length, problem_back}
+use Rattle.problem.proofs.Theorems.{valid_from, valid_to, Valid-Lawful}
+use Rattle.reading.specs.Read.{reading_of, read_result, read_leaves}
+use Rattle.writing.specs.terms.Lent.{refusal_of}
+use Rattle.writing.proofs.LentLaws.{refusal_none, Taken}
 use Rattle.offering.specs.declared.offer.Offering.{Offering}
 use Rattle.offering.specs.declared.offer.Offering.TheVariants.{Refused, Done}
-use Rattle.offering.specs.Offer.{slipOver, countHeld, frameHeld, offeringOf, unlessFault, offerResult, offerLeaves, judgeSlip, setResult, setLeaves}
-use Rattle.offering.specs.Claims.{problemLent, Held, afterOffers, asRead, SetAs, clauseRefusals, Theorems}
-use Rattle.offering.proofs.RefusalLaws.{next-numbers, slip-numbers, said-numbers}
-use Rattle.offering.proofs.OfferLaws.{frame-short, next-read, own-lawful, offer-refused, lent, offer-taken, set-refused, set-lent, set-taken}
+use Rattle.offering.specs.Offer.{slip_over, count_held, frame_held, offering_of, unless_fault, offer_result, offer_leaves, judge_slip, set_result, set_leaves}
+use Rattle.offering.specs.Claims.{problem_lent, Held, after_offers, as_read, SetAs, clause_refusals, Theorems}
+use Rattle.offering.proofs.RefusalLaws.{next_numbers, slip_numbers, said_numbers}
+use Rattle.offering.proofs.OfferLaws.{frame_short, next_read_lem, own_lawful, offer_refused, lent, offer_taken, set_refused, set_lent, set_taken}
 
 -- ---- what was taken, and what was not
 
-refused-done : (e : ℕ) → ◌≡◌ {A = Offering} (Refused e) Done → ⊥
-refused-done e q = let z : ◌≡◌ {A = ℕ} 0 1 = cc in omega arith
+refused_done : (e : ℕ) → ◌≡◌ {A = Offering} (Refused e) Done → ⊥
+refused_done e q = let z : ◌≡◌ {A = ℕ} 0 1 = cc in omega arith
 
 -- a frame that an offer takes
 record Offered (tb f slip : List ℕ) : Type 0 where
   lent : Taken tb (ltb (length slip) 37)
   vars : ℕ
-  found : judgeNext (problemLent tb) f ≡ Found vars
-  leaves : offerLeaves tb f slip ≡ slipOver (length (problemLent tb).clauses) f slip
+  found : judge_next (problem_lent tb) f ≡ Found vars
+  leaves : offer_leaves tb f slip ≡ slip_over (length (problem_lent tb).clauses) f slip
 
 -- a slip that is set
 record Settled (tb slip : List ℕ) : Type 0 where
   lent : Taken tb (ltb (length slip) 37)
   vars : ℕ
-  count : countHeld slip ≡ length (problemLent tb).clauses
-  found : judgeNext (problemLent tb) (frameHeld slip) ≡ Found vars
-  leaves : setLeaves tb slip ≡ readLeaves (textWith (problemLent tb) (frameHeld slip)) tb
+  count : count_held slip ≡ length (problem_lent tb).clauses
+  found : judge_next (problem_lent tb) (frame_held slip) ≡ Found vars
+  leaves : set_leaves tb slip ≡ read_leaves (text_with (problem_lent tb) (frame_held slip)) tb
 
-offered : (tb f slip : List ℕ) → offerResult tb f slip ≡ Done → Offered tb f slip
-offered tb f slip done = go (refusalOf tb (ltb (length slip) 37)) refl
+offered : (tb f slip : List ℕ) → offer_result tb f slip ≡ Done → Offered tb f slip
+offered tb f slip done = go (refusal_of tb (ltb (length slip) 37)) refl
   where
-    judged : (t : Taken tb (ltb (length slip) 37)) (o : Judged) → judgeNext (problemLent tb) f ≡ o
-        → (offeringOf o ≡ offerResult tb f slip) × (unlessFault o slip (slipOver (length (problemLent tb).clauses) f slip) ≡ offerLeaves tb f slip) → Offered tb f slip
-    judged t (Fault e) q both = absurd (refused-done e (both.0 ∙ done))
+    judged : (t : Taken tb (ltb (length slip) 37)) (o : Judged) → judge_next (problem_lent tb) f ≡ o
+        → (offering_of o ≡ offer_result tb f slip) × (unless_fault o slip (slip_over (length (problem_lent tb).clauses) f slip) ≡ offer_leaves tb f slip) → Offered tb f slip
+    judged t (Fault e) q both = absurd (refused_done e (both.0 ∙ done))
     judged t (Found v) q both = record { lent = t; vars = v; found = q; leaves = sym both.1 }
 
-    go : (n : ℕ) → n ≡ refusalOf tb (ltb (length slip) 37) → Offered tb f slip
-    go zero e = judged (lent tb f slip 0 e refl) (judgeNext (problemLent tb) f) refl (offer-taken tb f slip 0 e refl)
-    go (suc n) e = absurd (refused-done (suc n) ((offer-refused tb f slip (suc n) e (omega arith)).0 ∙ done))
+    go : (n : ℕ) → n ≡ refusal_of tb (ltb (length slip) 37) → Offered tb f slip
+    go zero e = judged (lent tb f slip 0 e refl) (judge_next (problem_lent tb) f) refl (offer_taken tb f slip 0 e refl)
+    go (suc n) e = absurd (refused_done (suc n) ((offer_refused tb f slip (suc n) e (omega arith)).0 ∙ done))
 
 module _ (tb slip : List ℕ) where
   -- what setting says and leaves, where the slip is judged so
   abbrev Judges : Judged → Type 0
-  Judges j = (offeringOf j ≡ setResult tb slip) × (unlessFault j tb (readLeaves (textWith (problemLent tb) (frameHeld slip)) tb) ≡ setLeaves tb slip)
+  Judges j = (offering_of j ≡ set_result tb slip) × (unless_fault j tb (read_leaves (text_with (problem_lent tb) (frame_held slip)) tb) ≡ set_leaves tb slip)
 
-  slip-judged : Taken tb (ltb (length slip) 37) → Judges (judgeSlip (problemLent tb) slip)
-  slip-judged t = set-taken tb slip 0 (refusal-none tb (ltb (length slip) 37) t.long t.room t.valid) refl
+  slip_judged : Taken tb (ltb (length slip) 37) → Judges (judge_slip (problem_lent tb) slip)
+  slip_judged t = set_taken tb slip 0 (refusal_none tb (ltb (length slip) 37) t.long t.room t.valid) refl
 
-  settled : setResult tb slip ≡ Done → Settled tb slip
-  unfolding judgeSlip
-  settled done = go (refusalOf tb (ltb (length slip) 37)) refl
+  settled : set_result tb slip ≡ Done → Settled tb slip
+  unfolding judge_slip
+  settled done = go (refusal_of tb (ltb (length slip) 37)) refl
     where
-      judged : (t : Taken tb (ltb (length slip) 37)) → countHeld slip ≡ length (problemLent tb).clauses → (o : Judged) → judgeNext (problemLent tb) (frameHeld slip) ≡ o → Judges o → Settled tb slip
-      judged t same (Fault e) q both = absurd (refused-done e (both.0 ∙ done))
+      judged : (t : Taken tb (ltb (length slip) 37)) → count_held slip ≡ length (problem_lent tb).clauses → (o : Judged) → judge_next (problem_lent tb) (frame_held slip) ≡ o → Judges o → Settled tb slip
+      judged t same (Fault e) q both = absurd (refused_done e (both.0 ∙ done))
       judged t same (Found v) q both = record { lent = t; vars = v; count = same; found = q; leaves = sym both.1 }
 
-      tests : (t : Taken tb (ltb (length slip) 37)) (b : Bool) → eqb (countHeld slip) (length (problemLent tb).clauses) ≡ b → (d : Bool)
-          → Judges (cond b (cond d (judgeNext (problemLent tb) (frameHeld slip)) (Fault 3)) (Fault 43)) → Settled tb slip
-      tests t false e d both = absurd (refused-done 43 (both.0 ∙ done))
-      tests t true e false both = absurd (refused-done 3 (both.0 ∙ done))
-      tests t true e true both = judged t (eqb→eq (countHeld slip) (length (problemLent tb).clauses) (subst T (sym e) tt)) (judgeNext (problemLent tb) (frameHeld slip)) refl both
+      tests : (t : Taken tb (ltb (length slip) 37)) (b : Bool) → eqb (count_held slip) (length (problem_lent tb).clauses) ≡ b → (d : Bool)
+          → Judges (cond b (cond d (judge_next (problem_lent tb) (frame_held slip)) (Fault 3)) (Fault 43)) → Settled tb slip
+      tests t false e d both = absurd (refused_done 43 (both.0 ∙ done))
+      tests t true e false both = absurd (refused_done 3 (both.0 ∙ done))
+      tests t true e true both = judged t (eqb→eq (count_held slip) (length (problem_lent tb).clauses) (subst T (sym e) tt)) (judge_next (problem_lent tb) (frame_held slip)) refl both
 
-      go : (n : ℕ) → n ≡ refusalOf tb (ltb (length slip) 37) → Settled tb slip
-      go zero e = let t = set-lent tb slip 0 e refl in tests t (eqb (countHeld slip) (length (problemLent tb).clauses)) refl (ltb (get_or slip 1 0) 36) (slip-judged t)
-      go (suc n) e = absurd (refused-done (suc n) ((set-refused tb slip (suc n) e (omega arith)).0 ∙ done))
+      go : (n : ℕ) → n ≡ refusal_of tb (ltb (length slip) 37) → Settled tb slip
+      go zero e = let t = set_lent tb slip 0 e refl in tests t (eqb (count_held slip) (length (problem_lent tb).clauses)) refl (ltb (get_or slip 1 0) 36) (slip_judged t)
+      go (suc n) e = absurd (refused_done (suc n) ((set_refused tb slip (suc n) e (omega arith)).0 ∙ done))
 
 -- ---- 31 first, and then the frame
 
 module _ (tb f slip : List ℕ) (long : 4096 ≤ length tb) (room : 37 ≤ length slip) where
-  unlawful : (Valid (take 4096 tb) → ⊥) → (offerResult tb f slip ≡ Refused 31) × (setResult tb slip ≡ Refused 31)
-  unfolding offerResult setResult
+  unlawful : (Valid (take 4096 tb) → ⊥) → (offer_result tb f slip ≡ Refused 31) × (set_result tb slip ≡ Refused 31)
+  unfolding offer_result set_result
   unlawful other =
-      let no : isValid (take 4096 tb) ≡ false =
-      T_false (isValid (take 4096 tb)) (fails (isValid (take 4096 tb)) (λ t. other (valid-from (take 4096 tb) t)))
+      let no : is_valid (take 4096 tb) ≡ false =
+      T-false (is_valid (take 4096 tb)) (fails (is_valid (take 4096 tb)) (λ t. other (valid_from (take 4096 tb) t)))
       in
       (rw (le-ltb (length tb) 4096 long, le-ltb (length slip) 37 room, no), rw (le-ltb (length tb) 4096 long, le-ltb (length slip) 37 room, no))
 
-  judged : Valid (take 4096 tb) → offerResult tb f slip ≡ offeringOf (judgeNext (problemLent tb) f)
-  unfolding offerResult
-  judged valid = rw (le-ltb (length tb) 4096 long, le-ltb (length slip) 37 room, T_true (isValid (take 4096 tb)) (valid_to (take 4096 tb) valid))
+  judged : Valid (take 4096 tb) → offer_result tb f slip ≡ offering_of (judge_next (problem_lent tb) f)
+  unfolding offer_result
+  judged valid = rw (le-ltb (length tb) 4096 long, le-ltb (length slip) 37 room, T-true (is_valid (take 4096 tb)) (valid_to (take 4096 tb) valid))
 
 -- ---- the numbers of refusals
 
-refusals : (tb f slip : List ℕ) (e : ℕ) → offerResult tb f slip ≡ Refused e → In natKey (11 ∷ 31 ∷ clauseRefusals) e
-unfolding offerResult
+refusals : (tb f slip : List ℕ) (e : ℕ) → offer_result tb f slip ≡ Refused e → In nat_key (11 ∷ 31 ∷ clause_refusals) e
+unfolding offer_result
 refusals tb f slip e =
-    said-numbers (In natKey (11 ∷ 31 ∷ clauseRefusals)) (ltb (length tb) 4096 || ltb (length slip) 37) (isValid (take 4096 tb)) (judgeNext (problemLent tb) f) e tt tt (next-numbers (problemLent tb) f)
+    said_numbers (In nat_key (11 ∷ 31 ∷ clause_refusals)) (ltb (length tb) 4096 || ltb (length slip) 37) (is_valid (take 4096 tb)) (judge_next (problem_lent tb) f) e tt tt (next_numbers (problem_lent tb) f)
 
-set-refusals : (tb slip : List ℕ) (e : ℕ) → setResult tb slip ≡ Refused e → In natKey (11 ∷ 31 ∷ 43 ∷ clauseRefusals) e
-unfolding setResult
-set-refusals tb slip e =
-    said-numbers (In natKey (11 ∷ 31 ∷ 43 ∷ clauseRefusals)) (ltb (length tb) 4096 || ltb (length slip) 37) (isValid (take 4096 tb)) (judgeSlip (problemLent tb) slip) e tt tt (slip-numbers (problemLent tb) slip)
+set_refusals : (tb slip : List ℕ) (e : ℕ) → set_result tb slip ≡ Refused e → In nat_key (11 ∷ 31 ∷ 43 ∷ clause_refusals) e
+unfolding set_result
+set_refusals tb slip e =
+    said_numbers (In nat_key (11 ∷ 31 ∷ 43 ∷ clause_refusals)) (ltb (length tb) 4096 || ltb (length slip) 37) (is_valid (take 4096 tb)) (judge_slip (problem_lent tb) slip) e tt tt (slip_numbers (problem_lent tb) slip)
 
 -- ---- a refusal changes nothing
 
-unoffered-kept : (tb f slip : List ℕ) (e : ℕ) → offerResult tb f slip ≡ Refused e → offerLeaves tb f slip ≡ slip
-unfolding offerResult offerLeaves
-unoffered-kept tb f slip e = go (ltb (length tb) 4096 || ltb (length slip) 37) (isValid (take 4096 tb)) (judgeNext (problemLent tb) f)
+unoffered_kept : (tb f slip : List ℕ) (e : ℕ) → offer_result tb f slip ≡ Refused e → offer_leaves tb f slip ≡ slip
+unfolding offer_result offer_leaves
+unoffered_kept tb f slip e = go (ltb (length tb) 4096 || ltb (length slip) 37) (is_valid (take 4096 tb)) (judge_next (problem_lent tb) f)
   where
-    go : (b v : Bool) (o : Judged) → cond b (Refused 11) (cond v (offeringOf o) (Refused 31)) ≡ Refused e → cond b slip (cond v (unlessFault o slip (slipOver (length (problemLent tb).clauses) f slip)) slip) ≡ slip
+    go : (b v : Bool) (o : Judged) → cond b (Refused 11) (cond v (offering_of o) (Refused 31)) ≡ Refused e → cond b slip (cond v (unless_fault o slip (slip_over (length (problem_lent tb).clauses) f slip)) slip) ≡ slip
     go true v o q = refl
     go false false o q = refl
     go false true (Fault i) q = refl
-    go false true (Found i) q = absurd (refused-done e (sym q))
+    go false true (Found i) q = absurd (refused_done e (sym q))
 
-unset-kept : (tb slip : List ℕ) (e : ℕ) → setResult tb slip ≡ Refused e → setLeaves tb slip ≡ tb
-unfolding setResult setLeaves
-unset-kept tb slip e = go (ltb (length tb) 4096 || ltb (length slip) 37) (isValid (take 4096 tb)) (judgeSlip (problemLent tb) slip)
+unset_kept : (tb slip : List ℕ) (e : ℕ) → set_result tb slip ≡ Refused e → set_leaves tb slip ≡ tb
+unfolding set_result set_leaves
+unset_kept tb slip e = go (ltb (length tb) 4096 || ltb (length slip) 37) (is_valid (take 4096 tb)) (judge_slip (problem_lent tb) slip)
   where
-    go : (b v : Bool) (o : Judged) → cond b (Refused 11) (cond v (offeringOf o) (Refused 31)) ≡ Refused e
-        → cond b tb (cond v (unlessFault o tb (readLeaves (textWith (problemLent tb) (frameHeld slip)) tb)) tb) ≡ tb
+    go : (b v : Bool) (o : Judged) → cond b (Refused 11) (cond v (offering_of o) (Refused 31)) ≡ Refused e
+        → cond b tb (cond v (unless_fault o tb (read_leaves (text_with (problem_lent tb) (frame_held slip)) tb)) tb) ≡ tb
     go true v o q = refl
     go false false o q = refl
     go false true (Fault i) q = refl
-    go false true (Found i) q = absurd (refused-done e (sym q))
+    go false true (Found i) q = absurd (refused_done e (sym q))
 
 -- ---- what a slip holds after an offer
 
 module _ (n : ℕ) (f slip : List ℕ) (short : length f ≤ 35) where
-  over-frame : frameHeld (slipOver n f slip) ≡ f
-  over-frame = rw (append_assoc f (replicate (35 - length f) 0) (drop 37 slip)) (take_at f (replicate (35 - length f) 0 ++ drop 37 slip) (length f) refl)
+  over_frame : frame_held (slip_over n f slip) ≡ f
+  over_frame = rw (append_assoc f (replicate (35 - length f) 0) (drop 37 slip)) (take_at f (replicate (35 - length f) 0 ++ drop 37 slip) (length f) refl)
 
-  over-rest : drop (length f) (take 35 (drop 2 (slipOver n f slip))) ≡ replicate (35 - length f) 0
-  over-rest = ap (drop (length f)) (take_at (pad 35 f) (drop 37 slip) 35 (pad-length 35 f short)) ∙ drop_at f (replicate (35 - length f) 0) (length f) refl
+  over_rest : drop (length f) (take 35 (drop 2 (slip_over n f slip))) ≡ replicate (35 - length f) 0
+  over_rest = ap (drop (length f)) (take_at (pad 35 f) (drop 37 slip) 35 (pad-length 35 f short)) ∙ drop_at f (replicate (35 - length f) 0) (length f) refl
 
-  over-room : 37 ≤ length slip → 37 ≤ length (slipOver n f slip)
-  over-room room = omega (arith, length-append (pad 35 f) (drop 37 slip), pad-length 35 f short, length-drop 37 slip)
+  over_room : 37 ≤ length slip → 37 ≤ length (slip_over n f slip)
+  over_room room = omega (arith, length-append (pad 35 f) (drop 37 slip), pad-length 35 f short, length-drop 37 slip)
 
 module _ (tb f slip : List ℕ) (o : Offered tb f slip) where
   held : List ℕ
-  held = slipOver (length (problemLent tb).clauses) f slip
+  held = slip_over (length (problem_lent tb).clauses) f slip
 
   few : length f ≤ 35
-  few = frame-short (problemLent tb) f o.vars (own-lawful tb slip o.lent).fits o.found
+  few = frame_short (problem_lent tb) f o.vars (own_lawful tb slip o.lent).fits o.found
 
-  held-holds : Held tb f held
+  held_holds : Held tb f held
   unfolding held
-  held-holds = record { count = refl; frame = over-frame (length (problemLent tb).clauses) f slip few; rest = over-rest (length (problemLent tb).clauses) f slip few }
+  held_holds = record { count = refl; frame = over_frame (length (problem_lent tb).clauses) f slip few; rest = over_rest (length (problem_lent tb).clauses) f slip few }
 
-  held-lent : Taken tb (ltb (length held) 37)
+  held_lent : Taken tb (ltb (length held) 37)
   unfolding held
-  held-lent =
+  held_lent =
       record {
         long = o.lent.long;
-        room = le-ltb (length held) 37 (over-room (length (problemLent tb).clauses) f slip few (ltb-false (length slip) 37 o.lent.room));
+        room = le-ltb (length held) 37 (over_room (length (problem_lent tb).clauses) f slip few (ltb-false (length slip) 37 o.lent.room));
         valid = o.lent.valid;
       }
 
-  held-judged : judgeSlip (problemLent tb) held ≡ Found o.vars
-  unfolding held judgeSlip
-  held-judged =
-      let n = length (problemLent tb).clauses in
-      rw (eq-eqb n n refl, lt-ltb (length f) 36 (omega (arith, few)), over-frame n f slip few) o.found
+  held_judged : judge_slip (problem_lent tb) held ≡ Found o.vars
+  unfolding held judge_slip
+  held_judged =
+      let n = length (problem_lent tb).clauses in
+      rw (eq-eqb n n refl, lt-ltb (length f) 36 (omega (arith, few)), over_frame n f slip few) o.found
 
-  held-sets : Judges tb held (Found o.vars)
-  held-sets = subst (Judges tb held) held-judged (slip-judged tb held held-lent)
+  held_sets : Judges tb held (Found o.vars)
+  held_sets = subst (Judges tb held) held_judged (slip_judged tb held held_lent)
 
-slip-holds : (tb f slip : List ℕ) → offerResult tb f slip ≡ Done → Held tb f (offerLeaves tb f slip)
+slip_holds : (tb f slip : List ℕ) → offer_result tb f slip ≡ Done → Held tb f (offer_leaves tb f slip)
 unfolding held
-slip-holds tb f slip done =
+slip_holds tb f slip done =
     let o = offered tb f slip done in
-    subst (Held tb f) (sym o.leaves) (held-holds tb f slip o)
+    subst (Held tb f) (sym o.leaves) (held_holds tb f slip o)
 
-slip-beyond : (tb f slip : List ℕ) → offerResult tb f slip ≡ Done → drop 37 (offerLeaves tb f slip) ≡ drop 37 slip
-slip-beyond tb f slip done =
+slip_beyond : (tb f slip : List ℕ) → offer_result tb f slip ≡ Done → drop 37 (offer_leaves tb f slip) ≡ drop 37 slip
+slip_beyond tb f slip done =
     let o = offered tb f slip done in
     let size : length (pad 35 f) ≡ 35 = pad-length 35 f (few tb f slip o) in
-    ap (drop 37) o.leaves ∙ drop_at (length (problemLent tb).clauses ∷ length f ∷ pad 35 f) (drop 37 slip) 37 (omega (arith, size))
+    ap (drop 37) o.leaves ∙ drop_at (length (problem_lent tb).clauses ∷ length f ∷ pad 35 f) (drop 37 slip) 37 (omega (arith, size))
 
 -- ---- offers in between
 
-offer-sets : (tb f slip : List ℕ) → offerResult tb f slip ≡ Done → setResult tb (offerLeaves tb f slip) ≡ Done
+offer_sets : (tb f slip : List ℕ) → offer_result tb f slip ≡ Done → set_result tb (offer_leaves tb f slip) ≡ Done
 unfolding held
-offer-sets tb f slip done =
+offer_sets tb f slip done =
     let o = offered tb f slip done in
-    ap (setResult tb) o.leaves ∙ sym (held-sets tb f slip o).0
+    ap (set_result tb) o.leaves ∙ sym (held_sets tb f slip o).0
 
 -- an offer leaves a slip that is set as one that is set
-still-sets : (tb f slip : List ℕ) → setResult tb slip ≡ Done → setResult tb (offerLeaves tb f slip) ≡ Done
-still-sets tb f slip sets = go (offerResult tb f slip) refl
+still_sets : (tb f slip : List ℕ) → set_result tb slip ≡ Done → set_result tb (offer_leaves tb f slip) ≡ Done
+still_sets tb f slip sets = go (offer_result tb f slip) refl
   where
-    go : (r : Offering) → offerResult tb f slip ≡ r → setResult tb (offerLeaves tb f slip) ≡ Done
-    go (Refused e) q = ap (setResult tb) (unoffered-kept tb f slip e q) ∙ sets
-    go Done q = offer-sets tb f slip q
+    go : (r : Offering) → offer_result tb f slip ≡ r → set_result tb (offer_leaves tb f slip) ≡ Done
+    go (Refused e) q = ap (set_result tb) (unoffered_kept tb f slip e q) ∙ sets
+    go Done q = offer_sets tb f slip q
 
-offers-set : (tb : List ℕ) (fs : List (List ℕ)) (slip : List ℕ) → setResult tb slip ≡ Done → setResult tb (afterOffers tb fs slip) ≡ Done
-offers-set tb [] slip sets = sets
-offers-set tb (f ∷ fs) slip sets = offers-set tb fs (offerLeaves tb f slip) (still-sets tb f slip sets)
+offers_set : (tb : List ℕ) (fs : List (List ℕ)) (slip : List ℕ) → set_result tb slip ≡ Done → set_result tb (after_offers tb fs slip) ≡ Done
+offers_set tb [] slip sets = sets
+offers_set tb (f ∷ fs) slip sets = offers_set tb fs (offer_leaves tb f slip) (still_sets tb f slip sets)
 
 -- ---- a slip that may hold anything
 
 module _ (tb slip : List ℕ) (long : 4096 ≤ length tb) (room : 37 ≤ length slip) (valid : Valid (take 4096 tb)) where
   any_lent : Taken tb (ltb (length slip) 37)
-  any_lent = record { long = long; room = le-ltb (length slip) 37 room; valid = T_true _ (valid_to (take 4096 tb) valid) }
+  any_lent = record { long = long; room = le-ltb (length slip) 37 room; valid = T-true _ (valid_to (take 4096 tb) valid) }
 
-  any-judged : (o : Judged) → judgeSlip (problemLent tb) slip ≡ o → setResult tb slip ≡ offeringOf o
-  any-judged o e = sym (subst (Judges tb slip) e (slip-judged tb slip any_lent)).0
+  any_judged : (o : Judged) → judge_slip (problem_lent tb) slip ≡ o → set_result tb slip ≡ offering_of o
+  any_judged o e = sym (subst (Judges tb slip) e (slip_judged tb slip any_lent)).0
 
-  seen_first : (countHeld slip ≡ length (problemLent tb).clauses → ⊥) → setResult tb slip ≡ Refused 43
-  unfolding judgeSlip
-  seen_first other = any-judged (Fault 43) (rw (ne_eqb (countHeld slip) (length (problemLent tb).clauses) other))
+  seen_first : (count_held slip ≡ length (problem_lent tb).clauses → ⊥) → set_result tb slip ≡ Refused 43
+  unfolding judge_slip
+  seen_first other = any_judged (Fault 43) (rw (ne_eqb (count_held slip) (length (problem_lent tb).clauses) other))
 
-  too_long : countHeld slip ≡ length (problemLent tb).clauses → 36 ≤ get_or slip 1 0 → setResult tb slip ≡ Refused 3
-  unfolding judgeSlip
-  too_long same long = any-judged (Fault 3) (rw (eq-eqb (countHeld slip) (length (problemLent tb).clauses) same, le-ltb (get_or slip 1 0) 36 long))
+  too_long : count_held slip ≡ length (problem_lent tb).clauses → 36 ≤ get_or slip 1 0 → set_result tb slip ≡ Refused 3
+  unfolding judge_slip
+  too_long same long = any_judged (Fault 3) (rw (eq-eqb (count_held slip) (length (problem_lent tb).clauses) same, le-ltb (get_or slip 1 0) 36 long))
 
-set-as-offered : (tb slip : List ℕ) → countHeld slip ≡ length (problemLent tb).clauses → get_or slip 1 0 ≤ 35 → setResult tb slip ≡ offerResult tb (frameHeld slip) slip
-unfolding setResult offerResult judgeSlip
-set-as-offered tb slip same short = rw (eq-eqb (countHeld slip) (length (problemLent tb).clauses) same, lt-ltb (get_or slip 1 0) 36 (omega (arith, short)))
+set_as_offered : (tb slip : List ℕ) → count_held slip ≡ length (problem_lent tb).clauses → get_or slip 1 0 ≤ 35 → set_result tb slip ≡ offer_result tb (frame_held slip) slip
+unfolding set_result offer_result judge_slip
+set_as_offered tb slip same short = rw (eq-eqb (count_held slip) (length (problem_lent tb).clauses) same, lt-ltb (get_or slip 1 0) 36 (omega (arith, short)))
 
 -- ---- what is set
 
 module _ (tb slip : List ℕ) (s : Settled tb slip) where
   abbrev q : Problem
-  q = problemLent tb
+  q = problem_lent tb
 
   abbrev more : Problem
-  more = withClause q (clauseAt q.arities (frameHeld slip) s.vars)
+  more = with_clause q (clause_at q.arities (frame_held slip) s.vars)
 
   fits : Fits q
-  fits = (own-lawful tb slip s.lent).fits
+  fits = (own_lawful tb slip s.lent).fits
 
-  more-fits : Fits more
-  more-fits = (next-clause q (frameHeld slip) s.vars s.found fits).fits
+  more-Fits : Fits more
+  more-Fits = (next_clause q (frame_held slip) s.vars s.found fits).fits
 
-  added : setLeaves tb slip ≡ layout more ++ drop 4096 tb
-  unfolding readLeaves
-  added = s.leaves ∙ rw (le-ltb (length tb) 4096 s.lent.long, next-read q (frameHeld slip) s.vars fits s.found) refl
+  added : set_leaves tb slip ≡ layout more ++ drop 4096 tb
+  unfolding read_leaves
+  added = s.leaves ∙ rw (le-ltb (length tb) 4096 s.lent.long, next_read_lem q (frame_held slip) s.vars fits s.found) refl
 
-  more-own : take 4096 (setLeaves tb slip) ≡ layout more
-  more-own = ap (take 4096) added ∙ take_at (layout more) (drop 4096 tb) 4096 (layout-length more more-fits)
+  more_own : take 4096 (set_leaves tb slip) ≡ layout more
+  more_own = ap (take 4096) added ∙ take_at (layout more) (drop 4096 tb) 4096 (layout-length more more-Fits)
 
-  more-valid : Valid (take 4096 (setLeaves tb slip))
-  more-valid = record { text = text_of more; problem = more; accepted = parse-accepts more more-fits; bytes = sym more-own }
+  more_valid : Valid (take 4096 (set_leaves tb slip))
+  more_valid = record { text = text_of more; problem = more; accepted = parse_accepts more more-Fits; bytes = sym more_own }
 
-  set-as : SetAs tb slip
-  set-as =
+  set_as : SetAs tb slip
+  set_as =
       record {
-        clause = clauseAt q.arities (frameHeld slip) s.vars;
-        said = (next-clause q (frameHeld slip) s.vars s.found fits).said;
-        fits = more-fits;
+        clause = clause_at q.arities (frame_held slip) s.vars;
+        said = (next_clause q (frame_held slip) s.vars s.found fits).said;
+        fits = more-Fits;
         added = added;
-        valid = more-valid;
+        valid = more_valid;
       }
 
-  more-lent : Taken (setLeaves tb slip) (ltb (length slip) 37)
-  more-lent =
+  more_lent : Taken (set_leaves tb slip) (ltb (length slip) 37)
+  more_lent =
       record {
-        long = rw added (omega (arith, length-append (layout more) (drop 4096 tb), layout-length more more-fits));
+        long = rw added (omega (arith, length-append (layout more) (drop 4096 tb), layout-length more more-Fits));
         room = s.lent.room;
-        valid = T_true _ (valid_to (take 4096 (setLeaves tb slip)) more-valid);
+        valid = T-true _ (valid_to (take 4096 (set_leaves tb slip)) more_valid);
       }
 
-  more-found : problemLent (setLeaves tb slip) ≡ more
-  more-found = ap problemIn more-own ∙ problem-back more more-fits
+  more_found : problem_lent (set_leaves tb slip) ≡ more
+  more_found = ap problem_in more_own ∙ problem_back more more-Fits
 
   -- the slip's count is that of the table before
-  stale : judgeSlip (problemLent (setLeaves tb slip)) slip ≡ Fault 43
-  unfolding judgeSlip
+  stale : judge_slip (problem_lent (set_leaves tb slip)) slip ≡ Fault 43
+  unfolding judge_slip
   stale =
-      let count : countHeld slip ≡ length q.clauses = s.count in
+      let count : count_held slip ≡ length q.clauses = s.count in
       let longer : length more.clauses ≡ length q.clauses + 1 = length-append q.clauses _ in
-      rw (more-found, ne_eqb (countHeld slip) (length more.clauses) (λ e. omega arith)) refl
+      rw (more_found, ne_eqb (count_held slip) (length more.clauses) (λ e. omega arith)) refl
 
-  set-once : setResult (setLeaves tb slip) slip ≡ Refused 43
-  set-once = sym (subst (Judges (setLeaves tb slip) slip) stale (slip-judged (setLeaves tb slip) slip more-lent)).0
+  set_once : set_result (set_leaves tb slip) slip ≡ Refused 43
+  set_once = sym (subst (Judges (set_leaves tb slip) slip) stale (slip_judged (set_leaves tb slip) slip more_lent)).0
 
 -- ---- as reading gives it
 
 module _ (tb f slip : List ℕ) (long : 4096 ≤ length tb) (room : 37 ≤ length slip) (valid : Valid (take 4096 tb)) (bytes : All (λ b. b < 256) f) (short : length f ≤ 35) (kind : get_or f 0 0 ≡ 3) where
-  offered-as-read : readResult (textWith (problemLent tb) f) tb ≡ asRead (2 + length (problemLent tb).arities + length (problemLent tb).clauses) (offerResult tb f slip)
-  unfolding readResult
-  offered-as-read =
-      let q = problemLent tb in
-      let taken = refusal-none tb (ltb (length slip) 37) long (le-ltb (length slip) 37 room) (T_true _ (valid_to (take 4096 tb) valid)) in
-      rw (le-ltb (length tb) 4096 long, next-line q f (valid-lawful (take 4096 tb) valid).fits bytes short kind, ← (offer-taken tb f slip 0 taken refl).0) (go (judgeNext q f))
+  offered_as_read : read_result (text_with (problem_lent tb) f) tb ≡ as_read (2 + length (problem_lent tb).arities + length (problem_lent tb).clauses) (offer_result tb f slip)
+  unfolding read_result
+  offered_as_read =
+      let q = problem_lent tb in
+      let taken = refusal_none tb (ltb (length slip) 37) long (le-ltb (length slip) 37 room) (T-true _ (valid_to (take 4096 tb) valid)) in
+      rw (le-ltb (length tb) 4096 long, next_line q f (Valid-Lawful (take 4096 tb) valid).fits bytes short kind, ← (offer_taken tb f slip 0 taken refl).0) (go (judge_next q f))
     where
-      go : (o : Judged) → reading_of (nextRead (problemLent tb) f o) ≡ asRead (2 + length (problemLent tb).arities + length (problemLent tb).clauses) (offeringOf o)
+      go : (o : Judged) → reading_of (next_read (problem_lent tb) f o) ≡ as_read (2 + length (problem_lent tb).arities + length (problem_lent tb).clauses) (offering_of o)
       go (Fault e) = refl
       go (Found v) = refl
 
-set-as-read : (tb f slip : List ℕ) → offerResult tb f slip ≡ Done → setLeaves tb (offerLeaves tb f slip) ≡ readLeaves (textWith (problemLent tb) f) tb
+set_as_read : (tb f slip : List ℕ) → offer_result tb f slip ≡ Done → set_leaves tb (offer_leaves tb f slip) ≡ read_leaves (text_with (problem_lent tb) f) tb
 unfolding held
-set-as-read tb f slip done =
+set_as_read tb f slip done =
     let o = offered tb f slip done in
-    ap (setLeaves tb) o.leaves
-    ∙ sym (held-sets tb f slip o).1
-    ∙ ap (λ (g : List ℕ). readLeaves (textWith (problemLent tb) g) tb) (held-holds tb f slip o).frame
+    ap (set_leaves tb) o.leaves
+    ∙ sym (held_sets tb f slip o).1
+    ∙ ap (λ (g : List ℕ). read_leaves (text_with (problem_lent tb) g) tb) (held_holds tb f slip o).frame
 
 pub theorems : Theorems
 theorems =
@@ -322,17 +322,17 @@ theorems =
       unlawful = unlawful;
       judged = judged;
       refusals = refusals;
-      set-refusals = set-refusals;
-      unoffered-kept = unoffered-kept;
-      unset-kept = unset-kept;
-      slip-holds = slip-holds;
-      slip-beyond = slip-beyond;
-      offers-between = λ tb f slip fs done. offers-set tb fs (offerLeaves tb f slip) (offer-sets tb f slip done);
-      set-as = λ tb slip done. set-as tb slip (settled tb slip done);
-      set-once = λ tb slip done. set-once tb slip (settled tb slip done);
+      set_refusals = set_refusals;
+      unoffered_kept = unoffered_kept;
+      unset_kept = unset_kept;
+      slip_holds = slip_holds;
+      slip_beyond = slip_beyond;
+      offers_between = λ tb f slip fs done. offers_set tb fs (offer_leaves tb f slip) (offer_sets tb f slip done);
+      set_as = λ tb slip done. set_as tb slip (settled tb slip done);
+      set_once = λ tb slip done. set_once tb slip (settled tb slip done);
       seen_first = seen_first;
       too_long = too_long;
-      set-as-offered = set-as-offered;
-      offered-as-read = offered-as-read;
-      set-as-read = set-as-read;
+      set_as_offered = set_as_offered;
+      offered_as_read = offered_as_read;
+      set_as_read = set_as_read;
     }

@@ -1,80 +1,80 @@
--- What is claimed of a rule offered, then set, as what the operations give and leave: the contracts of `offer` and `set` equate them with `offerResult`,
--- `offerLeaves` and `setResult`, `setLeaves`. `proofs/Theorems.antt` proves `Theorems`.
+-- What is claimed of a rule offered, then set, as what the operations give and leave: the contracts of `offer` and `set` equate them with `offer_result`,
+-- `offer_leaves` and `set_result`, `set_leaves`. `proofs/Theorems.antt` proves `Theorems`.
 use Rattle.std.specs.Prelude.{ℕ, ◌+◌, ◌-◌, ◌≤◌, ◌<◌, List, [], ◌∷◌, ◌++◌, ◌≡◌, length, take, drop, get_or, replicate}
-use Rattle.lists.specs.Key.{natKey}
+use Rattle.lists.specs.Key.{nat_key}
 use Rattle.lists.specs.Member.{All, In}
 use Rattle.problem.specs.Problem.{Clause, Problem, Fits}
-use Rattle.problem.specs.Layout.{layout, problemIn}
+use Rattle.problem.specs.Layout.{layout, problem_in}
 use Rattle.problem.specs.Table.{Valid}
-use Rattle.problem.specs.Print.{clauseFrame}
-use Rattle.problem.specs.Extended.{withClause, judgeNext, textWith}
+use Rattle.problem.specs.Print.{clause_frame}
+use Rattle.problem.specs.Extended.{with_clause, judge_next, text_with}
 use Rattle.reading.specs.declared.read.Reading.{Reading}
 use Rattle.reading.specs.declared.read.Reading.TheVariants as reading
-use Rattle.reading.specs.Read.{readResult, readLeaves}
+use Rattle.reading.specs.Read.{read_result, read_leaves}
 use Rattle.offering.specs.declared.offer.Offering.{Offering}
 use Rattle.offering.specs.declared.offer.Offering.TheVariants.{Refused, Done}
-use Rattle.offering.specs.Offer.{countHeld, frameHeld, offeringOf, offerResult, offerLeaves, setResult, setLeaves}
+use Rattle.offering.specs.Offer.{count_held, frame_held, offering_of, offer_result, offer_leaves, set_result, set_leaves}
 
 -- the problem in a lent table
-abbrev pub problemLent : List ℕ → Problem
-problemLent tb = problemIn (take 4096 tb)
+abbrev pub problem_lent : List ℕ → Problem
+problem_lent tb = problem_in (take 4096 tb)
 
 -- what a slip holds after an offer that was taken
 pub record Held (tb f slip : List ℕ) : Type 0 where
-  pub count : countHeld slip ≡ length (problemLent tb).clauses
-  pub frame : frameHeld slip ≡ f
+  pub count : count_held slip ≡ length (problem_lent tb).clauses
+  pub frame : frame_held slip ≡ f
   pub rest : drop (length f) (take 35 (drop 2 slip)) ≡ replicate (35 - length f) 0
 
 -- a slip after any frames were offered, each into what the one before left
-abbrev pub afterOffers : List ℕ → List (List ℕ) → List ℕ → List ℕ
-afterOffers tb [] slip = slip
-afterOffers tb (f ∷ fs) slip = afterOffers tb fs (offerLeaves tb f slip)
+abbrev pub after_offers : List ℕ → List (List ℕ) → List ℕ → List ℕ
+after_offers tb [] slip = slip
+after_offers tb (f ∷ fs) slip = after_offers tb fs (offer_leaves tb f slip)
 
 -- what an offer says, as reading says it of a line
-abbrev pub asRead : ℕ → Offering → Reading
-asRead line (Refused e) = reading.Refused e line
-asRead line Done = reading.Accepted
+abbrev pub as_read : ℕ → Offering → Reading
+as_read line (Refused e) = reading.Refused e line
+as_read line Done = reading.Accepted
 
 -- a slip set: exactly its clause is added after the others, in a valid table
 pub record SetAs (tb slip : List ℕ) : Type 0 where
   pub clause : Clause
-  pub said : clauseFrame clause ≡ frameHeld slip
-  pub fits : Fits (withClause (problemLent tb) clause)
-  pub added : setLeaves tb slip ≡ layout (withClause (problemLent tb) clause) ++ drop 4096 tb
-  pub valid : Valid (take 4096 (setLeaves tb slip))
+  pub said : clause_frame clause ≡ frame_held slip
+  pub fits : Fits (with_clause (problem_lent tb) clause)
+  pub added : set_leaves tb slip ≡ layout (with_clause (problem_lent tb) clause) ++ drop 4096 tb
+  pub valid : Valid (take 4096 (set_leaves tb slip))
 
 -- "the refusal (2, 3, 5 to 8 or 10) that reading it as the next clause line would give"
-abbrev pub clauseRefusals : List ℕ
-clauseRefusals = 2 ∷ 3 ∷ 5 ∷ 6 ∷ 7 ∷ 8 ∷ 10 ∷ []
+abbrev pub clause_refusals : List ℕ
+clause_refusals = 2 ∷ 3 ∷ 5 ∷ 6 ∷ 7 ∷ 8 ∷ 10 ∷ []
 
 pub record Theorems : Type 0 where
   -- "Both calls check 31 first", after 11; an offer then says what judging the frame as the next clause line says
-  pub unlawful : (tb f slip : List ℕ) → 4096 ≤ length tb → 37 ≤ length slip → (Valid (take 4096 tb) → ⊥) → (offerResult tb f slip ≡ Refused 31) × (setResult tb slip ≡ Refused 31)
-  pub judged : (tb f slip : List ℕ) → 4096 ≤ length tb → 37 ≤ length slip → Valid (take 4096 tb) → offerResult tb f slip ≡ offeringOf (judgeNext (problemLent tb) f)
+  pub unlawful : (tb f slip : List ℕ) → 4096 ≤ length tb → 37 ≤ length slip → (Valid (take 4096 tb) → ⊥) → (offer_result tb f slip ≡ Refused 31) × (set_result tb slip ≡ Refused 31)
+  pub judged : (tb f slip : List ℕ) → 4096 ≤ length tb → 37 ≤ length slip → Valid (take 4096 tb) → offer_result tb f slip ≡ offering_of (judge_next (problem_lent tb) f)
   -- which numbers an offer is refused by, and a setting
-  pub refusals : (tb f slip : List ℕ) (e : ℕ) → offerResult tb f slip ≡ Refused e → In natKey (11 ∷ 31 ∷ clauseRefusals) e
-  pub set-refusals : (tb slip : List ℕ) (e : ℕ) → setResult tb slip ≡ Refused e → In natKey (11 ∷ 31 ∷ 43 ∷ clauseRefusals) e
+  pub refusals : (tb f slip : List ℕ) (e : ℕ) → offer_result tb f slip ≡ Refused e → In nat_key (11 ∷ 31 ∷ clause_refusals) e
+  pub set_refusals : (tb slip : List ℕ) (e : ℕ) → set_result tb slip ≡ Refused e → In nat_key (11 ∷ 31 ∷ 43 ∷ clause_refusals) e
   -- a refusal changes nothing
-  pub unoffered-kept : (tb f slip : List ℕ) (e : ℕ) → offerResult tb f slip ≡ Refused e → offerLeaves tb f slip ≡ slip
-  pub unset-kept : (tb slip : List ℕ) (e : ℕ) → setResult tb slip ≡ Refused e → setLeaves tb slip ≡ tb
+  pub unoffered_kept : (tb f slip : List ℕ) (e : ℕ) → offer_result tb f slip ≡ Refused e → offer_leaves tb f slip ≡ slip
+  pub unset_kept : (tb slip : List ℕ) (e : ℕ) → set_result tb slip ≡ Refused e → set_leaves tb slip ≡ tb
   -- "The slip holds the frame and the clause count seen."
-  pub slip-holds : (tb f slip : List ℕ) → offerResult tb f slip ≡ Done → Held tb f (offerLeaves tb f slip)
-  pub slip-beyond : (tb f slip : List ℕ) → offerResult tb f slip ≡ Done → drop 37 (offerLeaves tb f slip) ≡ drop 37 slip
+  pub slip_holds : (tb f slip : List ℕ) → offer_result tb f slip ≡ Done → Held tb f (offer_leaves tb f slip)
+  pub slip_beyond : (tb f slip : List ℕ) → offer_result tb f slip ≡ Done → drop 37 (offer_leaves tb f slip) ≡ drop 37 slip
   -- "If only offers were made in between, setting succeeds": any number of them, to the same ticket, with any bytes, into this slip; one into another leaves this one
-  pub offers-between : (tb f slip : List ℕ) (fs : List (List ℕ)) → offerResult tb f slip ≡ Done → setResult tb (afterOffers tb fs (offerLeaves tb f slip)) ≡ Done
+  pub offers_between : (tb f slip : List ℕ) (fs : List (List ℕ)) → offer_result tb f slip ≡ Done → set_result tb (after_offers tb fs (offer_leaves tb f slip)) ≡ Done
   -- "Setting it adds exactly that clause after the others."
-  pub set-as : (tb slip : List ℕ) → setResult tb slip ≡ Done → SetAs tb slip
+  pub set_as : (tb slip : List ℕ) → set_result tb slip ≡ Done → SetAs tb slip
   -- a slip is set once
-  pub set-once : (tb slip : List ℕ) → setResult tb slip ≡ Done → setResult (setLeaves tb slip) slip ≡ Refused 43
+  pub set_once : (tb slip : List ℕ) → set_result tb slip ≡ Done → set_result (set_leaves tb slip) slip ≡ Refused 43
   -- a slip may hold anything: 43 comes before its clause is looked at, a frame longer than its room is 3, and else its clause is judged as an offer of it is
-  pub seen_first : (tb slip : List ℕ) → 4096 ≤ length tb → 37 ≤ length slip → Valid (take 4096 tb) → (countHeld slip ≡ length (problemLent tb).clauses → ⊥)
-      → setResult tb slip ≡ Refused 43
-  pub too_long : (tb slip : List ℕ) → 4096 ≤ length tb → 37 ≤ length slip → Valid (take 4096 tb) → countHeld slip ≡ length (problemLent tb).clauses
-      → 36 ≤ get_or slip 1 0 → setResult tb slip ≡ Refused 3
-  pub set-as-offered : (tb slip : List ℕ) → countHeld slip ≡ length (problemLent tb).clauses → get_or slip 1 0 ≤ 35 → setResult tb slip ≡ offerResult tb (frameHeld slip) slip
+  pub seen_first : (tb slip : List ℕ) → 4096 ≤ length tb → 37 ≤ length slip → Valid (take 4096 tb) → (count_held slip ≡ length (problem_lent tb).clauses → ⊥)
+      → set_result tb slip ≡ Refused 43
+  pub too_long : (tb slip : List ℕ) → 4096 ≤ length tb → 37 ≤ length slip → Valid (take 4096 tb) → count_held slip ≡ length (problem_lent tb).clauses
+      → 36 ≤ get_or slip 1 0 → set_result tb slip ≡ Refused 3
+  pub set_as_offered : (tb slip : List ℕ) → count_held slip ≡ length (problem_lent tb).clauses → get_or slip 1 0 ≤ 35 → set_result tb slip ≡ offer_result tb (frame_held slip) slip
   -- the refusal is the one that reading the text with this line gives, at that line
-  pub offered-as-read : (tb f slip : List ℕ) → 4096 ≤ length tb → 37 ≤ length slip → Valid (take 4096 tb) → All (λ b. b < 256) f → length f ≤ 35 → get_or f 0 0 ≡ 3
-      → readResult (textWith (problemLent tb) f) tb ≡ asRead (2 + length (problemLent tb).arities + length (problemLent tb).clauses) (offerResult tb f slip)
+  pub offered_as_read : (tb f slip : List ℕ) → 4096 ≤ length tb → 37 ≤ length slip → Valid (take 4096 tb) → All (λ b. b < 256) f → length f ≤ 35 → get_or f 0 0 ≡ 3
+      → read_result (text_with (problem_lent tb) f) tb ≡ as_read (2 + length (problem_lent tb).arities + length (problem_lent tb).clauses) (offer_result tb f slip)
   -- offering and setting is reading the longer text
-  pub set-as-read : (tb f slip : List ℕ) → offerResult tb f slip ≡ Done
-      → setLeaves tb (offerLeaves tb f slip) ≡ readLeaves (textWith (problemLent tb) f) tb
+  pub set_as_read : (tb f slip : List ℕ) → offer_result tb f slip ≡ Done
+      → set_leaves tb (offer_leaves tb f slip) ≡ read_leaves (text_with (problem_lent tb) f) tb

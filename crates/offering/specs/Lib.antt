@@ -1,3 +1,3 @@
 pub mod Offer
-pub mod contracts
+pub mod terms
 pub mod Claims

@@ -1,14 +1,14 @@
 // The bytes of a clause frame, judged as the next clause line of a table: they are written as a line, and what judges a line judges it.
 ghost use Rattle.std.specs.Prelude.{◌≡◌, ◌≤◌, ◌<◌, length, replicate};
 ghost use Rattle.lists.specs.Member.{All};
-ghost use Rattle.problem.specs.Digit.{hexLine};
+ghost use Rattle.problem.specs.Digit.{hex_line};
 ghost use Rattle.problem.specs.Problem.{weights};
-ghost use Rattle.problem.specs.Layout.{problemIn};
+ghost use Rattle.problem.specs.Layout.{problem_in};
 ghost use Rattle.problem.specs.Table.{Lawful};
-ghost use Rattle.writing.specs.contracts.Printed.{Put};
-ghost use Rattle.clause_line.specs.contracts.Record.{ClauseFilled};
-ghost use Rattle.problem.specs.Extended.{pastLine};
-ghost use Rattle.offering.specs.contracts.Next.{NextFilled};
+ghost use Rattle.writing.specs.terms.Printed.{Put};
+ghost use Rattle.clause_line.specs.terms.Record.{ClauseFilled};
+ghost use Rattle.problem.specs.Extended.{past_line};
+ghost use Rattle.offering.specs.terms.Next.{NextFilled};
 
 use adding::append::weight_of;
 use clause_line::clause::clause;
@@ -19,7 +19,7 @@ use writing::write::{put_byte, put_end};
 // Writes a frame of at most 35 bytes as a line.
 fn put_line(frame: &[u8], out: &mut [u8]) -> usize
     requires { (length frame.now ≤ 35) × (71 ≤ length out.old) }
-    ensures { Put out.old 0 (hexLine frame.now) 71 result out.new }
+    ensures { Put out.old 0 (hex_line frame.now) 71 result out.new }
 {
     let mut next: usize = 0;
     let mut j: usize = 0;
@@ -35,7 +35,7 @@ fn judge_line(table: &[u8], frame: &[u8], rec: &mut [u8]) -> Judged
     requires lawful { Lawful table.now }
     requires frame_nonzero { (0 < length frame.now) × (length frame.now ≤ 35) × All (λ b. b < 256) frame.now }
     requires rec_value { rec.old ≡ replicate 56 0 }
-    ensures { ClauseFilled table.now frame.now (weights (problemIn table.now).constants (problemIn table.now).clauses) result rec.new }
+    ensures { ClauseFilled table.now frame.now (weights (problem_in table.now).constants (problem_in table.now).clauses) result rec.new }
 {
     let mut line = [0u8; 71];
     put_line(frame, &mut line);
@@ -45,7 +45,7 @@ fn judge_line(table: &[u8], frame: &[u8], rec: &mut [u8]) -> Judged
 
 // What a frame that goes on past a line's 35 bytes is refused for, where these are judged so: 3 but for a fault met before their end.
 fn past_line(judged: Judged) -> Judged
-    ensures { result ≡ pastLine judged }
+    ensures { result ≡ past_line judged }
 {
     match judged {
         Judged::Fault(e) => {

@@ -1,8 +1,8 @@
 // Offering a rule, and setting one that was offered.
 ghost use Rattle.std.specs.Prelude.{◌≡◌, ◌≤◌, length};
 ghost use Rattle.problem.specs.Table.{Lawful};
-ghost use Rattle.offering.specs.contracts.Next.{Added};
-ghost use Rattle.offering.specs.Offer.{slipOver, offerResult, offerLeaves, setResult, setLeaves};
+ghost use Rattle.offering.specs.terms.Next.{Added};
+ghost use Rattle.offering.specs.Offer.{slip_over, offer_result, offer_leaves, set_result, set_leaves};
 
 use crate::next::judge_next;
 use adding::append::append;
@@ -19,7 +19,7 @@ pub enum Offering {
 // Fills a slip: the number of clauses seen, how many bytes the frame has, and its bytes, with zeros where it has fewer than 35.
 fn fill(slip: &mut [u8], count: u8, frame: &[u8])
     requires { (37 ≤ length slip.old) × (length frame.now ≤ 35) }
-    ensures { slip.new ≡ slipOver count frame.now slip.old }
+    ensures { slip.new ≡ slip_over count frame.now slip.old }
 {
     lists::zero(&mut slip[..37]);
     slip[0] = count;
@@ -29,7 +29,7 @@ fn fill(slip: &mut [u8], count: u8, frame: &[u8])
 
 // Offers the bytes of a clause frame. The table is only looked at; a refusal leaves the slip as it was.
 pub fn offer(table: &[u8], frame: &[u8], slip: &mut [u8]) -> Offering
-    ensures { (result ≡ offerResult table.now frame.now slip.old) × (slip.new ≡ offerLeaves table.now frame.now slip.old) }
+    ensures { (result ≡ offer_result table.now frame.now slip.old) × (slip.new ≡ offer_leaves table.now frame.now slip.old) }
 {
     let e = refusal(table, slip.len() < 37);
     if e != 0 {
@@ -65,7 +65,7 @@ fn add(table: &mut [u8], frame: &[u8]) -> Offering
 
 // Sets the frame that a slip holds. A refusal leaves the table as it was.
 pub fn set(table: &mut [u8], slip: &[u8]) -> Offering
-    ensures { (result ≡ setResult table.old slip.now) × (table.new ≡ setLeaves table.old slip.now) }
+    ensures { (result ≡ set_result table.old slip.now) × (table.new ≡ set_leaves table.old slip.now) }
 {
     let e = refusal(table, slip.len() < 37);
     if e != 0 {

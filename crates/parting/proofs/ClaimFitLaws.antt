@@ -7,16 +7,16 @@ use native.Mathlib.Omega.{arith}
 use lib.ListN.{length}
 use lib.Seq.{take-length}
 use Rattle.lists.specs.Member.{All}
-use Rattle.lists.proofs.Bytes.{all-at}
+use Rattle.lists.proofs.Bytes.{all_at}
 use Rattle.problem.specs.Problem.{Clause, Problem, ClauseFits, Fits, weights}
-use Rattle.problem.proofs.Access.{weights-upto}
-use Rattle.problem.specs.Extended.{withClauses}
-use Rattle.ground.specs.Instance.{clauseOf, noClause}
-use Rattle.ground.proofs.ClauseLaws.{all-places}
-use Rattle.parting.specs.Parts.{predicatesOf, family, only, touches, part_of, parts_of}
-use Rattle.parting.proofs.GatherLaws.{sub-fits}
-use Rattle.parting.proofs.ClaimOnlyLaws.{only-all, only-few, only-weigh}
-use Rattle.parting.proofs.ClaimEachLaws.{parts-each}
+use Rattle.problem.proofs.Access.{weights_upto}
+use Rattle.problem.specs.Extended.{with_clauses}
+use Rattle.ground.specs.Instance.{clause_of, no_clause}
+use Rattle.ground.proofs.ClauseLaws.{all_places}
+use Rattle.parting.specs.Parts.{predicates_of, family, only, touches, part_of, parts_of}
+use Rattle.parting.proofs.GatherLaws.{Sub-Fits}
+use Rattle.parting.proofs.ClaimOnlyLaws.{only-All, only_few, only_weigh}
+use Rattle.parting.proofs.ClaimEachLaws.{parts_each}
 
 module _ (q : Problem) (f : Fits q) where
   abbrev Fit : Clause → Type 0
@@ -24,26 +24,26 @@ module _ (q : Problem) (f : Fits q) where
 
   -- clauses that are no more, fit and weigh no more
   pub some_fit : (ks : List Clause) → length ks ≤ length q.clauses → All (ClauseFits q.constants q.arities) ks → weights q.constants ks ≤ weights q.constants q.clauses
-      → Fits (withClauses q ks)
+      → Fits (with_clauses q ks)
   some_fit ks few each light =
-      sub-fits q f ks (length q.clauses) (omega arith)
+      Sub-Fits q f ks (length q.clauses) (omega arith)
       (record { few = few; each = each; weigh = subst (λ (l : List Clause). weights q.constants ks ≤ weights q.constants l) (sym (take-length q.clauses)) light })
 
-  pub none-fit : Fits (withClauses q [])
-  none-fit = some_fit [] (omega arith) tt (omega arith)
+  pub none_fit : Fits (with_clauses q [])
+  none_fit = some_fit [] (omega arith) tt (omega arith)
 
-  pub part-fits : (p : ℕ) → Fits (part_of q p)
+  pub part_fits : (p : ℕ) → Fits (part_of q p)
   unfolding part_of
-  part-fits p =
-      let t : Clause → Bool = λ k. touches (family q p) (predicatesOf k) in
-      some_fit (only t q.clauses) (only-few t q.clauses) (only-all t Fit q.clauses f.each_fits) (only-weigh q.constants t q.clauses)
+  part_fits p =
+      let t : Clause → Bool = λ k. touches (family q p) (predicates_of k) in
+      some_fit (only t q.clauses) (only_few t q.clauses) (only-All t Fit q.clauses f.each_fits) (only_weigh q.constants t q.clauses)
 
-  alone-fits : All (λ (k : Clause). Fits (withClauses q (k ∷ []))) q.clauses
-  alone-fits =
-      all-places (λ (k : Clause). Fits (withClauses q (k ∷ []))) noClause q.clauses
+  alone_fits : All (λ (k : Clause). Fits (with_clauses q (k ∷ []))) q.clauses
+  alone_fits =
+      all_places (λ (k : Clause). Fits (with_clauses q (k ∷ []))) no_clause q.clauses
       (λ i h.
-      some_fit (clauseOf q i ∷ []) (omega arith) (all-at Fit q.clauses noClause i h f.each_fits, tt)
-      (omega (arith, weights-upto q.constants noClause q.clauses i h)))
+      some_fit (clause_of q i ∷ []) (omega arith) (all_at Fit q.clauses no_clause i h f.each_fits, tt)
+      (omega (arith, weights_upto q.constants no_clause q.clauses i h)))
 
-  pub parts-fit : All Fits (parts_of q)
-  parts-fit = parts-each q Fits alone-fits part-fits
+  pub parts_fit : All Fits (parts_of q)
+  parts_fit = parts_each q Fits alone_fits part_fits

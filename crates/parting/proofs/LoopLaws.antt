@@ -6,7 +6,7 @@ use native.Mathlib.Omega.{arith}
 use lib.ListN.{length, drop, get_or, set, length-append, length-drop, drop_of_length-le}
 use lib.Seq.{drop-cons, get_or_at, set_at, get_or-append-add}
 use Rattle.lists.specs.Tabulate.{tabulate}
-use Rattle.lists.proofs.Bytes.{tabulate-of}
+use Rattle.lists.proofs.Bytes.{tabulate_of}
 use Rattle.lists.proofs.Tabulate.{tabulate-length}
 use Rattle.parting.proofs.LabelLaws.{map_at}
 
@@ -14,8 +14,8 @@ module _ (f : ℕ → ℕ) (d : List ℕ) where
   abbrev pub filled : ℕ → List ℕ
   filled i = tabulate f i ++ drop i d
 
-  pub filled-read : (i : ℕ) → i < length d → get_or (filled i) i 0 ≡ get_or d i 0
-  filled-read i h =
+  pub filled_read : (i : ℕ) → i < length d → get_or (filled i) i 0 ≡ get_or d i 0
+  filled_read i h =
       ap (λ (l : List ℕ). get_or (tabulate f i ++ l) i 0) (drop-cons d i 0 h) ∙ get_or_at (tabulate f i) (get_or d i 0) (drop (suc i) d) 0 i (tabulate-length f i)
 
   pub filled_more : (i : ℕ) → i < length d → set (filled i) i (f i) ≡ filled (i + 1)
@@ -26,18 +26,18 @@ module _ (f : ℕ → ℕ) (d : List ℕ) where
       ∙ sym (append_assoc (tabulate f i) (f i ∷ []) (drop (suc i) d))
       ∙ ap filled (sym next)
 
-  pub filled-size : (i : ℕ) → i ≤ length d → length (filled i) ≡ length d
-  filled-size i h = omega (arith, length-append (tabulate f i) (drop i d), tabulate-length f i, length-drop i d)
+  pub filled_size : (i : ℕ) → i ≤ length d → length (filled i) ≡ length d
+  filled_size i h = omega (arith, length-append (tabulate f i) (drop i d), tabulate-length f i, length-drop i d)
 
-  pub filled-all : (i : ℕ) → i ≡ length d → filled i ≡ tabulate f (length d)
-  filled-all i e =
+  pub filled_all : (i : ℕ) → i ≡ length d → filled i ≡ tabulate f (length d)
+  filled_all i e =
       ap filled e ∙ ap (λ (l : List ℕ). tabulate f (length d) ++ l) (drop_of_length-le d {i = length d} (omega arith)) ∙ append-nil (tabulate f (length d))
 
 -- a list by its elements, each changed
-pub tabulate-mapped : (f : ℕ → ℕ) (d : List ℕ) → tabulate (λ a. f (get_or d a 0)) (length d) ≡ map f d
-tabulate-mapped f d =
-    tabulate-of (λ a. f (get_or d a 0)) 0 (map f d) (length d) (sym (length-mapped f d)) (λ i h. sym (map_at f d i (omega (arith, length-mapped f d))))
+pub tabulate_mapped : (f : ℕ → ℕ) (d : List ℕ) → tabulate (λ a. f (get_or d a 0)) (length d) ≡ map f d
+tabulate_mapped f d =
+    tabulate_of (λ a. f (get_or d a 0)) 0 (map f d) (length d) (sym (length_mapped f d)) (λ i h. sym (map_at f d i (omega (arith, length_mapped f d))))
   where
-    length-mapped : (f : ℕ → ℕ) (d : List ℕ) → length (map f d) ≡ length d
-    length-mapped f [] = refl
-    length-mapped f (x ∷ d) = omega (arith, length-mapped f d)
+    length_mapped : (f : ℕ → ℕ) (d : List ℕ) → length (map f d) ≡ length d
+    length_mapped f [] = refl
+    length_mapped f (x ∷ d) = omega (arith, length_mapped f d)

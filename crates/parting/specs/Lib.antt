@@ -1,5 +1,5 @@
 pub mod Parts
 pub mod Runs
 pub mod Claims
-pub mod contracts
+pub mod terms
 pub mod Listed

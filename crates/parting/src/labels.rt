@@ -2,8 +2,8 @@
 ghost use Rattle.std.specs.Prelude.{map, ◌≡◌, ℕ, ◌+◌, ◌*◌, ◌<◌, ◌≤◌, length, get_or};
 ghost use Rattle.lists.specs.Tabulate.{tabulate};
 ghost use Rattle.problem.specs.Table.{Lawful};
-ghost use Rattle.problem.specs.Layout.{problemIn};
-ghost use Rattle.parting.specs.contracts.Labels.{renamed, merged, mergedSlots, mergedClause, clauseAt, leadAt, labelsIn};
+ghost use Rattle.problem.specs.Layout.{problem_in};
+ghost use Rattle.parting.specs.terms.Labels.{renamed, merged, merged_slots, merged_clause, clause_at, lead_at, labels_in};
 
 // One label for another.
 fn renamed(x: u8, from: u8, to: u8) -> u8
@@ -44,7 +44,7 @@ fn merge(labels: &mut [u8], p: u8, r: u8)
 fn merge_slots(table: &[u8], at: usize, count: u8, p: u8, labels: &mut [u8])
     requires count_in_bounds { (at + 6 * count ≤ length table.now) × (length labels.old ≡ 33) × (p < 33) }
     requires by_index { (i : ℕ) → i < count → get_or table.now (at + 6 * i) 0 < 33 }
-    ensures { labels.new ≡ mergedSlots table.now at p count labels.old }
+    ensures { labels.new ≡ merged_slots table.now at p count labels.old }
 {
     let mut i: u8 = 0;
     while i < count {
@@ -56,8 +56,8 @@ fn merge_slots(table: &[u8], at: usize, count: u8, p: u8, labels: &mut [u8])
 // The predicate of a clause's first atom, 32 where it has none.
 pub fn lead(table: &[u8], k: u8) -> u8
     requires lawful { Lawful table.now }
-    requires k_in_bounds { k < length (problemIn table.now).clauses }
-    ensures { (result ≡ leadAt table.now k) × (result < 33) }
+    requires k_in_bounds { k < length (problem_in table.now).clauses }
+    ensures { (result ≡ lead_at table.now k) × (result < 33) }
 {
     let at = 144 + 56 * (k as usize);
     if 0 < table[at] {
@@ -72,8 +72,8 @@ pub fn lead(table: &[u8], k: u8) -> u8
 // Makes the labels of all predicates of a clause one.
 fn merge_clause(table: &[u8], k: u8, labels: &mut [u8])
     requires lawful { Lawful table.now }
-    requires k_in_bounds { (k < length (problemIn table.now).clauses) × (length labels.old ≡ 33) }
-    ensures { labels.new ≡ mergedClause table.now k labels.old }
+    requires k_in_bounds { (k < length (problem_in table.now).clauses) × (length labels.old ≡ 33) }
+    ensures { labels.new ≡ merged_clause table.now k labels.old }
 {
     let at = 144 + 56 * (k as usize);
     let p = lead(table, k);
@@ -97,7 +97,7 @@ fn number(labels: &mut [u8])
 pub fn label(table: &[u8], labels: &mut [u8])
     requires lawful { Lawful table.now }
     requires labels_len { length labels.old ≡ 33 }
-    ensures { labels.new ≡ labelsIn table.now }
+    ensures { labels.new ≡ labels_in table.now }
 {
     number(labels);
     let mut k: u8 = 0;

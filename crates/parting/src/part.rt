@@ -3,12 +3,12 @@ ghost use Rattle.std.specs.Prelude.{cond, [], ◌++◌, ◌≡◌, ◌<◌, eqb,
 ghost use Rattle.lists.specs.Tabulate.{tabulate};
 ghost use Rattle.problem.specs.Problem.{Fits};
 ghost use Rattle.problem.specs.Table.{Lawful};
-ghost use Rattle.problem.specs.Extended.{withClause, withClauses};
-ghost use Rattle.problem.specs.Layout.{layout, problemIn};
-ghost use Rattle.ground.specs.Instance.{clauseOf};
-ghost use Rattle.parting.specs.contracts.Labels.{labelsIn};
-ghost use Rattle.parting.specs.contracts.Gathered.{belongs, taken, gathered};
-ghost use Rattle.parting.specs.contracts.Tally.{Marked, joinedAs};
+ghost use Rattle.problem.specs.Extended.{with_clause, with_clauses};
+ghost use Rattle.problem.specs.Layout.{layout, problem_in};
+ghost use Rattle.ground.specs.Instance.{clause_of};
+ghost use Rattle.parting.specs.terms.Labels.{labels_in};
+ghost use Rattle.parting.specs.terms.Gathered.{belongs, taken, gathered};
+ghost use Rattle.parting.specs.terms.Tally.{Marked, joined_as};
 
 use crate::labels::lead;
 use adding::append::append;
@@ -18,7 +18,7 @@ use lists::pair;
 // Whether clause k is of part x: of the one with this lowest predicate, or a clause without atoms by itself.
 fn belongs(table: &[u8], labels: &[u8], x: u8, k: u8) -> bool
     requires lawful { Lawful table.now }
-    requires labels_value { (labels.now ≡ labelsIn table.now) × (k < length (problemIn table.now).clauses) }
+    requires labels_value { (labels.now ≡ labels_in table.now) × (k < length (problem_in table.now).clauses) }
     ensures { result ≡ belongs table.now x k }
 {
     if x < 32 {
@@ -30,9 +30,9 @@ fn belongs(table: &[u8], labels: &[u8], x: u8, k: u8) -> bool
 // Adds clause k of a table after the clauses of another with the same heading, if it is taken.
 fn add(own: &mut [u8], table: &[u8], k: u8, mine: bool)
     requires lawful { Lawful own.old }
-    requires lawful_2 { Lawful table.now × (k < length (problemIn table.now).clauses) }
-    requires own_value { (problemIn own.old ≡ withClauses (problemIn table.now) (problemIn own.old).clauses) × Fits (withClause (problemIn own.old) (clauseOf (problemIn table.now) k)) }
-    ensures { own.new ≡ layout (withClauses (problemIn table.now) ((problemIn own.old).clauses ++ taken mine (clauseOf (problemIn table.now) k))) }
+    requires lawful_2 { Lawful table.now × (k < length (problem_in table.now).clauses) }
+    requires own_value { (problem_in own.old ≡ with_clauses (problem_in table.now) (problem_in own.old).clauses) × Fits (with_clause (problem_in own.old) (clause_of (problem_in table.now) k)) }
+    ensures { own.new ≡ layout (with_clauses (problem_in table.now) ((problem_in own.old).clauses ++ taken mine (clause_of (problem_in table.now) k))) }
 {
     if !mine {
         return;
@@ -46,7 +46,7 @@ fn add(own: &mut [u8], table: &[u8], k: u8, mine: bool)
 fn head(own: &mut [u8], table: &[u8])
     requires lawful { Lawful table.now }
     requires own_value { own.old ≡ replicate 4096 0 }
-    ensures { own.new ≡ layout (withClauses (problemIn table.now) []) }
+    ensures { own.new ≡ layout (with_clauses (problem_in table.now) []) }
 {
     lists::copy(own, &table[..144]);
     own[2] = 0;
@@ -55,7 +55,7 @@ fn head(own: &mut [u8], table: &[u8])
 // The table of part x.
 pub fn gather(own: &mut [u8], table: &[u8], labels: &[u8], x: u8)
     requires lawful { Lawful table.now }
-    requires labels_value { (labels.now ≡ labelsIn table.now) × (own.old ≡ replicate 4096 0) }
+    requires labels_value { (labels.now ≡ labels_in table.now) × (own.old ≡ replicate 4096 0) }
     ensures { own.new ≡ layout (gathered table.now x) }
 {
     head(own, table);
@@ -70,7 +70,7 @@ pub fn gather(own: &mut [u8], table: &[u8], labels: &[u8], x: u8)
 // The label of each atom's predicate.
 pub fn mark(table: &[u8], labels: &[u8], marks: &mut [u8])
     requires lawful { Lawful table.now }
-    requires labels_value { (labels.now ≡ labelsIn table.now) × (length marks.old ≡ 1024) }
+    requires labels_value { (labels.now ≡ labels_in table.now) × (length marks.old ≡ 1024) }
     ensures { Marked table.now marks.new }
 {
     let atoms = pair(table[8], table[9]);
@@ -95,7 +95,7 @@ fn chosen(mark: u8, x: u8, new: u8, old: u8) -> u8
 // Puts the bits of the atoms with mark x over those that are there.
 pub fn join(marks: &[u8], x: u8, bits: &[u8], joined: &mut [u8])
     requires { (length marks.now ≡ 1024) × (length bits.now ≡ 1024) × (length joined.old ≡ 1024) }
-    ensures { joined.new ≡ tabulate (joinedAs marks.now x bits.now joined.old) 1024 }
+    ensures { joined.new ≡ tabulate (joined_as marks.now x bits.now joined.old) 1024 }
 {
     let mut a: usize = 0;
     while a < 1024 {

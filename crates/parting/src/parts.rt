@@ -1,9 +1,9 @@
 // Fitting a table part by part.
 ghost use Rattle.std.specs.Prelude.{cond, ◌++◌, ◌≡◌, ◌≤◌, eqb, length, take, drop, replicate};
 ghost use Rattle.problem.specs.Table.{Lawful};
-ghost use Rattle.problem.specs.Layout.{problemIn};
-ghost use Rattle.parting.specs.Runs.{runsOf, saidBy, sum_of, joinedBits, answerBy};
-ghost use Rattle.parting.specs.contracts.Tally.{partingBy};
+ghost use Rattle.problem.specs.Layout.{problem_in};
+ghost use Rattle.parting.specs.Runs.{runs_of, said_by, sum_of, joined_bits, answer_by};
+ghost use Rattle.parting.specs.terms.Tally.{parting_by};
 
 use crate::turns::run_parts;
 use lists::pair;
@@ -26,7 +26,7 @@ pub struct Counted {
 
 // The answer that a tally's number stands for.
 fn said(verdict: u8) -> Parting
-    ensures { result ≡ partingBy verdict }
+    ensures { result ≡ parting_by verdict }
 {
     if verdict == 0 {
         return Parting::Refuted;
@@ -52,7 +52,7 @@ fn give(verdict: u8, joined: &[u8], atoms: usize, answer: &mut [u8])
 pub fn fit_parts(table: &[u8], magic: bool, answer: &mut [u8], work: &mut [u8]) -> Counted
     requires lawful { Lawful table.now }
     requires in_bounds { (1024 ≤ length answer.old) × (length work.old ≡ 65536) }
-    ensures { (result.parting ≡ saidBy (runsOf magic (problemIn table.now))) × (result.count ≡ sum_of (runsOf magic (problemIn table.now))) × (answer.new ≡ answerBy (saidBy (runsOf magic (problemIn table.now))) (joinedBits magic (problemIn table.now)) answer.old) × (work.new ≡ replicate 65536 0) }
+    ensures { (result.parting ≡ said_by (runs_of magic (problem_in table.now))) × (result.count ≡ sum_of (runs_of magic (problem_in table.now))) × (answer.new ≡ answer_by (said_by (runs_of magic (problem_in table.now))) (joined_bits magic (problem_in table.now)) answer.old) × (work.new ≡ replicate 65536 0) }
 {
     let mut joined = [0u8; 1024];
     let tally = run_parts(table, magic, &mut joined, work);

@@ -2,13 +2,13 @@
 ghost use Rattle.std.specs.Prelude.{◌∷◌, [], ◌≡◌, ◌+◌, ◌*◌, ◌<◌, ◌≤◌, length, get_or, replicate};
 ghost use Rattle.search.specs.Machine.{Outcome};
 ghost use Rattle.problem.specs.Table.{Lawful};
-ghost use Rattle.problem.specs.Layout.{problemIn};
+ghost use Rattle.problem.specs.Layout.{problem_in};
 ghost use Rattle.lists.specs.Tabulate.{tabulate};
-ghost use Rattle.ground.specs.Verdict.{verdictOf, answer_of};
+ghost use Rattle.ground.specs.Verdict.{verdict_of, answer_of};
 ghost use Rattle.parting.specs.Runs.{run_by};
-ghost use Rattle.parting.specs.contracts.Labels.{labelsIn};
-ghost use Rattle.parting.specs.contracts.Gathered.{gathered};
-ghost use Rattle.parting.specs.contracts.Tally.{name_at, Tallied, Counting, Marked, joinedAs, Running, Turned, Ran};
+ghost use Rattle.parting.specs.terms.Labels.{labels_in};
+ghost use Rattle.parting.specs.terms.Gathered.{gathered};
+ghost use Rattle.parting.specs.terms.Tally.{name_at, Tallied, Counting, Marked, joined_as, Running, Turned, Ran};
 
 use crate::labels::label;
 use crate::part::{gather, join, mark};
@@ -24,7 +24,7 @@ pub struct Tally {
 // The name of the part of a turn, 255 where it has none: clauses without atoms come first, then the lowest predicates.
 fn name_at(table: &[u8], labels: &[u8], i: u8) -> u8
     requires lawful { Lawful table.now }
-    requires labels_value { (labels.now ≡ labelsIn table.now) × (i < get_or table.now 2 0 + get_or table.now 1 0) }
+    requires labels_value { (labels.now ≡ labels_in table.now) × (i < get_or table.now 2 0 + get_or table.now 1 0) }
     ensures { result ≡ name_at table.now i }
 {
     let count = table[2];
@@ -46,7 +46,7 @@ fn name_at(table: &[u8], labels: &[u8], i: u8) -> u8
 fn run(table: &[u8], magic: bool, answer: &mut [u8], work: &mut [u8]) -> Verdict
     requires lawful { Lawful table.now }
     requires answer_len { (length answer.old ≡ 1024) × (length work.old ≡ 65536) }
-    ensures { (result ≡ verdictOf (run_by magic (problemIn table.now))) × (answer.new ≡ answer_of (run_by magic (problemIn table.now)) answer.old) × (work.new ≡ replicate 65536 0) }
+    ensures { (result ≡ verdict_of (run_by magic (problem_in table.now))) × (answer.new ≡ answer_of (run_by magic (problem_in table.now)) answer.old) × (work.new ≡ replicate 65536 0) }
 {
     if magic {
         let mut rules = [0u8; 16384];
@@ -70,9 +70,9 @@ fn run_part(
     work: &mut [u8],
 ) -> Verdict
     requires lawful { Lawful table.now }
-    requires labels_value { (labels.now ≡ labelsIn table.now) × (length marks.now ≡ 1024) }
+    requires labels_value { (labels.now ≡ labels_in table.now) × (length marks.now ≡ 1024) }
     requires joined_len { (length joined.old ≡ 1024) × (length work.old ≡ 65536) }
-    ensures { (result ≡ verdictOf (run_by magic (gathered table.now x))) × (joined.new ≡ tabulate (joinedAs marks.now x (answer_of (run_by magic (gathered table.now x)) (replicate 1024 0)) joined.old) 1024) × (work.new ≡ replicate 65536 0) }
+    ensures { (result ≡ verdict_of (run_by magic (gathered table.now x))) × (joined.new ≡ tabulate (joined_as marks.now x (answer_of (run_by magic (gathered table.now x)) (replicate 1024 0)) joined.old) 1024) × (work.new ≡ replicate 65536 0) }
 {
     let mut own = [0u8; 4096];
     gather(&mut own, table, labels, x);
@@ -123,7 +123,7 @@ fn turn(
     tally: Tally,
 ) -> Tally
     requires lawful { Lawful table.now }
-    requires labels_value { (labels.now ≡ labelsIn table.now) × (i < get_or table.now 2 0 + get_or table.now 1 0) }
+    requires labels_value { (labels.now ≡ labels_in table.now) × (i < get_or table.now 2 0 + get_or table.now 1 0) }
     requires marked { Marked table.now marks.now × (work.old ≡ replicate 65536 0) }
     requires running { Running magic table.now joined.old i tally.verdict tally.count }
     ensures { Turned magic table.now joined.new (i + 1) result.verdict result.count × (work.new ≡ replicate 65536 0) }
@@ -146,9 +146,9 @@ fn run_turns(
     work: &mut [u8],
 ) -> Tally
     requires lawful { Lawful table.now }
-    requires labels_value { (labels.now ≡ labelsIn table.now) × Marked table.now marks.now }
+    requires labels_value { (labels.now ≡ labels_in table.now) × Marked table.now marks.now }
     requires joined_len { (length joined.old ≡ 1024) × (work.old ≡ replicate 65536 0) }
-    ensures { Ran magic (problemIn table.now) joined.new result.verdict result.count × (work.new ≡ replicate 65536 0) }
+    ensures { Ran magic (problem_in table.now) joined.new result.verdict result.count × (work.new ≡ replicate 65536 0) }
 {
     let turns = table[2] + table[1];
     let mut tally = Tally {
@@ -170,7 +170,7 @@ fn run_turns(
 pub fn run_parts(table: &[u8], magic: bool, joined: &mut [u8], work: &mut [u8]) -> Tally
     requires lawful { Lawful table.now }
     requires joined_len { (length joined.old ≡ 1024) × (length work.old ≡ 65536) }
-    ensures { Ran magic (problemIn table.now) joined.new result.verdict result.count × (work.new ≡ replicate 65536 0) }
+    ensures { Ran magic (problem_in table.now) joined.new result.verdict result.count × (work.new ≡ replicate 65536 0) }
 {
     let mut labels = [0u8; 33];
     label(table, &mut labels);

@@ -1,7 +1,7 @@
 // Fitting part by part, by the magic engine.
 ghost use Rattle.std.specs.Prelude.{true, ◌≡◌};
-ghost use Rattle.magic.specs.Engine.{magicTooShort, magicRules, magicWork};
-ghost use Rattle.parting.specs.Runs.{partsResult, partsCount, partsAnswer};
+ghost use Rattle.magic.specs.Engine.{magic_too_short, magic_rules, magic_work};
+ghost use Rattle.parting.specs.Runs.{parts_result, parts_count, parts_answer};
 
 use parting::parts::{Parting, fit_parts};
 use rewriting::rewrite::write_rules;
@@ -15,7 +15,7 @@ pub fn parts_magic(
     answer: &mut [u8],
     work: &mut [u8],
 ) -> Parting
-    ensures { (result ≡ partsResult true (magicTooShort table.now rules.old answer.old work.old) table.now) × (count.new ≡ partsCount true (magicTooShort table.now rules.old answer.old work.old) table.now count.old) × (rules.new ≡ magicRules table.now rules.old answer.old work.old) × (answer.new ≡ partsAnswer true (magicTooShort table.now rules.old answer.old work.old) table.now answer.old) × (work.new ≡ magicWork table.now rules.old answer.old work.old) }
+    ensures { (result ≡ parts_result true (magic_too_short table.now rules.old answer.old work.old) table.now) × (count.new ≡ parts_count true (magic_too_short table.now rules.old answer.old work.old) table.now count.old) × (rules.new ≡ magic_rules table.now rules.old answer.old work.old) × (answer.new ≡ parts_answer true (magic_too_short table.now rules.old answer.old work.old) table.now answer.old) × (work.new ≡ magic_work table.now rules.old answer.old work.old) }
 {
     let e = refusal(table, any_too_small(rules.len(), answer.len(), work.len()));
     if 0 < e {

@@ -2,37 +2,37 @@
 use Rattle.std.specs.Prelude.{ℕ, suc, ◌+◌, cond, ◌&&◌, List, [], ◌∷◌, ◌++◌, eqb, leb, length, get_or}
 use Rattle.problem.specs.declared.judge.Judged.{Judged}
 use Rattle.problem.specs.declared.judge.Judged.TheVariants.{Fault, Found}
-use Rattle.problem.specs.Digit.{hexLine}
+use Rattle.problem.specs.Digit.{hex_line}
 use Rattle.problem.specs.Problem.{Clause, Problem, weights}
-use Rattle.problem.specs.Judge.{judgeClause, clauseAt}
+use Rattle.problem.specs.Judge.{judge_clause, clause_at}
 use Rattle.problem.specs.Parse.{Parsed, refused, parsed}
 use Rattle.problem.specs.Print.{lines_of}
 
 -- a problem with other clauses: constants, limit and arities stay
-abbrev pub withClauses : Problem → List Clause → Problem
-withClauses q ks = record { constants = q.constants; limit = q.limit; arities = q.arities; clauses = ks }
+abbrev pub with_clauses : Problem → List Clause → Problem
+with_clauses q ks = record { constants = q.constants; limit = q.limit; arities = q.arities; clauses = ks }
 
 -- the clause after the others
-abbrev pub withClause : Problem → Clause → Problem
-withClause q k = withClauses q (q.clauses ++ (k ∷ []))
+abbrev pub with_clause : Problem → Clause → Problem
+with_clause q k = with_clauses q (q.clauses ++ (k ∷ []))
 
 -- "no bytes, or a first byte other than 03, is 2"; then 5 after 64 clauses; then what judging it as a clause line gives, 3 for bytes left over at any length
-unfoldable pub judgeNext : Problem → List ℕ → Judged
-judgeNext q f =
+unfoldable pub judge_next : Problem → List ℕ → Judged
+judge_next q f =
     cond (eqb (get_or f 0 0) 3)
-    (cond (eqb (length q.clauses) 64) (Fault 5) (judgeClause q.constants q.arities (weights q.constants q.clauses) f))
+    (cond (eqb (length q.clauses) 64) (Fault 5) (judge_clause q.constants q.arities (weights q.constants q.clauses) f))
     (Fault 2)
 
 -- a frame whose first 35 bytes are judged so, and that has more: bytes left over are 3, but a fault before the end comes first
-unfoldable pub pastLine : Judged → Judged
-pastLine (Fault e) = cond (leb 5 e && leb e 7) (Fault e) (Fault 3)
-pastLine (Found v) = Fault 3
+unfoldable pub past_line : Judged → Judged
+past_line (Fault e) = cond (leb 5 e && leb e 7) (Fault e) (Fault 3)
+past_line (Found v) = Fault 3
 
 -- the written-out text with the frame's line before FF, and FF one higher
-unfoldable pub textWith : Problem → List ℕ → List ℕ
-textWith q f = lines_of q (hexLine f ++ hexLine (255 ∷ suc (length q.clauses) ∷ []))
+unfoldable pub text_with : Problem → List ℕ → List ℕ
+text_with q f = lines_of q (hex_line f ++ hex_line (255 ∷ suc (length q.clauses) ∷ []))
 
 -- what reading that text gives, where its next clause line is judged so: a refusal at that line, or the longer problem
-abbrev pub nextRead : Problem → List ℕ → Judged → Parsed
-nextRead q f (Fault e) = refused e (2 + length q.arities + length q.clauses)
-nextRead q f (Found v) = parsed (withClause q (clauseAt q.arities f v))
+abbrev pub next_read : Problem → List ℕ → Judged → Parsed
+next_read q f (Fault e) = refused e (2 + length q.arities + length q.clauses)
+next_read q f (Found v) = parsed (with_clause q (clause_at q.arities f v))

@@ -10,4 +10,4 @@ pub mod Table
 pub mod Extended
 pub mod Cases
 pub mod Claims
-pub mod contracts
+pub mod terms

@@ -5,12 +5,12 @@ use Rattle.lists.specs.Digits.{horner}
 use Rattle.lists.specs.Tabulate.{tabulate}
 use Rattle.problem.specs.declared.line.Line.{Line}
 use Rattle.problem.specs.declared.line.Line.TheVariants.{Absent, Bad, Holds}
-use Rattle.problem.specs.Digit.{digitOf, isDigit}
+use Rattle.problem.specs.Digit.{digit_of, is_digit}
 
 -- how many digits stand in the text x from a place on, at most n
 unfoldable pub run : List ℕ → ℕ → ℕ → ℕ
 run x at zero = 0
-run x at (suc n) = cond (isDigit (get_or x at 0)) (suc (run x (suc at) n)) 0
+run x at (suc n) = cond (is_digit (get_or x at 0)) (suc (run x (suc at) n)) 0
 
 -- d digits, at most 71 of which were counted, are a line
 abbrev pub is_line : List ℕ → ℕ → ℕ → Bool
@@ -25,12 +25,12 @@ line_at x at = cond (ltb at (length x)) (line_of x at (run x at 71)) Absent
 
 -- the byte that two digits from a place on stand for
 unfoldable pub byte_at : List ℕ → ℕ → ℕ
-byte_at x at = horner 16 (digitOf (get_or x at 0) ∷ digitOf (get_or x (suc at) 0) ∷ [])
+byte_at x at = horner 16 (digit_of (get_or x at 0) ∷ digit_of (get_or x (suc at) 0) ∷ [])
 
 -- the n bytes of the line that starts at a place
 unfoldable pub frame_at : List ℕ → ℕ → ℕ → List ℕ
 frame_at x at n = tabulate (λ j. byte_at x (at + 2 * j)) n
 
 -- where the line after it starts
-abbrev pub afterLine : ℕ → ℕ → ℕ
-afterLine at n = at + 2 * n + 1
+abbrev pub after_line : ℕ → ℕ → ℕ
+after_line at n = at + 2 * n + 1

@@ -9,12 +9,12 @@ pub record Numbers : Type 0 where
   pub value : ℕ
 
 -- refused, at a line of the text
-abbrev pub refusedAt : ℕ → ℕ → Numbers
-refusedAt e line = record { refusal = e; number = 0; clause = 0; value = line }
+abbrev pub refused_at : ℕ → ℕ → Numbers
+refused_at e line = record { refusal = e; number = 0; clause = 0; value = line }
 
 -- refused, with no line
-abbrev pub refusedAs : ℕ → Numbers
-refusedAs e = refusedAt e 0
+abbrev pub refused_as : ℕ → Numbers
+refused_as e = refused_at e 0
 
 abbrev pub answered : ℕ → ℕ → Numbers
 answered number value = record { refusal = 0; number = number; clause = 0; value = value }

@@ -4,9 +4,9 @@ use Rattle.problem.specs.declared.line.Line.TheVariants.{Absent, Bad, Holds}
 use Rattle.problem.specs.declared.judge.Judged.{Judged}
 use Rattle.problem.specs.declared.judge.Judged.TheVariants.{Fault, Found}
 use Rattle.problem.specs.declared.judge.Heading.TheVariants.{Wrong, Sizes}
-use Rattle.problem.specs.Line.{line_at, frame_at, afterLine}
-use Rattle.problem.specs.Problem.{Clause, Problem, atomCount, weights}
-use Rattle.problem.specs.Judge.{present, judgeHeading, judgeArity, judgeClause, clauseAt}
+use Rattle.problem.specs.Line.{line_at, frame_at, after_line}
+use Rattle.problem.specs.Problem.{Clause, Problem, atom_count, weights}
+use Rattle.problem.specs.Judge.{present, judge_heading, judge_arity, judge_clause, clause_at}
 
 -- a refusal with its number and line, or the problem
 pub data Parsed : Type 0 where
@@ -14,16 +14,16 @@ pub data Parsed : Type 0 where
   parsed : Problem → Parsed
 
 -- "FF, number of clause lines", after the kind
-unfoldable pub judgeClosing : ℕ → List ℕ → Judged
-judgeClosing count f =
+unfoldable pub judge_closing : ℕ → List ℕ → Judged
+judge_closing count f =
     present f 1 (Fault 3) (cond (eqb (get_or f 1 0) count) (cond (eqb (length f) 2) (Found 0) (Fault 3)) (Fault 5))
 
 -- of the text x, with c constants and this limit
 module _ (x : List ℕ) (c : ℕ) (limit : List ℕ) where
   module _ (arities : List ℕ) where
     -- after the last line: 1 or 2 for a line there
-    unfoldable pub parseEnd : List Clause → ℕ → ℕ → Parsed
-    parseEnd ks line at =
+    unfoldable pub parse_end : List Clause → ℕ → ℕ → Parsed
+    parse_end ks line at =
         elim (line_at x at) [
           | Absent ↦ parsed (record { constants = c; limit = limit; arities = arities; clauses = ks })
           | Bad ↦ refused 1 line
@@ -31,48 +31,48 @@ module _ (x : List ℕ) (c : ℕ) (limit : List ℕ) where
         ]
 
     -- the last line, of n bytes
-    unfoldable pub parseClosing : List Clause → ℕ → ℕ → ℕ → Parsed
-    parseClosing ks line at n =
-        elim (judgeClosing (length ks) (frame_at x at n)) [ Fault e ↦ refused e line | Found k ↦ parseEnd ks (suc line) (afterLine at n) ]
+    unfoldable pub parse_closing : List Clause → ℕ → ℕ → ℕ → Parsed
+    parse_closing ks line at n =
+        elim (judge_closing (length ks) (frame_at x at n)) [ Fault e ↦ refused e line | Found k ↦ parse_end ks (suc line) (after_line at n) ]
 
     -- the clause lines and the last line, with so many clause lines still allowed: "The 65th clause line is 5 before its bytes"
-    unfoldable pub parseClauses : ℕ → List Clause → ℕ → ℕ → Parsed
-    parseClauses zero ks line at =
+    unfoldable pub parse_clauses : ℕ → List Clause → ℕ → ℕ → Parsed
+    parse_clauses zero ks line at =
         elim (line_at x at) [
           | Absent ↦ refused 2 line
           | Bad ↦ refused 1 line
           | Holds n ↦
               elim (eqb (get_or (frame_at x at n) 0 0) 3) [
                 | true ↦ refused 5 line
-                | false ↦ elim (eqb (get_or (frame_at x at n) 0 0) 255) [ true ↦ parseClosing ks line at n | false ↦ refused 2 line ]
+                | false ↦ elim (eqb (get_or (frame_at x at n) 0 0) 255) [ true ↦ parse_closing ks line at n | false ↦ refused 2 line ]
               ]
         ]
-    parseClauses (suc left) ks line at =
+    parse_clauses (suc left) ks line at =
         elim (line_at x at) [
           | Absent ↦ refused 2 line
           | Bad ↦ refused 1 line
           | Holds n ↦
               elim (eqb (get_or (frame_at x at n) 0 0) 3) [
                 | true ↦
-                    elim (judgeClause c arities (weights c ks) (frame_at x at n)) [
+                    elim (judge_clause c arities (weights c ks) (frame_at x at n)) [
                       | Fault e ↦ refused e line
-                      | Found v ↦ parseClauses left (ks ++ (clauseAt arities (frame_at x at n) v ∷ [])) (suc line) (afterLine at n)
+                      | Found v ↦ parse_clauses left (ks ++ (clause_at arities (frame_at x at n) v ∷ [])) (suc line) (after_line at n)
                     ]
-                | false ↦ elim (eqb (get_or (frame_at x at n) 0 0) 255) [ true ↦ parseClosing ks line at n | false ↦ refused 2 line ]
+                | false ↦ elim (eqb (get_or (frame_at x at n) 0 0) 255) [ true ↦ parse_closing ks line at n | false ↦ refused 2 line ]
               ]
         ]
 
   -- so many arity lines still to come, and then the clause lines
-  unfoldable pub parseArities : ℕ → List ℕ → ℕ → ℕ → Parsed
-  parseArities zero arities line at = parseClauses arities 64 [] line at
-  parseArities (suc left) arities line at =
+  unfoldable pub parse_arities : ℕ → List ℕ → ℕ → ℕ → Parsed
+  parse_arities zero arities line at = parse_clauses arities 64 [] line at
+  parse_arities (suc left) arities line at =
       elim (line_at x at) [
         | Absent ↦ refused 2 line
         | Bad ↦ refused 1 line
         | Holds n ↦
-            elim (judgeArity c (atomCount c arities) (frame_at x at n)) [
+            elim (judge_arity c (atom_count c arities) (frame_at x at n)) [
               | Fault e ↦ refused e line
-              | Found a ↦ parseArities left (arities ++ (a ∷ [])) (suc line) (afterLine at n)
+              | Found a ↦ parse_arities left (arities ++ (a ∷ [])) (suc line) (after_line at n)
             ]
       ]
 
@@ -82,8 +82,8 @@ parse x =
       | Absent ↦ refused 2 1
       | Bad ↦ refused 1 1
       | Holds n ↦
-          elim (judgeHeading (frame_at x 0 n)) [
+          elim (judge_heading (frame_at x 0 n)) [
             | Wrong e ↦ refused e 1
-            | Sizes c p ↦ parseArities x c (take 4 (drop 4 (frame_at x 0 n))) p [] 2 (afterLine 0 n)
+            | Sizes c p ↦ parse_arities x c (take 4 (drop 4 (frame_at x 0 n))) p [] 2 (after_line 0 n)
           ]
     ]

@@ -23,13 +23,13 @@ pub record Problem : Type 0 where
   pub clauses : List Clause
 
 -- A: "the sum of c to the power of the arity over all predicates"
-abbrev pub atomCount : ℕ → List ℕ → ℕ
-atomCount c [] = 0
-atomCount c (a ∷ arities) = c ^ a + atomCount c arities
+abbrev pub atom_count : ℕ → List ℕ → ℕ
+atom_count c [] = 0
+atom_count c (a ∷ arities) = c ^ a + atom_count c arities
 
 -- the number of a predicate's first atom
-abbrev pub firstAtom : ℕ → List ℕ → ℕ → ℕ
-firstAtom c arities p = atomCount c (take p arities)
+abbrev pub first_atom : ℕ → List ℕ → ℕ → ℕ
+first_atom c arities p = atom_count c (take p arities)
 
 -- "n × (c to the power v)"
 abbrev pub weight : ℕ → Clause → ℕ
@@ -41,8 +41,8 @@ weights c [] = 0
 weights c (k ∷ ks) = weight c k + weights c ks
 
 -- the limit as a number: "4 bytes, high byte first"
-abbrev pub limitOf : List ℕ → ℕ
-limitOf bs = horner 256 bs
+abbrev pub limit_of : List ℕ → ℕ
+limit_of bs = horner 256 bs
 
 -- a constant below c, or one of the first v variables
 abbrev pub ArgFits : ℕ → ℕ → ℕ → Type 0
@@ -54,8 +54,8 @@ pub record AtomFits (c : ℕ) (arities : List ℕ) (v : ℕ) (a : Atom) : Type 0
   pub args_fit : All (ArgFits c v) a.args
 
 -- the arguments of a clause as they stand in its line: those of the conditions, then those of the alternatives
-abbrev pub argumentsOf : Clause → List ℕ
-argumentsOf k = flat_map (λ a. a.args) (k.conds ++ k.alts)
+abbrev pub arguments_of : Clause → List ℕ
+arguments_of k = flat_map (λ a. a.args) (k.conds ++ k.alts)
 
 -- "Variables first appear in a clause as 80, 81, 82, 83 in that order": before each variable stand those of all lower numbers
 abbrev pub VariablesInOrder : List ℕ → Type 0
@@ -63,23 +63,23 @@ VariablesInOrder bs = (front back : List ℕ) (x : ℕ) → bs ≡ front ++ ((12
 
 -- the variables of a clause are those below its number of variables, each stands in a condition, and they first appear in order
 pub record ClauseFits (c : ℕ) (arities : List ℕ) (k : Clause) : Type 0 where
-  pub few-vars : k.vars ≤ 4
-  pub few-conds : length k.conds ≤ 4
-  pub few-alts : length k.alts ≤ 4
-  pub conds-fit : All (AtomFits c arities k.vars) k.conds
-  pub alts-fit : All (AtomFits c arities k.vars) k.alts
+  pub few_vars : k.vars ≤ 4
+  pub few_conds : length k.conds ≤ 4
+  pub few_alts : length k.alts ≤ 4
+  pub conds_fit : All (AtomFits c arities k.vars) k.conds
+  pub alts_fit : All (AtomFits c arities k.vars) k.alts
   pub named : (x : ℕ) → x < k.vars → Any (λ a. Any (λ b. b ≡ 128 + x) a.args) k.conds
-  pub in_order : VariablesInOrder (argumentsOf k)
+  pub in_order : VariablesInOrder (arguments_of k)
 
 -- a well-formed problem: what document 01 asks of a ticket, whatever reads it
 pub record Fits (q : Problem) : Type 0 where
-  pub constants-fit : q.constants ≤ 32
-  pub limit-four : length q.limit ≡ 4
-  pub limit-bytes : All (λ b. b < 256) q.limit
-  pub some-predicate : 1 ≤ length q.arities
-  pub predicates-fit : length q.arities ≤ 32
-  pub arities-fit : All (λ a. a ≤ 3) q.arities
-  pub atoms-fit : atomCount q.constants q.arities ≤ 1024
-  pub clauses-fit : length q.clauses ≤ 64
+  pub constants_fit : q.constants ≤ 32
+  pub limit_four : length q.limit ≡ 4
+  pub limit_bytes : All (λ b. b < 256) q.limit
+  pub some_predicate : 1 ≤ length q.arities
+  pub predicates_fit : length q.arities ≤ 32
+  pub arities_fit : All (λ a. a ≤ 3) q.arities
+  pub atoms_fit : atom_count q.constants q.arities ≤ 1024
+  pub clauses_fit : length q.clauses ≤ 64
   pub each_fits : All (ClauseFits q.constants q.arities) q.clauses
-  pub weights-fit : weights q.constants q.clauses ≤ 16384
+  pub weights_fit : weights q.constants q.clauses ≤ 16384

@@ -1,12 +1,12 @@
 // The end of a run: its verdict, the model where there is one, and the session that it leaves, if one is kept.
 ghost use Rattle.std.specs.Prelude.{List, [], ◌≡◌, ℕ, ◌≤◌, length};
-ghost use Rattle.search.specs.Session.{altsFound};
+ghost use Rattle.search.specs.Session.{alts_found};
 ghost use Rattle.problem.specs.Table.{Lawful};
 ghost use Rattle.ground.specs.Instance.{Instance};
-ghost use Rattle.walk.specs.contracts.Walker.{Run, fromRoot};
-ghost use Rattle.walk.specs.contracts.Walk.{Walks};
-ghost use Rattle.relevancy_walk.specs.contracts.Place.{relevancyWalker};
-ghost use Rattle.session.specs.contracts.End.{LeftBy, Replied, Concluded};
+ghost use Rattle.walk.specs.terms.Walker.{Run, from_root};
+ghost use Rattle.walk.specs.terms.Walk.{Walks};
+ghost use Rattle.relevancy_walk.specs.terms.Place.{relevancy_walker};
+ghost use Rattle.session.specs.terms.End.{LeftBy, Replied, Concluded};
 
 use lists::pair;
 use relevancy_resume::left::steps;
@@ -19,9 +19,9 @@ use walk::node::{deepest, next};
 fn path_left(table: &[u8], path: &[u8], walked: Walked, used: u8) -> Left
     requires lawful { Lawful table.now }
     requires path_len { length path.now ≡ 9227 }
-    requires used_value { used ≡ length (altsFound ((relevancyWalker table.now).find [])) }
-    requires by_index { (facts : List ℕ) × ((r : Run Instance) × Walks (relevancyWalker table.now) r walked facts path.now) }
-    ensures { LeftBy (relevancyWalker table.now) walked path.now result }
+    requires used_value { used ≡ length (alts_found ((relevancy_walker table.now).find [])) }
+    requires by_index { (facts : List ℕ) × ((r : Run Instance) × Walks (relevancy_walker table.now) r walked facts path.now) }
+    ensures { LeftBy (relevancy_walker table.now) walked path.now result }
 {
     let mut atoms = [0u16; 1024];
     let mut nexts = [0u8; 1024];
@@ -67,10 +67,10 @@ pub fn conclude(
 ) -> Moved
     requires lawful { Lawful table.now }
     requires path_len { length path.now ≡ 9227 }
-    requires used_value { used ≡ length (altsFound ((relevancyWalker table.now).find [])) }
+    requires used_value { used ≡ length (alts_found ((relevancy_walker table.now).find [])) }
     requires in_bounds { (1024 ≤ length answer.old) × (length facts.now ≡ 6150) }
-    requires limit_value { (r : Run Instance) × ((r.limit ≡ limit) × Walks (relevancyWalker table.now) r walked facts.now path.now) }
-    ensures { (r : Run Instance) → r.limit ≡ limit → Walks (relevancyWalker table.now) r walked facts.now path.now → Concluded (relevancyWalker table.now) r answer.old result answer.new }
+    requires limit_value { (r : Run Instance) × ((r.limit ≡ limit) × Walks (relevancy_walker table.now) r walked facts.now path.now) }
+    ensures { (r : Run Instance) → r.limit ≡ limit → Walks (relevancy_walker table.now) r walked facts.now path.now → Concluded (relevancy_walker table.now) r answer.old result answer.new }
 {
     let atoms = pair(table[8], table[9]);
     give_model(walked, facts, answer, atoms);
@@ -89,8 +89,8 @@ pub fn reply(
 ) -> Reply
     requires lawful { Lawful table.now }
     requires in_bounds { (1024 ≤ length answer.old) × (length facts.now ≡ 6150) × (length path.now ≡ 9227) }
-    requires walks { Walks (relevancyWalker table.now) (fromRoot (relevancyWalker table.now) 0 limit) walked facts.now path.now }
-    ensures { Replied (relevancyWalker table.now) limit answer.old result answer.new }
+    requires walks { Walks (relevancy_walker table.now) (from_root (relevancy_walker table.now) 0 limit) walked facts.now path.now }
+    ensures { Replied (relevancy_walker table.now) limit answer.old result answer.new }
 {
     let atoms = pair(table[8], table[9]);
     give_model(walked, facts, answer, atoms);

@@ -1,9 +1,9 @@
 // Going on with the session of a record: 41 and 42, then the run from where it stands.
 ghost use Rattle.std.specs.Prelude.{◌≡◌, ◌+◌, ◌≤◌, length};
-ghost use Rattle.search.specs.Relevancy.{findR};
+ghost use Rattle.search.specs.Relevancy.{find_r};
 ghost use Rattle.problem.specs.Table.{Lawful};
-ghost use Rattle.ground.specs.Instance.{groundIn};
-ghost use Rattle.session.specs.Calls.{calledIn, verdictTold, recordLeft, answerLeft, workLeft};
+ghost use Rattle.ground.specs.Instance.{ground_in};
+ghost use Rattle.session.specs.Calls.{called_in, verdict_told, record_left, answer_left, work_left};
 
 use crate::end::conclude;
 use lists::pair;
@@ -27,8 +27,8 @@ fn further_run(
     requires lawful { Lawful table.now }
     requires in_bounds { (1024 ≤ length answer.old) × (length work.old ≡ 65536) }
     requires verdict_bound { (session.verdict ≤ 2) × (session.length ≤ 1024) × (session.count + further ≤ 4294967295) }
-    requires length_le_deepest { (session.length ≤ session.deepest) × (session.deepest ≤ (groundIn table.now).atoms) }
-    ensures { (result.verdict ≡ verdictTold (calledIn (findR (groundIn table.now)) (groundIn table.now).atoms session further)) × (result.session ≡ recordLeft (calledIn (findR (groundIn table.now)) (groundIn table.now).atoms session further) session) × (answer.new ≡ answerLeft (calledIn (findR (groundIn table.now)) (groundIn table.now).atoms session further) answer.old) × (work.new ≡ workLeft (calledIn (findR (groundIn table.now)) (groundIn table.now).atoms session further) work.old) }
+    requires length_le_deepest { (session.length ≤ session.deepest) × (session.deepest ≤ (ground_in table.now).atoms) }
+    ensures { (result.verdict ≡ verdict_told (called_in (find_r (ground_in table.now)) (ground_in table.now).atoms session further)) × (result.session ≡ record_left (called_in (find_r (ground_in table.now)) (ground_in table.now).atoms session further) session) × (answer.new ≡ answer_left (called_in (find_r (ground_in table.now)) (ground_in table.now).atoms session further) answer.old) × (work.new ≡ work_left (called_in (find_r (ground_in table.now)) (ground_in table.now).atoms session further) work.old) }
 {
     let conds = build(table, false);
     let alts = build(table, true);
@@ -69,7 +69,7 @@ pub fn go_further(
 ) -> Moved
     requires lawful { Lawful table.now }
     requires in_bounds { (1024 ≤ length answer.old) × (length work.old ≡ 65536) }
-    ensures { (result.verdict ≡ verdictTold (calledIn (findR (groundIn table.now)) (groundIn table.now).atoms session further)) × (result.session ≡ recordLeft (calledIn (findR (groundIn table.now)) (groundIn table.now).atoms session further) session) × (answer.new ≡ answerLeft (calledIn (findR (groundIn table.now)) (groundIn table.now).atoms session further) answer.old) × (work.new ≡ workLeft (calledIn (findR (groundIn table.now)) (groundIn table.now).atoms session further) work.old) }
+    ensures { (result.verdict ≡ verdict_told (called_in (find_r (ground_in table.now)) (ground_in table.now).atoms session further)) × (result.session ≡ record_left (called_in (find_r (ground_in table.now)) (ground_in table.now).atoms session further) session) × (answer.new ≡ answer_left (called_in (find_r (ground_in table.now)) (ground_in table.now).atoms session further) answer.old) × (work.new ≡ work_left (called_in (find_r (ground_in table.now)) (ground_in table.now).atoms session further) work.old) }
 {
     if further > 4294967295 - session.count {
         return refused(session, 41);

@@ -1,11 +1,11 @@
 // The walk of a whole table.
 ghost use Rattle.std.specs.Prelude.{[], ◌≡◌, length};
-ghost use Rattle.search.specs.Session.{altsFound};
-ghost use Rattle.store.specs.contracts.Store.{Store};
+ghost use Rattle.search.specs.Session.{alts_found};
+ghost use Rattle.store.specs.terms.Store.{Store};
 ghost use Rattle.problem.specs.Table.{Lawful};
-ghost use Rattle.walk.specs.contracts.Walker.{fromRoot};
-ghost use Rattle.walk.specs.contracts.Walk.{Walks};
-ghost use Rattle.relevancy_walk.specs.contracts.Place.{relevancyWalker};
+ghost use Rattle.walk.specs.terms.Walker.{from_root};
+ghost use Rattle.walk.specs.terms.Walk.{Walks};
+ghost use Rattle.relevancy_walk.specs.terms.Place.{relevancy_walker};
 
 use relevancy_resume::left::root_alternatives;
 use relevancy_rule::index::slots;
@@ -25,7 +25,7 @@ pub struct Whole {
 pub fn walk_whole(table: &[u8], facts: &mut [u8], path: &mut [u8], limit: u32) -> Whole
     requires lawful { Lawful table.now }
     requires store { Store 2050 facts.old 0 × (length path.old ≡ 9227) }
-    ensures { (result.used ≡ length (altsFound ((relevancyWalker table.now).find []))) × Walks (relevancyWalker table.now) (fromRoot (relevancyWalker table.now) 0 limit) result.walked facts.new path.new }
+    ensures { (result.used ≡ length (alts_found ((relevancy_walker table.now).find []))) × Walks (relevancy_walker table.now) (from_root (relevancy_walker table.now) 0 limit) result.walked facts.new path.new }
 {
     let mut conds = [0u16; 384];
     slots(table, false, false, &mut conds);

@@ -1,15 +1,15 @@
 // The relevancy engine's operations: a first run, and going on with a session.
 ghost use Rattle.std.specs.Prelude.{◌≡◌, ◌≤◌, length, replicate};
-ghost use Rattle.search.specs.Relevancy.{findR};
-ghost use Rattle.search.specs.Session.{firstSession};
-ghost use Rattle.problem.specs.Problem.{limitOf};
-ghost use Rattle.problem.specs.Layout.{problemIn};
+ghost use Rattle.search.specs.Relevancy.{find_r};
+ghost use Rattle.search.specs.Session.{first_session};
+ghost use Rattle.problem.specs.Problem.{limit_of};
+ghost use Rattle.problem.specs.Layout.{problem_in};
 ghost use Rattle.problem.specs.Table.{Lawful};
-ghost use Rattle.ground.specs.Verdict.{verdictOf, answer_of};
-ghost use Rattle.ground.specs.Instance.{groundIn};
+ghost use Rattle.ground.specs.Verdict.{verdict_of, answer_of};
+ghost use Rattle.ground.specs.Instance.{ground_in};
 ghost use Rattle.session.specs.Record.{laid};
-ghost use Rattle.session.specs.Calls.{verdictTold, recordLeft, answerLeft, workLeft};
-ghost use Rattle.relevancy.specs.Engine.{outcomeIn, fitResult, fitDeepest, fitAnswer, fitWork};
+ghost use Rattle.session.specs.Calls.{verdict_told, record_left, answer_left, work_left};
+ghost use Rattle.relevancy.specs.Engine.{outcome_in, fit_result, fit_deepest, fit_answer, fit_work};
 ghost use Rattle.relevancy.specs.Sessions.{begun, resumed};
 
 use ground::verdict::{Verdict, limit_in};
@@ -24,7 +24,7 @@ use writing::lent::{refusal, too_small};
 fn decide(table: &[u8], answer: &mut [u8], path: &mut [u8]) -> Moved
     requires lawful { Lawful table.now }
     requires in_bounds { (1024 ≤ length answer.old) × (length path.old ≡ 9227) }
-    ensures { (result.verdict ≡ verdictOf (outcomeIn table.now)) × (result.session ≡ laid (firstSession (findR (groundIn table.now)) (limitOf (problemIn table.now).limit))) × (answer.new ≡ answer_of (outcomeIn table.now) answer.old) }
+    ensures { (result.verdict ≡ verdict_of (outcome_in table.now)) × (result.session ≡ laid (first_session (find_r (ground_in table.now)) (limit_of (problem_in table.now).limit))) × (answer.new ≡ answer_of (outcome_in table.now) answer.old) }
 {
     let mut facts = [0u8; 6150];
     let limit = limit_in(table);
@@ -37,7 +37,7 @@ fn decide(table: &[u8], answer: &mut [u8], path: &mut [u8]) -> Moved
 fn run(table: &[u8], answer: &mut [u8], work: &mut [u8]) -> Moved
     requires lawful { Lawful table.now }
     requires in_bounds { (1024 ≤ length answer.old) × (length work.old ≡ 65536) }
-    ensures { (result.verdict ≡ verdictOf (outcomeIn table.now)) × (result.session ≡ laid (firstSession (findR (groundIn table.now)) (limitOf (problemIn table.now).limit))) × (answer.new ≡ answer_of (outcomeIn table.now) answer.old) × (work.new ≡ replicate 65536 0) }
+    ensures { (result.verdict ≡ verdict_of (outcome_in table.now)) × (result.session ≡ laid (first_session (find_r (ground_in table.now)) (limit_of (problem_in table.now).limit))) × (answer.new ≡ answer_of (outcome_in table.now) answer.old) × (work.new ≡ replicate 65536 0) }
 {
     let moved = decide(table, answer, &mut work[0..9227]);
     lists::zero(work);
@@ -46,7 +46,7 @@ fn run(table: &[u8], answer: &mut [u8], work: &mut [u8]) -> Moved
 
 // Fits a lent table: the relevancy walk under the table's own limit, which leaves a session.
 pub fn begin(session: Session, table: &[u8], answer: &mut [u8], work: &mut [u8]) -> Moved
-    ensures { (result.verdict ≡ fitResult table.now answer.old work.old) × (result.session ≡ recordLeft (begun table.now answer.old work.old) session) × (answer.new ≡ fitAnswer table.now answer.old work.old) × (work.new ≡ fitWork table.now answer.old work.old) }
+    ensures { (result.verdict ≡ fit_result table.now answer.old work.old) × (result.session ≡ record_left (begun table.now answer.old work.old) session) × (answer.new ≡ fit_answer table.now answer.old work.old) × (work.new ≡ fit_work table.now answer.old work.old) }
 {
     let e = refusal(table, too_small(answer.len(), work.len()));
     if 0 < e {
@@ -57,7 +57,7 @@ pub fn begin(session: Session, table: &[u8], answer: &mut [u8], work: &mut [u8])
 
 // The same, without a session.
 pub fn fit(table: &[u8], answer: &mut [u8], work: &mut [u8]) -> Reply
-    ensures { (result.verdict ≡ fitResult table.now answer.old work.old) × (result.deepest ≡ fitDeepest table.now answer.old work.old) × (answer.new ≡ fitAnswer table.now answer.old work.old) × (work.new ≡ fitWork table.now answer.old work.old) }
+    ensures { (result.verdict ≡ fit_result table.now answer.old work.old) × (result.deepest ≡ fit_deepest table.now answer.old work.old) × (answer.new ≡ fit_answer table.now answer.old work.old) × (work.new ≡ fit_work table.now answer.old work.old) }
 {
     let e = refusal(table, too_small(answer.len(), work.len()));
     if 0 < e {
@@ -77,7 +77,7 @@ pub fn resume(
     answer: &mut [u8],
     work: &mut [u8],
 ) -> Moved
-    ensures { (result.verdict ≡ verdictTold (resumed session further table.now answer.old work.old)) × (result.session ≡ recordLeft (resumed session further table.now answer.old work.old) session) × (answer.new ≡ answerLeft (resumed session further table.now answer.old work.old) answer.old) × (work.new ≡ workLeft (resumed session further table.now answer.old work.old) work.old) }
+    ensures { (result.verdict ≡ verdict_told (resumed session further table.now answer.old work.old)) × (result.session ≡ record_left (resumed session further table.now answer.old work.old) session) × (answer.new ≡ answer_left (resumed session further table.now answer.old work.old) answer.old) × (work.new ≡ work_left (resumed session further table.now answer.old work.old) work.old) }
 {
     let e = refusal(table, too_small(answer.len(), work.len()));
     if 0 < e {

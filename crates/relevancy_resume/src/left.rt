@@ -1,11 +1,11 @@
 // What a walk leaves: the path written down in steps.
 ghost use Rattle.std.specs.Prelude.{List, [], ◌≡◌, ℕ, length, replicate};
-ghost use Rattle.search.specs.Session.{altsFound};
+ghost use Rattle.search.specs.Session.{alts_found};
 ghost use Rattle.problem.specs.Table.{Lawful};
-ghost use Rattle.walk.specs.contracts.Path.{Room, pathIn};
-ghost use Rattle.walk.specs.contracts.Place.{NodesNamed, Beginning};
-ghost use Rattle.walk.specs.contracts.Left.{StepsLeft};
-ghost use Rattle.relevancy_walk.specs.contracts.Place.{relevancyWalker};
+ghost use Rattle.walk.specs.terms.Path.{Room, path_in};
+ghost use Rattle.walk.specs.terms.Place.{NodesNamed, Beginning};
+ghost use Rattle.walk.specs.terms.Left.{StepsLeft};
+ghost use Rattle.relevancy_walk.specs.terms.Place.{relevancy_walker};
 
 use relevancy_walk::place::alternatives_at;
 use walk::alternatives::{atom_before, taken};
@@ -15,8 +15,8 @@ use walk::node::next;
 // How many alternatives the root has that has just been found so: none where it is not split.
 pub fn root_alternatives(table: &[u8], path: &[u8], found: Found) -> u8
     requires lawful { Lawful table.now }
-    requires by_index { (facts : List ℕ) × Beginning (relevancyWalker table.now) found facts path.now }
-    ensures { result ≡ length (altsFound ((relevancyWalker table.now).find [])) }
+    requires by_index { (facts : List ℕ) × Beginning (relevancy_walker table.now) found facts path.now }
+    ensures { result ≡ length (alts_found ((relevancy_walker table.now).find [])) }
 {
     let Found::Split(_) = found else {
         return 0;
@@ -28,9 +28,9 @@ pub fn root_alternatives(table: &[u8], path: &[u8], found: Found) -> u8
 // The step of each node before `depth`: the atom that is entered from it, and the alternative after that one.
 pub fn steps(table: &[u8], path: &[u8], depth: usize, atoms: &mut [u16], nexts: &mut [u8])
     requires lawful { Lawful table.now }
-    requires room { Room path.now depth × (relevancyWalker table.now).Kept (pathIn (relevancyWalker table.now) path.now depth) × NodesNamed (relevancyWalker table.now) path.now depth }
+    requires room { Room path.now depth × (relevancy_walker table.now).Kept (path_in (relevancy_walker table.now) path.now depth) × NodesNamed (relevancy_walker table.now) path.now depth }
     requires atoms_value { (atoms.old ≡ replicate 1024 0) × (nexts.old ≡ replicate 1024 0) }
-    ensures { StepsLeft (relevancyWalker table.now) path.now depth atoms.new nexts.new }
+    ensures { StepsLeft (relevancy_walker table.now) path.now depth atoms.new nexts.new }
 {
     let mut i: usize = 0;
     while i < depth {

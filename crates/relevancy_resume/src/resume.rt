@@ -2,17 +2,17 @@
 ghost use Rattle.std.specs.Prelude.{true, false, ◌≡◌, ◌≤◌, length};
 ghost use Rattle.std.proofs.Math.Option.{some};
 ghost use Rattle.problem.specs.Table.{Lawful};
-ghost use Rattle.relevancy_rule.specs.contracts.Index.{ClausesIndexed};
-ghost use Rattle.relevancy_rule.specs.contracts.Sweep.{SweepIndexed};
+ghost use Rattle.relevancy_rule.specs.terms.Index.{ClausesIndexed};
+ghost use Rattle.relevancy_rule.specs.terms.Sweep.{SweepIndexed};
 ghost use Rattle.ground.specs.Instance.{Instance};
-ghost use Rattle.search.specs.Session.{pathOf, place_of};
-ghost use Rattle.walk.specs.contracts.Walker.{Run};
-ghost use Rattle.walk.specs.contracts.Path.{markAt, deepestAt, pathIn};
-ghost use Rattle.walk.specs.contracts.Place.{Parted, Reached, Trying, Beginning};
-ghost use Rattle.walk.specs.contracts.Walk.{Leaves, Ended};
-ghost use Rattle.walk.specs.Numbers.{stepsIn, sessionOf};
-ghost use Rattle.walk.specs.contracts.Resume.{lastIn, Resumes, GoesOn};
-ghost use Rattle.relevancy_walk.specs.contracts.Place.{relevancyWalker};
+ghost use Rattle.search.specs.Session.{path_of, place_of};
+ghost use Rattle.walk.specs.terms.Walker.{Run};
+ghost use Rattle.walk.specs.terms.Path.{mark_at, deepest_at, path_in};
+ghost use Rattle.walk.specs.terms.Place.{Parted, Reached, Trying, Beginning};
+ghost use Rattle.walk.specs.terms.Walk.{Leaves, Ended};
+ghost use Rattle.walk.specs.Numbers.{steps_in, session_of};
+ghost use Rattle.walk.specs.terms.Resume.{last_in, Resumes, GoesOn};
+ghost use Rattle.relevancy_walk.specs.terms.Place.{relevancy_walker};
 
 use relevancy_walk::place::{alternatives_at, enter};
 use relevancy_walk::trail::try_next;
@@ -37,9 +37,9 @@ fn work_off(
 ) -> Walked
     requires lawful { Lawful table.now }
     requires clauses_indexed { ClausesIndexed table.now false conds.now × ClausesIndexed table.now true alts.now × SweepIndexed table.now new.now }
-    requires parted { Parted (relevancyWalker table.now) facts.old path.old depth }
-    requires done_bound { (done ≤ markAt path.old depth) × (count ≤ on.limit) }
-    ensures { Leaves (relevancyWalker table.now) facts.old path.old depth done count on.limit result facts.new path.new × ((r : Run Instance) → r.limit ≡ on.limit → Trying (relevancyWalker table.now) r path.old depth count → Ended (relevancyWalker table.now) r path.old depth result facts.new path.new) }
+    requires parted { Parted (relevancy_walker table.now) facts.old path.old depth }
+    requires done_bound { (done ≤ mark_at path.old depth) × (count ≤ on.limit) }
+    ensures { Leaves (relevancy_walker table.now) facts.old path.old depth done count on.limit result facts.new path.new × ((r : Run Instance) → r.limit ≡ on.limit → Trying (relevancy_walker table.now) r path.old depth count → Ended (relevancy_walker table.now) r path.old depth result facts.new path.new) }
 {
     let own = mark(path, depth);
     let walked = try_next(table, conds, alts, new, facts, path, depth, count, on.limit);
@@ -68,9 +68,9 @@ fn stand(
 ) -> Resumed
     requires lawful { Lawful table.now }
     requires clauses_indexed { ClausesIndexed table.now false conds.now × ClausesIndexed table.now true alts.now × SweepIndexed table.now new.now }
-    requires reached { Reached (relevancyWalker table.now) facts.old path.old depth done found }
+    requires reached { Reached (relevancy_walker table.now) facts.old path.old depth done found }
     requires count_le_limit { on.count ≤ on.limit }
-    ensures { Resumes (relevancyWalker table.now) (lastIn (relevancyWalker table.now) path.old depth on.standing on.next) facts.old path.old depth done on.count on.limit result facts.new path.new }
+    ensures { Resumes (relevancy_walker table.now) (last_in (relevancy_walker table.now) path.old depth on.standing on.next) facts.old path.old depth done on.count on.limit result facts.new path.new }
 {
     match found {
         Found::Split(n) => {
@@ -117,12 +117,12 @@ fn resume(
 ) -> Resumed
     requires lawful { Lawful table.now }
     requires clauses_indexed { ClausesIndexed table.now false conds.now × ClausesIndexed table.now true alts.now × SweepIndexed table.now new.now }
-    requires reached { Reached (relevancyWalker table.now) facts.old path.old depth done found }
-    requires depth_value { pathOf (relevancyWalker table.now).find (stepsIn atoms.now nexts.now depth) ≡ some (pathIn (relevancyWalker table.now) path.old depth) }
+    requires reached { Reached (relevancy_walker table.now) facts.old path.old depth done found }
+    requires depth_value { path_of (relevancy_walker table.now).find (steps_in atoms.now nexts.now depth) ≡ some (path_in (relevancy_walker table.now) path.old depth) }
     requires depth_le_steps { (depth ≤ steps) × (steps ≤ length atoms.now) × (steps ≤ length nexts.now) }
-    requires steps_bound { steps ≤ deepestAt path.old }
+    requires steps_bound { steps ≤ deepest_at path.old }
     requires count_le_limit { on.count ≤ on.limit }
-    ensures { Resumes (relevancyWalker table.now) (place_of (relevancyWalker table.now).find (sessionOf on.standing on.count atoms.now nexts.now steps on.next (deepestAt path.old))) facts.old path.old depth done on.count on.limit result facts.new path.new }
+    ensures { Resumes (relevancy_walker table.now) (place_of (relevancy_walker table.now).find (session_of on.standing on.count atoms.now nexts.now steps on.next (deepest_at path.old))) facts.old path.old depth done on.count on.limit result facts.new path.new }
 {
     if depth == steps {
         return stand(table, conds, alts, new, facts, path, depth, done, found, on);
@@ -180,11 +180,11 @@ pub fn go_on(
 ) -> Resumed
     requires lawful { Lawful table.now }
     requires clauses_indexed { ClausesIndexed table.now false conds.now × ClausesIndexed table.now true alts.now × SweepIndexed table.now new.now }
-    requires beginning { Beginning (relevancyWalker table.now) found facts.old path.old }
+    requires beginning { Beginning (relevancy_walker table.now) found facts.old path.old }
     requires steps_in_bounds { (steps ≤ length atoms.now) × (steps ≤ length nexts.now) }
-    requires steps_bound { steps ≤ deepestAt path.old }
+    requires steps_bound { steps ≤ deepest_at path.old }
     requires count_le_limit { on.count ≤ on.limit }
-    ensures { GoesOn (relevancyWalker table.now) (place_of (relevancyWalker table.now).find (sessionOf on.standing on.count atoms.now nexts.now steps on.next (deepestAt path.old))) on.count (deepestAt path.old) on.limit result facts.new path.new }
+    ensures { GoesOn (relevancy_walker table.now) (place_of (relevancy_walker table.now).find (session_of on.standing on.count atoms.now nexts.now steps on.next (deepest_at path.old))) on.count (deepest_at path.old) on.limit result facts.new path.new }
 {
     resume(
         table, conds, alts, new, facts, path, atoms, nexts, steps, 0, 0, found, on,

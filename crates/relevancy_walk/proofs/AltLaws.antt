@@ -5,56 +5,56 @@ use mathlib.Core.Path.{◌≡◌, refl, sym, ap, ◌∙◌}
 use native.Mathlib.Omega.{arith}
 use lib.ListN.{length, take, get_or, replicate, length-replicate}
 use Rattle.search.specs.Relevancy.{branches}
-use Rattle.problem.specs.Layout.{problemIn}
+use Rattle.problem.specs.Layout.{problem_in}
 use Rattle.problem.specs.Table.{Lawful}
-use Rattle.ground.specs.Instance.{InstanceOf, clauseOf, groundAtoms, groundOf}
-use Rattle.ground.specs.contracts.Branching.{SlotsNumbered, slotNumbers, NextOf}
-use Rattle.ground.specs.contracts.Placed.{Placed}
+use Rattle.ground.specs.Instance.{InstanceOf, clause_of, ground_atoms, ground_of}
+use Rattle.ground.specs.terms.Branching.{SlotsNumbered, slot_numbers, NextOf}
+use Rattle.ground.specs.terms.Placed.{Placed}
 use Rattle.ground.specs.declared.branch.NextBranch.{NextBranch}
-use Rattle.ground.proofs.AtomLaws.{Row, alts-row, alts-numbers}
-use Rattle.ground.proofs.Headings.{numbered-in}
-use Rattle.ground.proofs.Turns.{ClauseKnown, clause-known, numbers-take}
-use Rattle.walk.specs.contracts.Path.{number_at, fourAt, siteAt, altsAt}
-use Rattle.relevancy_walk.specs.contracts.Place.{instanceOf, relevancyWalker}
+use Rattle.ground.proofs.AtomLaws.{Row, alts_row, alts_numbers}
+use Rattle.ground.proofs.Headings.{numbered_in}
+use Rattle.ground.proofs.Turns.{ClauseKnown, clause_known, numbers_take}
+use Rattle.walk.specs.terms.Path.{number_at, four_at, site_at, alts_at}
+use Rattle.relevancy_walk.specs.terms.Place.{instance_of, relevancy_walker}
 
-module _ (tb : List ℕ) (h : Lawful tb) (path : List ℕ) (depth : ℕ) (listed : InstanceOf (problemIn tb) (instanceOf (siteAt (relevancyWalker tb) path depth))) where
+module _ (tb : List ℕ) (h : Lawful tb) (path : List ℕ) (depth : ℕ) (listed : InstanceOf (problem_in tb) (instance_of (site_at (relevancy_walker tb) path depth))) where
   abbrev clause : ℕ
   clause = number_at path depth
 
   abbrev four : List ℕ
-  four = fourAt path depth
+  four = four_at path depth
 
-  site-known : number_at path depth < length (problemIn tb).clauses
-  unfolding siteAt
-  site-known = listed.known
+  site_known : number_at path depth < length (problem_in tb).clauses
+  unfolding site_at
+  site_known = listed.known
 
-  pub site-clause : ClauseKnown tb (number_at path depth)
-  site-clause = clause-known tb h clause site-known
+  pub site_clause : ClauseKnown tb (number_at path depth)
+  site_clause = clause_known tb h clause site_known
 
   -- what is asked of flags holds of any that are enough
   abbrev flags : List ℕ
   flags = replicate 1024 0
 
-  site-placed : Placed tb clause four flags
-  unfolding siteAt problemIn
-  site-placed = record { known = site-known; four = refl; below = listed.constants; flagged = omega (arith, h.fits.atoms-fit, length-replicate {A = ℕ} 1024 0) }
+  site_placed : Placed tb clause four flags
+  unfolding site_at problem_in
+  site_placed = record { known = site_known; four = refl; below = listed.constants; flagged = omega (arith, h.fits.atoms_fit, length-replicate {A = ℕ} 1024 0) }
 
-  site-row : Row tb (144 + 56 * clause + 32) (get_or tb (144 + 56 * clause + 1) 0) four flags
-  site-row = alts-row tb h clause four flags site-placed
+  site_row : Row tb (144 + 56 * clause + 32) (get_or tb (144 + 56 * clause + 1) 0) four flags
+  site_row = alts_row tb h clause four flags site_placed
 
-  alts-are : branches (slotNumbers tb (144 + 56 * clause + 32) 6 four (get_or tb (144 + 56 * clause + 1) 0)) ≡ altsAt (relevancyWalker tb) path depth
-  unfolding siteAt groundOf
-  alts-are =
-      let q = problemIn tb in
-      let v = (clauseOf q clause).vars in
-      let same : groundAtoms q (take v four) (clauseOf q clause).alts ≡ groundAtoms q four (clauseOf q clause).alts =
-      numbers-take q.constants q.arities v four (clauseOf q clause).alts site-clause.fits.alts-fit in
-      ap branches (sym (same ∙ alts-numbers tb h clause four flags site-placed))
+  alts_are : branches (slot_numbers tb (144 + 56 * clause + 32) 6 four (get_or tb (144 + 56 * clause + 1) 0)) ≡ alts_at (relevancy_walker tb) path depth
+  unfolding site_at ground_of
+  alts_are =
+      let q = problem_in tb in
+      let v = (clause_of q clause).vars in
+      let same : ground_atoms q (take v four) (clause_of q clause).alts ≡ ground_atoms q four (clause_of q clause).alts =
+      numbers_take q.constants q.arities v four (clause_of q clause).alts site_clause.fits.alts_fit in
+      ap branches (sym (same ∙ alts_numbers tb h clause four flags site_placed))
 
   -- by what the functions of a node's record give
-  module _ (k : ℕ) (values : List ℕ) (k-is : k ≡ number_at path depth) (values-are : values ≡ fourAt path depth) where
-    pub slots-numbered : SlotsNumbered tb (144 + 56 * k + 32) 6 (get_or tb (144 + 56 * k + 1) 0) values
-    slots-numbered = rw (k-is, values-are) (record { few = site-row.few; each = λ i l. numbered-in tb h (144 + 56 * clause + 32 + 6 * i) four (site-row.numbered i l) })
+  module _ (k : ℕ) (values : List ℕ) (k_is : k ≡ number_at path depth) (values_are : values ≡ four_at path depth) where
+    pub slots_numbered : SlotsNumbered tb (144 + 56 * k + 32) 6 (get_or tb (144 + 56 * k + 1) 0) values
+    slots_numbered = rw (k_is, values_are) (record { few = site_row.few; each = λ i l. numbered_in tb h (144 + 56 * clause + 32 + 6 * i) four (site_row.numbered i l) })
 
-    pub slots_next : (n : ℕ) (r : NextBranch) → NextOf (branches (slotNumbers tb (144 + 56 * k + 32) 6 values (get_or tb (144 + 56 * k + 1) 0))) n r → NextOf (altsAt (relevancyWalker tb) path depth) n r
-    slots_next n r next = rw (← alts-are, ← k-is, ← values-are) next
+    pub slots_next : (n : ℕ) (r : NextBranch) → NextOf (branches (slot_numbers tb (144 + 56 * k + 32) 6 values (get_or tb (144 + 56 * k + 1) 0))) n r → NextOf (alts_at (relevancy_walker tb) path depth) n r
+    slots_next n r next = rw (← alts_are, ← k_is, ← values_are) next

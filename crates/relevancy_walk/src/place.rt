@@ -1,15 +1,15 @@
 // A place of the walk: making the next one, from the path and the next alternative at each node.
 ghost use Rattle.std.specs.Prelude.{true, false, ◌≡◌, ℕ, ◌<◌};
-ghost use Rattle.store.specs.contracts.Store.{Store};
+ghost use Rattle.store.specs.terms.Store.{Store};
 ghost use Rattle.problem.specs.Table.{Lawful};
-ghost use Rattle.relevancy_rule.specs.contracts.Index.{ClausesIndexed};
-ghost use Rattle.relevancy_rule.specs.contracts.Sweep.{SweepIndexed};
-ghost use Rattle.ground.specs.contracts.Branching.{NextOf};
+ghost use Rattle.relevancy_rule.specs.terms.Index.{ClausesIndexed};
+ghost use Rattle.relevancy_rule.specs.terms.Sweep.{SweepIndexed};
+ghost use Rattle.ground.specs.terms.Branching.{NextOf};
 ghost use Rattle.ground.specs.declared.branch.NextBranch.TheVariants.{Atom};
-ghost use Rattle.walk.specs.contracts.Alternatives.{listed, Listing};
-ghost use Rattle.walk.specs.contracts.Path.{Room, next_at, deepestAt, siteAt, altsAt};
-ghost use Rattle.walk.specs.contracts.Place.{Parted, Making, Beginning};
-ghost use Rattle.relevancy_walk.specs.contracts.Place.{relevancyWalker, OwnFew, NodeTold};
+ghost use Rattle.walk.specs.terms.Alternatives.{listed, Listing};
+ghost use Rattle.walk.specs.terms.Path.{Room, next_at, deepest_at, site_at, alts_at};
+ghost use Rattle.walk.specs.terms.Place.{Parted, Making, Beginning};
+ghost use Rattle.relevancy_walk.specs.terms.Place.{relevancy_walker, OwnFew, NodeTold};
 
 use ground::branch::{NextBranch, branch_after};
 use relevancy_close::close::start;
@@ -23,8 +23,8 @@ use walk::node::{mark, next, note, number, pass, values};
 // Alternative j of the split node at `depth`.
 pub fn alternative_at(table: &[u8], path: &[u8], depth: usize, j: u8) -> NextBranch
     requires lawful { Lawful table.now }
-    requires room { Room path.now depth × (relevancyWalker table.now).Named (siteAt (relevancyWalker table.now) path.now depth) }
-    ensures { NextOf (altsAt (relevancyWalker table.now) path.now depth) j result }
+    requires room { Room path.now depth × (relevancy_walker table.now).Named (site_at (relevancy_walker table.now) path.now depth) }
+    ensures { NextOf (alts_at (relevancy_walker table.now) path.now depth) j result }
 {
     let four = values(path, depth);
     let record = 144 + 56 * number(path, depth);
@@ -35,8 +35,8 @@ pub fn alternative_at(table: &[u8], path: &[u8], depth: usize, j: u8) -> NextBra
 // All alternatives of the split node at `depth`.
 pub fn alternatives_at(table: &[u8], path: &[u8], depth: usize) -> Alternatives
     requires lawful { Lawful table.now }
-    requires room { Room path.now depth × (relevancyWalker table.now).Named (siteAt (relevancyWalker table.now) path.now depth) }
-    ensures { Listing result × (listed result ≡ altsAt (relevancyWalker table.now) path.now depth) }
+    requires room { Room path.now depth × (relevancy_walker table.now).Named (site_at (relevancy_walker table.now) path.now depth) }
+    ensures { Listing result × (listed result ≡ alts_at (relevancy_walker table.now) path.now depth) }
 {
     let mut atoms = [0u16; 4];
     let mut n: u8 = 0;
@@ -54,8 +54,8 @@ pub fn alternatives_at(table: &[u8], path: &[u8], depth: usize) -> Alternatives
 // The alternative that the split node at `depth` enters next.
 pub fn alternative(table: &[u8], path: &[u8], depth: usize) -> NextBranch
     requires lawful { Lawful table.now }
-    requires room { Room path.now depth × (relevancyWalker table.now).Named (siteAt (relevancyWalker table.now) path.now depth) }
-    ensures { NextOf (altsAt (relevancyWalker table.now) path.now depth) (next_at path.now depth) result }
+    requires room { Room path.now depth × (relevancy_walker table.now).Named (site_at (relevancy_walker table.now) path.now depth) }
+    ensures { NextOf (alts_at (relevancy_walker table.now) path.now depth) (next_at path.now depth) result }
 {
     let j = next(path, depth);
     alternative_at(table, path, depth, j)
@@ -93,9 +93,9 @@ pub fn enter(
 ) -> Found
     requires lawful { Lawful table.now }
     requires clauses_indexed { ClausesIndexed table.now false conds.now × ClausesIndexed table.now true alts.now × SweepIndexed table.now new.now }
-    requires parted { Parted (relevancyWalker table.now) facts.old path.old depth }
-    requires next_of { NextOf (altsAt (relevancyWalker table.now) path.old depth) (next_at path.old depth) (Atom a) }
-    ensures { (count : ℕ) → Making (relevancyWalker table.now) facts.old path.old depth count result facts.new path.new }
+    requires parted { Parted (relevancy_walker table.now) facts.old path.old depth }
+    requires next_of { NextOf (alts_at (relevancy_walker table.now) path.old depth) (next_at path.old depth) (Atom a) }
+    ensures { (count : ℕ) → Making (relevancy_walker table.now) facts.old path.old depth count result facts.new path.new }
 {
     let own = mark(path, depth);
     pass(path, depth);
@@ -119,10 +119,10 @@ pub fn place(
 ) -> Found
     requires lawful { Lawful table.now }
     requires clauses_indexed { ClausesIndexed table.now false conds.now × ClausesIndexed table.now true alts.now × SweepIndexed table.now new.now }
-    requires parted { Parted (relevancyWalker table.now) facts.old path.old depth }
-    requires next_of { NextOf (altsAt (relevancyWalker table.now) path.old depth) (next_at path.old depth) (Atom a) }
+    requires parted { Parted (relevancy_walker table.now) facts.old path.old depth }
+    requires next_of { NextOf (alts_at (relevancy_walker table.now) path.old depth) (next_at path.old depth) (Atom a) }
     requires count_lt_limit { count < limit }
-    ensures { Making (relevancyWalker table.now) facts.old path.old depth count result facts.new path.new }
+    ensures { Making (relevancy_walker table.now) facts.old path.old depth count result facts.new path.new }
 {
     enter(table, conds, alts, new, facts, path, depth, a)
 }
@@ -138,7 +138,7 @@ pub fn root(
     requires lawful { Lawful table.now }
     requires clauses_indexed { ClausesIndexed table.now false conds.now × ClausesIndexed table.now true alts.now }
     requires store { Store 2050 facts.old 0 × Room path.old 0 }
-    ensures { Beginning (relevancyWalker table.now) result facts.new path.new × (deepestAt path.new ≡ deepestAt path.old) }
+    ensures { Beginning (relevancy_walker table.now) result facts.new path.new × (deepest_at path.new ≡ deepest_at path.old) }
 {
     let n = start(table, facts);
     let node = settle_root(table, conds, alts, facts, n);

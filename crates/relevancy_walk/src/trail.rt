@@ -1,14 +1,14 @@
 // The walk: visiting a node, which calls the trying of alternatives, which calls visiting.
 ghost use Rattle.std.specs.Prelude.{true, false, ◌≡◌, ◌≤◌};
 ghost use Rattle.problem.specs.Table.{Lawful};
-ghost use Rattle.relevancy_rule.specs.contracts.Index.{ClausesIndexed};
-ghost use Rattle.relevancy_rule.specs.contracts.Sweep.{SweepIndexed};
+ghost use Rattle.relevancy_rule.specs.terms.Index.{ClausesIndexed};
+ghost use Rattle.relevancy_rule.specs.terms.Sweep.{SweepIndexed};
 ghost use Rattle.ground.specs.Instance.{Instance};
-ghost use Rattle.walk.specs.contracts.Walker.{Run, fromRoot};
-ghost use Rattle.walk.specs.contracts.Path.{markAt, deepestAt};
-ghost use Rattle.walk.specs.contracts.Place.{Parted, Reached, Visiting, Trying, Beginning};
-ghost use Rattle.walk.specs.contracts.Walk.{Leaves, Ended, Walks};
-ghost use Rattle.relevancy_walk.specs.contracts.Place.{relevancyWalker};
+ghost use Rattle.walk.specs.terms.Walker.{Run, from_root};
+ghost use Rattle.walk.specs.terms.Path.{mark_at, deepest_at};
+ghost use Rattle.walk.specs.terms.Place.{Parted, Reached, Visiting, Trying, Beginning};
+ghost use Rattle.walk.specs.terms.Walk.{Leaves, Ended, Walks};
+ghost use Rattle.relevancy_walk.specs.terms.Place.{relevancy_walker};
 
 use crate::place::{alternative, place};
 use ground::branch::NextBranch;
@@ -33,9 +33,9 @@ pub fn visit(
 ) -> Walked
     requires lawful { Lawful table.now }
     requires clauses_indexed { ClausesIndexed table.now false conds.now × ClausesIndexed table.now true alts.now × SweepIndexed table.now new.now }
-    requires reached { Reached (relevancyWalker table.now) facts.old path.old depth done found }
+    requires reached { Reached (relevancy_walker table.now) facts.old path.old depth done found }
     requires count_le_limit { count ≤ limit }
-    ensures { Leaves (relevancyWalker table.now) facts.old path.old depth done count limit result facts.new path.new × ((r : Run Instance) → r.limit ≡ limit → Visiting (relevancyWalker table.now) r facts.old path.old depth found count → Ended (relevancyWalker table.now) r path.old depth result facts.new path.new) }
+    ensures { Leaves (relevancy_walker table.now) facts.old path.old depth done count limit result facts.new path.new × ((r : Run Instance) → r.limit ≡ limit → Visiting (relevancy_walker table.now) r facts.old path.old depth found count → Ended (relevancy_walker table.now) r path.old depth result facts.new path.new) }
 {
     match found {
         Found::Split(n) => {
@@ -75,9 +75,9 @@ pub fn try_next(
 ) -> Walked
     requires lawful { Lawful table.now }
     requires clauses_indexed { ClausesIndexed table.now false conds.now × ClausesIndexed table.now true alts.now × SweepIndexed table.now new.now }
-    requires parted { Parted (relevancyWalker table.now) facts.old path.old depth }
+    requires parted { Parted (relevancy_walker table.now) facts.old path.old depth }
     requires count_le_limit { count ≤ limit }
-    ensures { Leaves (relevancyWalker table.now) facts.old path.old depth (markAt path.old depth) count limit result facts.new path.new × ((r : Run Instance) → r.limit ≡ limit → Trying (relevancyWalker table.now) r path.old depth count → Ended (relevancyWalker table.now) r path.old depth result facts.new path.new) }
+    ensures { Leaves (relevancy_walker table.now) facts.old path.old depth (mark_at path.old depth) count limit result facts.new path.new × ((r : Run Instance) → r.limit ≡ limit → Trying (relevancy_walker table.now) r path.old depth count → Ended (relevancy_walker table.now) r path.old depth result facts.new path.new) }
 {
     let own = mark(path, depth);
     let mut made = count;
@@ -123,8 +123,8 @@ pub fn from_root(
 ) -> Walked
     requires lawful { Lawful table.now }
     requires clauses_indexed { ClausesIndexed table.now false conds.now × ClausesIndexed table.now true alts.now × SweepIndexed table.now new.now }
-    requires beginning { Beginning (relevancyWalker table.now) found facts.old path.old }
-    ensures { Walks (relevancyWalker table.now) (fromRoot (relevancyWalker table.now) (deepestAt path.old) limit) result facts.new path.new }
+    requires beginning { Beginning (relevancy_walker table.now) found facts.old path.old }
+    ensures { Walks (relevancy_walker table.now) (from_root (relevancy_walker table.now) (deepest_at path.old) limit) result facts.new path.new }
 {
     visit(table, conds, alts, new, facts, path, 0, 0, found, 0, limit)
 }

@@ -12,45 +12,45 @@ use Rattle.lists.specs.Tabulate.{tabulate}
 use Rattle.lists.proofs.Member.{flat_append}
 use Rattle.lists.proofs.Tabulate.{tabulate-length}
 use Rattle.lists.specs.Bytes.{is_set}
-use Rattle.problem.specs.Digit.{hexLine}
-use Rattle.problem.specs.Problem.{Problem, atomCount}
-use Rattle.problem.specs.Layout.{aritiesIn, problemIn}
+use Rattle.problem.specs.Digit.{hex_line}
+use Rattle.problem.specs.Problem.{Problem, atom_count}
+use Rattle.problem.specs.Layout.{arities_in, problem_in}
 use Rattle.problem.specs.Table.{Lawful}
-use Rattle.writing.specs.contracts.Printed.{Put}
-use Rattle.writing.proofs.WriteLaws.{put_as, put-most, put_then, put-none}
-use Rattle.kernel.specs.contracts.Matching.{Decoded}
-use Rattle.ground.specs.Report.{atomsInOrder, chosen}
-use Rattle.kernel.proofs.MatchLaws.{PredicateKnown, predicate-known}
-use Rattle.ground.proofs.Order.{order-count, order-at}
-use Rattle.report.specs.contracts.Told.{atomLine, modelLines}
+use Rattle.writing.specs.terms.Printed.{Put}
+use Rattle.writing.proofs.WriteLaws.{put_as, put_most, put_then, put_none}
+use Rattle.kernel.specs.terms.Matching.{Decoded}
+use Rattle.ground.specs.Report.{atoms_in_order, chosen}
+use Rattle.kernel.proofs.MatchLaws.{PredicateKnown, predicate_known}
+use Rattle.ground.proofs.Order.{order_count, order_at}
+use Rattle.report.specs.terms.Told.{atom_line, model_lines}
 
 -- ---- an atom's frame
 
-three-taken : (k p w : ℕ) (args : List ℕ) → length args ≡ 3
+three_taken : (k p w : ℕ) (args : List ℕ) → length args ≡ 3
     → take (suc (suc w)) (k ∷ p ∷ get_or args 0 0 ∷ get_or args 1 0 ∷ get_or args 2 0 ∷ []) ≡ k ∷ p ∷ take w args
-three-taken k p w (x ∷ y ∷ z ∷ []) h = refl
-three-taken k p w [] h = absurd (omega arith)
-three-taken k p w (x ∷ []) h = absurd (omega arith)
-three-taken k p w (x ∷ y ∷ []) h = absurd (omega arith)
-three-taken k p w (x ∷ y ∷ z ∷ u ∷ rest) h = absurd (omega arith)
+three_taken k p w (x ∷ y ∷ z ∷ []) h = refl
+three_taken k p w [] h = absurd (omega arith)
+three_taken k p w (x ∷ []) h = absurd (omega arith)
+three_taken k p w (x ∷ y ∷ []) h = absurd (omega arith)
+three_taken k p w (x ∷ y ∷ z ∷ u ∷ rest) h = absurd (omega arith)
 
 module _ (tb : List ℕ) (lawful : Lawful tb) (a p : ℕ) (args : List ℕ) (d : Decoded tb a p args) where
-  pub decoded-known : PredicateKnown tb p
-  decoded-known = predicate-known tb lawful p d.atom.known
+  pub decoded_known : PredicateKnown tb p
+  decoded_known = predicate_known tb lawful p d.atom.known
 
-  pub frame-size : length (take (2 + get_or tb (16 + 4 * p) 0) (130 ∷ p ∷ get_or args 0 0 ∷ get_or args 1 0 ∷ get_or args 2 0 ∷ [])) ≡ 2 + get_or tb (16 + 4 * p) 0
-  frame-size =
-      length-take-le (2 + get_or tb (16 + 4 * p) 0) (130 ∷ p ∷ get_or args 0 0 ∷ get_or args 1 0 ∷ get_or args 2 0 ∷ []) (omega (arith, decoded-known.arity, decoded-known.few))
+  pub frame_size : length (take (2 + get_or tb (16 + 4 * p) 0) (130 ∷ p ∷ get_or args 0 0 ∷ get_or args 1 0 ∷ get_or args 2 0 ∷ [])) ≡ 2 + get_or tb (16 + 4 * p) 0
+  frame_size =
+      length-take-le (2 + get_or tb (16 + 4 * p) 0) (130 ∷ p ∷ get_or args 0 0 ∷ get_or args 1 0 ∷ get_or args 2 0 ∷ []) (omega (arith, decoded_known.arity, decoded_known.few))
 
-  pub atom-frame : take (2 + get_or tb (16 + 4 * p) 0) (130 ∷ p ∷ get_or args 0 0 ∷ get_or args 1 0 ∷ get_or args 2 0 ∷ [])
-      ≡ 130 ∷ get_or (atomsInOrder (problemIn tb)) a []
-  unfolding problemIn
-  atom-frame =
-      let w : ℕ = get_or (aritiesIn tb) p 0 in
-      let two : 2 + get_or tb (16 + 4 * p) 0 ≡ suc (suc w) = omega (arith, decoded-known.arity) in
+  pub atom_frame : take (2 + get_or tb (16 + 4 * p) 0) (130 ∷ p ∷ get_or args 0 0 ∷ get_or args 1 0 ∷ get_or args 2 0 ∷ [])
+      ≡ 130 ∷ get_or (atoms_in_order (problem_in tb)) a []
+  unfolding problem_in
+  atom_frame =
+      let w : ℕ = get_or (arities_in tb) p 0 in
+      let two : 2 + get_or tb (16 + 4 * p) 0 ≡ suc (suc w) = omega (arith, decoded_known.arity) in
       ap (λ (n : ℕ). take n (130 ∷ p ∷ get_or args 0 0 ∷ get_or args 1 0 ∷ get_or args 2 0 ∷ [])) two
-      ∙ three-taken 130 p w args d.three
-      ∙ ap (λ (xs : List ℕ). 130 ∷ xs) (sym (order-at (problemIn tb) p (take w args) d.atom) ∙ ap (λ (n : ℕ). get_or (atomsInOrder (problemIn tb)) n []) d.numbered)
+      ∙ three_taken 130 p w args d.three
+      ∙ ap (λ (xs : List ℕ). 130 ∷ xs) (sym (order_at (problem_in tb) p (take w args) d.atom) ∙ ap (λ (n : ℕ). get_or (atoms_in_order (problem_in tb)) n []) d.numbered)
 
 -- ---- the atoms whose bit is true, one bit more
 
@@ -64,41 +64,41 @@ chosen_more (false ∷ bits) b (x ∷ atoms) h = chosen_more bits b atoms (omega
 
 -- ---- the lines of a model
 
-one_line : (b : Bool) (x : List ℕ) → flat_map (λ y. hexLine (130 ∷ y)) (cond b (x ∷ []) []) ≡ cond b (hexLine (130 ∷ x)) []
+one_line : (b : Bool) (x : List ℕ) → flat_map (λ y. hex_line (130 ∷ y)) (cond b (x ∷ []) []) ≡ cond b (hex_line (130 ∷ x)) []
 unfolding flat_map
-one_line true x = append-nil (hexLine (130 ∷ x))
+one_line true x = append-nil (hex_line (130 ∷ x))
 one_line false x = refl
 
 module _ (q : Problem) (answer : List ℕ) where
   -- those of the atoms before number a
-  abbrev pub linesUpto : ℕ → List ℕ
-  linesUpto a = flat_map (λ x. hexLine (130 ∷ x)) (chosen (tabulate (is_set answer) a) (atomsInOrder q))
+  abbrev pub lines_upto : ℕ → List ℕ
+  lines_upto a = flat_map (λ x. hex_line (130 ∷ x)) (chosen (tabulate (is_set answer) a) (atoms_in_order q))
 
   -- one of them, or none
-  pub line-put : {e x : List ℕ} {at r : ℕ} (a : ℕ) → is_set answer a ≡ true → Put e at (hexLine (130 ∷ get_or (atomsInOrder q) a [])) 11 r x → Put e at (atomLine q answer a) 11 r x
-  line-put {e} {x} {at} {r} a b p = put_as p (rw b)
+  pub line_put : {e x : List ℕ} {at r : ℕ} (a : ℕ) → is_set answer a ≡ true → Put e at (hex_line (130 ∷ get_or (atoms_in_order q) a [])) 11 r x → Put e at (atom_line q answer a) 11 r x
+  line_put {e} {x} {at} {r} a b p = put_as p (rw b)
 
-  pub line-skipped : (e : List ℕ) (at a : ℕ) → is_set answer a ≡ false → Put e at (atomLine q answer a) 11 at e
-  line-skipped e at a b = put_as (put-most (put-none e at) (omega arith)) (rw b)
+  pub line_skipped : (e : List ℕ) (at a : ℕ) → is_set answer a ≡ false → Put e at (atom_line q answer a) 11 at e
+  line_skipped e at a b = put_as (put_most (put_none e at) (omega arith)) (rw b)
 
-  lines_more : (a : ℕ) → a < atomCount q.constants q.arities → linesUpto a ++ atomLine q answer a ≡ linesUpto (suc a)
+  lines_more : (a : ℕ) → a < atom_count q.constants q.arities → lines_upto a ++ atom_line q answer a ≡ lines_upto (suc a)
   unfolding flat_map
   lines_more a h =
       let whole : length (tabulate (is_set answer) a) ≡ a = tabulate-length (is_set answer) a in
-      let inside : length (tabulate (is_set answer) a) < length (atomsInOrder q) = omega (arith, order-count q) in
+      let inside : length (tabulate (is_set answer) a) < length (atoms_in_order q) = omega (arith, order_count q) in
       sym
-      (ap {B = List ℕ} (flat_map (λ x. hexLine (130 ∷ x))) (chosen_more (tabulate (is_set answer) a) (is_set answer a) (atomsInOrder q) inside)
-      ∙ flat_append (λ x. hexLine (130 ∷ x)) (chosen (tabulate (is_set answer) a) (atomsInOrder q)) (cond (is_set answer a) (get_or (atomsInOrder q) (length (tabulate (is_set answer) a)) [] ∷ []) [])
-      ∙ ap (λ (ls : List ℕ). linesUpto a ++ ls) (one_line (is_set answer a) (get_or (atomsInOrder q) (length (tabulate (is_set answer) a)) []) ∙ ap (λ (n : ℕ). cond (is_set answer a) (hexLine (130 ∷ get_or (atomsInOrder q) n [])) []) whole))
+      (ap {B = List ℕ} (flat_map (λ x. hex_line (130 ∷ x))) (chosen_more (tabulate (is_set answer) a) (is_set answer a) (atoms_in_order q) inside)
+      ∙ flat_append (λ x. hex_line (130 ∷ x)) (chosen (tabulate (is_set answer) a) (atoms_in_order q)) (cond (is_set answer a) (get_or (atoms_in_order q) (length (tabulate (is_set answer) a)) [] ∷ []) [])
+      ∙ ap (λ (ls : List ℕ). lines_upto a ++ ls) (one_line (is_set answer a) (get_or (atoms_in_order q) (length (tabulate (is_set answer) a)) []) ∙ ap (λ (n : ℕ). cond (is_set answer a) (hex_line (130 ∷ get_or (atoms_in_order q) n [])) []) whole))
 
-  pub model-none : (e : List ℕ) (at : ℕ) → Put e at (linesUpto 0) (11 * 0) at e
+  pub model_none : (e : List ℕ) (at : ℕ) → Put e at (lines_upto 0) (11 * 0) at e
   unfolding flat_map
-  model-none e at = rw mul-zero (put-none e at)
+  model_none e at = rw mul-zero (put_none e at)
 
-  pub model-more : {e x y : List ℕ} {at r s : ℕ} (a : ℕ) → a < atomCount q.constants q.arities → Put e at (linesUpto a) (11 * a) r x → at + 11 * a + 11 ≤ length e
-      → Put x r (atomLine q answer a) 11 s y → Put e at (linesUpto (a + 1)) (11 * (a + 1)) s y
-  model-more {e} {x} {y} {at} {r} {s} a l p h t = rw (add-one, mul-suc) (put_as (put_then p h t) (lines_more a l))
+  pub model_more : {e x y : List ℕ} {at r s : ℕ} (a : ℕ) → a < atom_count q.constants q.arities → Put e at (lines_upto a) (11 * a) r x → at + 11 * a + 11 ≤ length e
+      → Put x r (atom_line q answer a) 11 s y → Put e at (lines_upto (a + 1)) (11 * (a + 1)) s y
+  model_more {e} {x} {y} {at} {r} {s} a l p h t = rw (add-one, mul-suc) (put_as (put_then p h t) (lines_more a l))
 
-  pub model-done : {e x : List ℕ} {at r : ℕ} (a : ℕ) → Put e at (linesUpto a) (11 * a) r x → a ≡ atomCount q.constants q.arities → a ≤ 1024
-      → Put e at (modelLines q answer) 11264 r x
-  model-done {e} {x} {at} {r} a p same h = put-most (subst (λ (i : ℕ). Put e at (linesUpto i) (11 * a) r x) same p) (omega arith)
+  pub model_done : {e x : List ℕ} {at r : ℕ} (a : ℕ) → Put e at (lines_upto a) (11 * a) r x → a ≡ atom_count q.constants q.arities → a ≤ 1024
+      → Put e at (model_lines q answer) 11264 r x
+  model_done {e} {x} {at} {r} a p same h = put_most (subst (λ (i : ℕ). Put e at (lines_upto i) (11 * a) r x) same p) (omega arith)

@@ -1,11 +1,11 @@
 // The printed lines.
 ghost use Rattle.std.specs.Prelude.{[], ◌∷◌, ◌+◌, ◌*◌, ◌<◌, ◌≤◌, length, get_or};
-ghost use Rattle.problem.specs.Digit.{hexLine};
-ghost use Rattle.problem.specs.Problem.{atomCount};
-ghost use Rattle.problem.specs.Layout.{problemIn};
+ghost use Rattle.problem.specs.Digit.{hex_line};
+ghost use Rattle.problem.specs.Problem.{atom_count};
+ghost use Rattle.problem.specs.Layout.{problem_in};
 ghost use Rattle.problem.specs.Table.{Lawful};
-ghost use Rattle.writing.specs.contracts.Printed.{Put};
-ghost use Rattle.ground.specs.Report.{atomsInOrder, headLine};
+ghost use Rattle.writing.specs.terms.Printed.{Put};
+ghost use Rattle.ground.specs.Report.{atoms_in_order, head_line};
 
 use kernel::matching::decode;
 use writing::write::{put_byte, put_end};
@@ -13,7 +13,7 @@ use writing::write::{put_byte, put_end};
 // A frame as a line.
 fn put_frame(frame: &[u8], out: &mut [u8], at: usize) -> usize
     requires { at + (2 * length frame.now + 1) ≤ length out.old }
-    ensures { Put out.old at (hexLine frame.now) (2 * length frame.now + 1) result out.new }
+    ensures { Put out.old at (hex_line frame.now) (2 * length frame.now + 1) result out.new }
 {
     let mut next = at;
     let mut i: usize = 0;
@@ -27,7 +27,7 @@ fn put_frame(frame: &[u8], out: &mut [u8], at: usize) -> usize
 // The first line, by an answer's numbers.
 pub fn put_head(refusal: u8, number: u8, value: u32, out: &mut [u8]) -> usize
     requires { 13 ≤ length out.old }
-    ensures { Put out.old 0 (headLine (record { refusal = refusal; number = number; clause = 0; value = value })) 13 result out.new }
+    ensures { Put out.old 0 (head_line (record { refusal = refusal; number = number; clause = 0; value = value })) 13 result out.new }
 {
     let c = (value / 256 % 256) as u8;
     let d = (value % 256) as u8;
@@ -44,8 +44,8 @@ pub fn put_head(refusal: u8, number: u8, value: u32, out: &mut [u8]) -> usize
 // The line of the atom with number a.
 pub fn put_atom(table: &[u8], a: usize, out: &mut [u8], at: usize) -> usize
     requires lawful { Lawful table.now }
-    requires a_bound { (a < atomCount (problemIn table.now).constants (problemIn table.now).arities) × (at + 11 ≤ length out.old) }
-    ensures { Put out.old at (hexLine (130 ∷ get_or (atomsInOrder (problemIn table.now)) a [])) 11 result out.new }
+    requires a_bound { (a < atom_count (problem_in table.now).constants (problem_in table.now).arities) × (at + 11 ≤ length out.old) }
+    ensures { Put out.old at (hex_line (130 ∷ get_or (atoms_in_order (problem_in table.now)) a [])) 11 result out.new }
 {
     let mut args = [0u8; 3];
     let p = decode(table, a, &mut args);

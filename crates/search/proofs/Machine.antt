@@ -11,21 +11,21 @@ use lib.ListN.{length, length-append}
 use borrow.Author.Tests.{lt-ltb, le-ltb}
 use Rattle.lists.specs.Member.{All}
 use Rattle.search.specs.Ground.{Found, closed, opened, split}
-use Rattle.search.specs.Machine.{Branch, Place, enter, back, after, nextPath, Satisfied, Exhausted, stopped, answerAt, answer, last, place, placed, advance, entries, proceed, Whole}
+use Rattle.search.specs.Machine.{Branch, Place, enter, back, after, next_path, Satisfied, Exhausted, stopped, answer_at, answer, last, place, placed, advance, entries, proceed, Whole}
 
-pub last-all {ℓ} : {I : Type 0} (P : Place I → Type ℓ) (s : Place I) (es : List (Place I)) → P s → All P es → P (last s es)
-last-all P s [] h a = h
-last-all P s (t ∷ ts) h a = last-all P t ts a.0 a.1
+pub last-All {ℓ} : {I : Type 0} (P : Place I → Type ℓ) (s : Place I) (es : List (Place I)) → P s → All P es → P (last s es)
+last-All P s [] h a = h
+last-All P s (t ∷ ts) h a = last-All P t ts a.0 a.1
 
 -- an answer that is Satisfied stands at an open place
-pub answer-satisfied : {I : Type 0} (s : Place I) (n m : ℕ) (bits : List Bool) → answer s n ≡ Satisfied m bits → s.found ≡ opened bits
-answer-satisfied {I} s n m bits e = go s.found (nextPath s) e
+pub answer-Satisfied : {I : Type 0} (s : Place I) (n m : ℕ) (bits : List Bool) → answer s n ≡ Satisfied m bits → s.found ≡ opened bits
+answer-Satisfied {I} s n m bits e = go s.found (next_path s) e
   where
     fails : (o : Option (List (Branch I))) → stopped o n ≡ Satisfied m bits → ⊥
     fails none q = let z : ◌≡◌ {A = ℕ} 0 1 = cc in omega arith
     fails (some bs) q = let z : ◌≡◌ {A = ℕ} 0 1 = cc in omega arith
 
-    go : (f : Found I) (o : Option (List (Branch I))) → answerAt f o n ≡ Satisfied m bits → f ≡ opened bits
+    go : (f : Found I) (o : Option (List (Branch I))) → answer_at f o n ≡ Satisfied m bits → f ≡ opened bits
     go closed o q = absurd (fails o q)
     go (opened b) o q = let same : b ≡ bits = cc in ap opened same
     go (split i ds) o q = absurd (fails o q)
@@ -35,32 +35,32 @@ module _ {I : Type 0} (find : List ℕ → Found I) where
   unfolding entries
   entries-some n s t e = ap {B = List (Place I)} (λ o. elim o [ none ↦ [] | some u ↦ u ∷ entries find n u ]) e
 
-  pub entries_none : (n : ℕ) (s : Place I) → advance find s ≡ none → entries find n s ≡ []
+  pub entries-none : (n : ℕ) (s : Place I) → advance find s ≡ none → entries find n s ≡ []
   unfolding entries
-  entries_none zero s e = refl
-  entries_none (suc n) s e = ap {B = List (Place I)} (λ o. elim o [ none ↦ [] | some u ↦ u ∷ entries find n u ]) e
+  entries-none zero s e = refl
+  entries-none (suc n) s e = ap {B = List (Place I)} (λ o. elim o [ none ↦ [] | some u ↦ u ∷ entries find n u ]) e
 
   pub entries-zero : (s : Place I) → entries find zero s ≡ []
   unfolding entries
   entries-zero s = refl
 
   -- m + n entries are m, and then n from where those end
-  pub entries-on : (m n : ℕ) (s : Place I) → entries find (m + n) s ≡ entries find m s ++ entries find n (last s (entries find m s))
-  entries-on zero n s = rw (zero-add, entries-zero)
-  entries-on (suc m) n s = go (advance find s) refl (λ t. entries-on m n t)
+  pub entries_on : (m n : ℕ) (s : Place I) → entries find (m + n) s ≡ entries find m s ++ entries find n (last s (entries find m s))
+  entries_on zero n s = rw (zero-add, entries-zero)
+  entries_on (suc m) n s = go (advance find s) refl (λ t. entries_on m n t)
     where
       go : (o : Option (Place I)) → advance find s ≡ o → ((t : Place I) → entries find (m + n) t ≡ entries find m t ++ entries find n (last t (entries find m t)))
           → entries find (suc m + n) s ≡ entries find (suc m) s ++ entries find n (last s (entries find (suc m) s))
-      go none e f = rw (entries_none (suc m + n) s e, entries_none (suc m) s e, entries_none n s e)
+      go none e f = rw (entries-none (suc m + n) s e, entries-none (suc m) s e, entries-none n s e)
       go (some t) e f = rw (suc-add m n, entries-some (m + n) s t e, entries-some m s t e, f t)
 
-  pub proceed-zero : (c : ℕ) (s : Place I) → proceed find 0 c s ≡ answer s c
+  pub proceed_zero : (c : ℕ) (s : Place I) → proceed find 0 c s ≡ answer s c
   unfolding proceed entries
-  proceed-zero c s = rw add-zero
+  proceed_zero c s = rw add-zero
 
   pub proceed-none : (n c : ℕ) (s : Place I) → advance find s ≡ none → proceed find n c s ≡ answer s c
   unfolding proceed
-  proceed-none n c s e = rw (entries_none n s e, add-zero)
+  proceed-none n c s e = rw (entries-none n s e, add-zero)
 
   pub proceed-some : (n c : ℕ) (s t : Place I) → advance find s ≡ some t → proceed find (suc n) c s ≡ proceed find n (suc c) t
   unfolding proceed
@@ -70,9 +70,9 @@ module _ {I : Type 0} (find : List ℕ → Found I) where
   last-append s [] fs = refl
   last-append s (t ∷ ts) fs = last-append t ts fs
 
-  pub proceed-on : (m n c : ℕ) (s : Place I) → proceed find (m + n) c s ≡ proceed find n (c + length (entries find m s)) (last s (entries find m s))
+  pub proceed_on : (m n c : ℕ) (s : Place I) → proceed find (m + n) c s ≡ proceed find n (c + length (entries find m s)) (last s (entries find m s))
   unfolding proceed
-  proceed-on m n c s = rw (entries-on m n s, last-append, length-append, add_assoc)
+  proceed_on m n c s = rw (entries_on m n s, last-append, length-append, add_assoc)
 
   -- the walk without a limit is one
   pub whole_unique : (s : Place I) (es fs : List (Place I)) → Whole find s es → Whole find s fs → es ≡ fs
@@ -91,7 +91,7 @@ module _ {I : Type 0} (find : List ℕ → Found I) where
       stays none q = absurd (none-ne-some t q)
       stays (some bs) q = refl
 
-      go : (f : Found I) (bs : List (Branch I)) → placed find (after f bs) ≡ some t → answerAt f (after f bs) c ≡ Exhausted c
+      go : (f : Found I) (bs : List (Branch I)) → placed find (after f bs) ≡ some t → answer_at f (after f bs) c ≡ Exhausted c
       go closed bs q = stays (back bs) q
       go (opened b) bs q = absurd (none-ne-some t q)
       go (split i ds) bs q = stays (enter i ds bs (back bs)) q
@@ -104,28 +104,28 @@ module _ {I : Type 0} (find : List ℕ → Found I) where
       stays none u w = let z : ◌≡◌ {A = ℕ} 0 1 = cc in omega arith
       stays (some bs) u w = none-ne-some (place find bs) (sym u)
 
-      go : (f : Found I) (bs : List (Branch I)) → placed find (after f bs) ≡ none → answerAt f (after f bs) c ≡ Exhausted n → ⊥
+      go : (f : Found I) (bs : List (Branch I)) → placed find (after f bs) ≡ none → answer_at f (after f bs) c ≡ Exhausted n → ⊥
       go closed bs u w = stays (back bs) u w
       go (opened b) bs u w = let z : ◌≡◌ {A = ℕ} 0 1 = cc in omega arith
       go (split i ds) bs u w = stays (enter i ds bs (back bs)) u w
 
-  pub whole-over : (s : Place I) (es : List (Place I)) → Whole find s es → advance find (last s es) ≡ none
-  whole-over s [] w = w
-  whole-over s (t ∷ ts) w = whole-over t ts w.1
+  pub whole_over : (s : Place I) (es : List (Place I)) → Whole find s es → advance find (last s es) ≡ none
+  whole_over s [] w = w
+  whole_over s (t ∷ ts) w = whole_over t ts w.1
 
   -- under a limit: spent exactly where the walk without one makes more entries
-  pub proceed-limit : (s : Place I) (es : List (Place I)) → Whole find s es → (n c : ℕ)
+  pub proceed_limit : (s : Place I) (es : List (Place I)) → Whole find s es → (n c : ℕ)
       → proceed find n c s ≡ cond (ltb n (length es)) (Exhausted (c + n)) (answer (last s es) (c + length es))
-  proceed-limit s [] w n c = rw (proceed-none n c s w, le-ltb n 0 (omega arith), add-zero)
-  proceed-limit s (t ∷ ts) w zero c = rw (proceed-zero c s, answer-some s t c w.0, lt-ltb 0 (suc (length ts)) (omega arith), add-zero)
-  proceed-limit s (t ∷ ts) w (suc n) c =
-      rw (proceed-some n c s t w.0, proceed-limit t ts w.1 n (suc c), leb-suc-suc (suc n) (length ts), suc-add c n, suc-add c (length ts), add-suc c n, add-suc c (length ts))
+  proceed_limit s [] w n c = rw (proceed-none n c s w, le-ltb n 0 (omega arith), add-zero)
+  proceed_limit s (t ∷ ts) w zero c = rw (proceed_zero c s, answer-some s t c w.0, lt-ltb 0 (suc (length ts)) (omega arith), add-zero)
+  proceed_limit s (t ∷ ts) w (suc n) c =
+      rw (proceed-some n c s t w.0, proceed_limit t ts w.1 n (suc c), leb-suc-suc (suc n) (length ts), suc-add c n, suc-add c (length ts), add-suc c n, add-suc c (length ts))
 
   -- at most as many entries as allowed
-  entries-most : (n : ℕ) (s : Place I) → length (entries find n s) ≤ n
+  entries_most : (n : ℕ) (s : Place I) → length (entries find n s) ≤ n
   unfolding entries
-  entries-most zero s = omega arith
-  entries-most (suc n) s = go (advance find s) (entries-most n)
+  entries_most zero s = omega arith
+  entries_most (suc n) s = go (advance find s) (entries_most n)
     where
       go : (o : Option (Place I)) → ((t : Place I) → length (entries find n t) ≤ n) → length {A = Place I} (elim o [ none ↦ [] | some t ↦ t ∷ entries find n t ]) ≤ suc n
       go none h = omega arith

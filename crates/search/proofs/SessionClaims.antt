@@ -10,42 +10,42 @@ use lib.ListN.{length}
 use Rattle.lists.specs.Key.{Key}
 use Rattle.lists.proofs.Member.{all_map}
 use Rattle.search.specs.Ground.{Ground, Proper, Model, Marked}
-use Rattle.search.specs.Relevancy.{findR}
-use Rattle.search.specs.Magic.{rewriting, findM}
+use Rattle.search.specs.Relevancy.{find_r}
+use Rattle.search.specs.Magic.{rewriting, find_m}
 use Rattle.search.specs.Deepest.{Exact, Bounds}
 use Rattle.search.specs.Machine.{Place, Outcome, Satisfied, Exhausted, last, root, entries, proceed}
-use Rattle.search.specs.Session.{Session, place_of, standsIn, sessionAfter, Called, declined, told, called}
+use Rattle.search.specs.Session.{Session, place_of, stands_in, session_after, Called, declined, told, called}
 use Rattle.search.specs.SessionRight.{Right, RunLeft}
 use Rattle.search.specs.Trails.{SameFacts}
-use Rattle.search.specs.SessionClaims.{findBy, Call, Kept, keptAfter, firstKept, runKept, afterCalls, OneWalkKept, OriginKept, AnyOrigin}
-use Rattle.search.proofs.Path.{Reached, place-reached, entries-reached, run-opened}
-use Rattle.search.proofs.Sound.{path-short}
-use Rattle.search.proofs.Model.{relevancy-sound}
-use Rattle.search.proofs.OneTrail.{magic-same, same-facts, place_same, entries-same, outcome-same}
-use Rattle.search.proofs.Deepest.{deep-stands}
-use Rattle.search.proofs.Session.{in-stands, stands-reached}
-use Rattle.search.proofs.SessionRight.{in_right, stands-length}
-use Rattle.search.proofs.SessionLeft.{run-left, call-told}
-use Rattle.search.proofs.SessionWalk.{goes_on, proceed-over, session-over, stands_same, first-same, called_same}
+use Rattle.search.specs.SessionClaims.{find_by, Call, Kept, kept_after, first_kept, run_kept, after_calls, OneWalkKept, OriginKept, AnyOrigin}
+use Rattle.search.proofs.Path.{Reached, place-Reached, entries-Reached, run_opened}
+use Rattle.search.proofs.Sound.{path_short}
+use Rattle.search.proofs.Model.{relevancy_sound}
+use Rattle.search.proofs.OneTrail.{magic_same, same_facts, place_same, entries_same, outcome_same}
+use Rattle.search.proofs.Deepest.{deep_stands_lem}
+use Rattle.search.proofs.Session.{in_stands, stands_reached}
+use Rattle.search.proofs.SessionRight.{in_right, stands_length}
+use Rattle.search.proofs.SessionLeft.{run_left, call_told}
+use Rattle.search.proofs.SessionWalk.{goes_on, proceed_over, session_over, stands_same, first_same, called_same}
 
 module _ {I : Type 0} (k : Key I) (p : Ground I) where
-  engine-called : (by : Bool) (s : Session) (further : ℕ) → called (findBy k p by) p.atoms s further ≡ called (findR p) p.atoms s further
-  engine-called true s further = called_same (findR p) (findM k p.atoms (rewriting p)) (magic-same k p) p.atoms s further
-  engine-called false s further = refl
+  engine_called : (by : Bool) (s : Session) (further : ℕ) → called (find_by k p by) p.atoms s further ≡ called (find_r p) p.atoms s further
+  engine_called true s further = called_same (find_r p) (find_m k p.atoms (rewriting p)) (magic_same k p) p.atoms s further
+  engine_called false s further = refl
 
-  engine-root : (by : Bool) → root (findBy k p by) ≡ root (findR p)
-  engine-root true = place_same (findR p) (findM k p.atoms (rewriting p)) (magic-same k p) [] tt
-  engine-root false = refl
+  engine_root : (by : Bool) → root (find_by k p by) ≡ root (find_r p)
+  engine_root true = place_same (find_r p) (find_m k p.atoms (rewriting p)) (magic_same k p) [] tt
+  engine_root false = refl
 
-  engine-entries : (by : Bool) (n : ℕ) (t : Place I) → Reached (findR p) t → entries (findBy k p by) n t ≡ entries (findR p) n t
-  engine-entries true n t r = entries-same (findR p) (findM k p.atoms (rewriting p)) (magic-same k p) n t r
-  engine-entries false n t r = refl
+  engine_entries : (by : Bool) (n : ℕ) (t : Place I) → Reached (find_r p) t → entries (find_by k p by) n t ≡ entries (find_r p) n t
+  engine_entries true n t r = entries_same (find_r p) (find_m k p.atoms (rewriting p)) (magic_same k p) n t r
+  engine_entries false n t r = refl
 
   -- ---- calls after a run
 
-  not-nowhere : (b : Bool) (o : Outcome) (s : Session) → cond b (declined 41) (told o s) ≡ declined 42 → ⊥
-  not-nowhere true o s e = let z : ◌≡◌ {A = ℕ} 41 42 = cc in omega arith
-  not-nowhere false o s e = let z : ◌≡◌ {A = ℕ} 0 1 = cc in omega arith
+  not_nowhere : (b : Bool) (o : Outcome) (s : Session) → cond b (declined 41) (told o s) ≡ declined 42 → ⊥
+  not_nowhere true o s e = let z : ◌≡◌ {A = ℕ} 41 42 = cc in omega arith
+  not_nowhere false o s e = let z : ◌≡◌ {A = ℕ} 0 1 = cc in omega arith
 
   told_is : (b : Bool) (x o : Outcome) (y s : Session) → cond b (declined 41) (told x y) ≡ told o s → (o ≡ x) × (s ≡ y)
   told_is true x o y s e = let z : ◌≡◌ {A = ℕ} 0 1 = cc in absurd (omega arith)
@@ -53,149 +53,149 @@ module _ {I : Type 0} (k : Key I) (p : Ground I) where
 
   -- where they have come to is where one run from t on comes to, from that count and figure
   record OneRunKept (t : Place I) (count d : ℕ) (x : Kept) : Type 0 where
-    answer-is : x.answered ≡ proceed (findR p) x.sum count t
-    session-is : x.session ≡ sessionAfter (findR p) x.sum count d t
-    always-stands : (by : Bool) (further : ℕ) → called (findBy k p by) p.atoms x.session further ≡ declined 42 → ⊥
-    finished-again : ((n : ℕ) → x.answered ≡ Exhausted n → ⊥) → (by : Bool) (further : ℕ) (o : Outcome) (s : Session)
-        → called (findBy k p by) p.atoms x.session further ≡ told o s → (o ≡ x.answered) × (s ≡ x.session)
-    deepest-bounds : (by : Bool) → Bounds p.atoms d (t ∷ entries (findBy k p by) x.sum t) x.session.deepest
-    deepest-exact : (by : Bool) → Exact d (entries (findBy k p by) x.sum t) x.session.deepest
+    answer_is : x.answered ≡ proceed (find_r p) x.sum count t
+    session_is : x.session ≡ session_after (find_r p) x.sum count d t
+    always_stands : (by : Bool) (further : ℕ) → called (find_by k p by) p.atoms x.session further ≡ declined 42 → ⊥
+    finished_again : ((n : ℕ) → x.answered ≡ Exhausted n → ⊥) → (by : Bool) (further : ℕ) (o : Outcome) (s : Session)
+        → called (find_by k p by) p.atoms x.session further ≡ told o s → (o ≡ x.answered) × (s ≡ x.session)
+    deepest_bounds : (by : Bool) → Bounds p.atoms d (t ∷ entries (find_by k p by) x.sum t) x.session.deepest
+    deepest_exact : (by : Bool) → Exact d (entries (find_by k p by) x.sum t) x.session.deepest
 
-  module _ (proper : Proper p) (t : Place I) (count d : ℕ) (reached : Reached (findR p) t) (enough : length t.path ≤ d) (most : d ≤ p.atoms) where
+  module _ (proper : Proper p) (t : Place I) (count d : ℕ) (reached : Reached (find_r p) t) (enough : length t.path ≤ d) (most : d ≤ p.atoms) where
     abbrev run : ℕ → Kept
-    run n = runKept k p t count d n
+    run n = run_kept k p t count d n
 
-    run-leaves : (n : ℕ) → RunLeft (findR p) p.atoms t count d n (run n).answered (run n).session
-    run-leaves n = run-left (findR p) p.atoms (path-short p (findR p) (relevancy-sound p proper).split-fresh) t count d n reached enough most
+    run_leaves : (n : ℕ) → RunLeft (find_r p) p.atoms t count d n (run n).answered (run n).session
+    run_leaves n = run_left (find_r p) p.atoms (path_short p (find_r p) (relevancy_sound p proper).split_fresh) t count d n reached enough most
 
     run_on : (by : Bool) (n further : ℕ)
-        → called (findBy k p by) p.atoms (run n).session further
+        → called (find_by k p by) p.atoms (run n).session further
         ≡ cond (ltb 4294967295 ((run n).session.count + further)) (declined 41) (told (run (n + further)).answered (run (n + further)).session)
     run_on by n further =
-        let right = (run-leaves n).right in
-        engine-called by (run n).session further
-        ∙ goes_on (findR p) p.atoms n further count d t reached (deep-stands p.atoms (run n).session right.deep-enough right.deep-within)
+        let right = (run_leaves n).right in
+        engine_called by (run n).session further
+        ∙ goes_on (find_r p) p.atoms n further count d t reached (deep_stands_lem p.atoms (run n).session right.deep_enough right.deep_within)
 
     again : (n : ℕ) → ((i : ℕ) → (run n).answered ≡ Exhausted i → ⊥) → (by : Bool) (further : ℕ) (o : Outcome) (s : Session)
-        → called (findBy k p by) p.atoms (run n).session further ≡ told o s → (o ≡ (run n).answered) × (s ≡ (run n).session)
+        → called (find_by k p by) p.atoms (run n).session further ≡ told o s → (o ≡ (run n).answered) × (s ≡ (run n).session)
     again n h by further o s e =
         let all : Kept = run (n + further) in
         let q = told_is (ltb 4294967295 ((run n).session.count + further)) all.answered o all.session s (sym (run_on by n further) ∙ e) in
-        (q.0 ∙ proceed-over (findR p) n further count t h, q.1 ∙ session-over (findR p) n further count d t h)
+        (q.0 ∙ proceed_over (find_r p) n further count t h, q.1 ∙ session_over (find_r p) n further count d t h)
 
-    run-kept : (n : ℕ) → OneRunKept t count d (run n)
-    run-kept n =
+    run_kept_lem : (n : ℕ) → OneRunKept t count d (run n)
+    run_kept_lem n =
         let deep : ℕ = (run n).session.deepest in
-        let same : (by : Bool) → entries (findR p) n t ≡ entries (findBy k p by) n t = λ by. sym (engine-entries by n t reached) in
+        let same : (by : Bool) → entries (find_r p) n t ≡ entries (find_by k p by) n t = λ by. sym (engine_entries by n t reached) in
         record {
-          answer-is = refl;
-          session-is = refl;
-          always-stands = λ by further e.
+          answer_is = refl;
+          session_is = refl;
+          always_stands = λ by further e.
               let all : Kept = run (n + further) in
-              not-nowhere (ltb 4294967295 ((run n).session.count + further)) all.answered all.session (sym (run_on by n further) ∙ e);
-          finished-again = again n;
-          deepest-bounds = λ by. subst (λ (es : List (Place I)). Bounds p.atoms d (t ∷ es) deep) (same by) (run-leaves n).deepest-bounds;
-          deepest-exact = λ by. subst (λ (es : List (Place I)). Exact d es deep) (same by) (run-leaves n).deepest-exact;
+              not_nowhere (ltb 4294967295 ((run n).session.count + further)) all.answered all.session (sym (run_on by n further) ∙ e);
+          finished_again = again n;
+          deepest_bounds = λ by. subst (λ (es : List (Place I)). Bounds p.atoms d (t ∷ es) deep) (same by) (run_leaves n).deepest_bounds;
+          deepest_exact = λ by. subst (λ (es : List (Place I)). Exact d es deep) (same by) (run_leaves n).deepest_exact;
         }
 
-    call-run : (n : ℕ) (c : Call)
-        → (m : ℕ) × (keptAfter (run n) c.further (called (findBy k p c.magic) p.atoms (run n).session c.further) ≡ run m)
-    call-run n c = rw (run_on c.magic n c.further) (go (ltb 4294967295 ((run n).session.count + c.further)))
+    Call-run : (n : ℕ) (c : Call)
+        → (m : ℕ) × (kept_after (run n) c.further (called (find_by k p c.magic) p.atoms (run n).session c.further) ≡ run m)
+    Call-run n c = rw (run_on c.magic n c.further) (go (ltb 4294967295 ((run n).session.count + c.further)))
       where
         go : (b : Bool) → (m : ℕ)
-            × (keptAfter (run n) c.further (cond b (declined 41) (told (run (n + c.further)).answered (run (n + c.further)).session)) ≡ run m)
+            × (kept_after (run n) c.further (cond b (declined 41) (told (run (n + c.further)).answered (run (n + c.further)).session)) ≡ run m)
         go true = (n, refl)
         go false = (n + c.further, refl)
 
-    calls-kept : (cs : List Call) (was : Kept) (n : ℕ) → was ≡ run n → OneRunKept t count d (afterCalls k p cs was)
-    calls-kept [] was n e = subst (OneRunKept t count d) (sym e) (run-kept n)
-    calls-kept (c ∷ cs) was n e =
-        let w = call-run n c in
-        calls-kept
+    calls_kept : (cs : List Call) (was : Kept) (n : ℕ) → was ≡ run n → OneRunKept t count d (after_calls k p cs was)
+    calls_kept [] was n e = subst (OneRunKept t count d) (sym e) (run_kept_lem n)
+    calls_kept (c ∷ cs) was n e =
+        let w = Call-run n c in
+        calls_kept
         cs
-        (keptAfter was c.further (called (findBy k p c.magic) p.atoms was.session c.further))
+        (kept_after was c.further (called (find_by k p c.magic) p.atoms was.session c.further))
         w.0
-        (ap (λ (x : Kept). keptAfter x c.further (called (findBy k p c.magic) p.atoms x.session c.further)) e ∙ w.1)
+        (ap (λ (x : Kept). kept_after x c.further (called (find_by k p c.magic) p.atoms x.session c.further)) e ∙ w.1)
 
   -- ---- one walk
 
-  first-whole : (by : Bool) (limit : ℕ) → firstKept k p by limit ≡ runKept k p (root (findR p)) 0 0 limit
-  first-whole true limit =
+  first_whole : (by : Bool) (limit : ℕ) → first_kept k p by limit ≡ run_kept k p (root (find_r p)) 0 0 limit
+  first_whole true limit =
       ap₂
       (λ (o : Outcome) (s : Session). record { answered = o; session = s; sum = limit })
-      (outcome-same (findR p) (findM k p.atoms (rewriting p)) (magic-same k p) limit)
-      (first-same (findR p) (findM k p.atoms (rewriting p)) (magic-same k p) limit)
-  first-whole false limit = refl
+      (outcome_same (find_r p) (find_m k p.atoms (rewriting p)) (magic_same k p) limit)
+      (first_same (find_r p) (find_m k p.atoms (rewriting p)) (magic_same k p) limit)
+  first_whole false limit = refl
 
-  pub one-walk-kept : Proper p → (magic : Bool) (limit : ℕ) (calls : List Call) → OneWalkKept k p magic limit calls
-  one-walk-kept proper magic limit calls =
-      let x : Kept = afterCalls k p calls (firstKept k p magic limit) in
-      let w : OneRunKept (root (findR p)) 0 0 x =
-      calls-kept proper (root (findR p)) 0 0 (place-reached (findR p) [] tt) (omega arith) (omega arith) calls (firstKept k p magic limit) limit (first-whole magic limit) in
+  pub one_walk_kept : Proper p → (magic : Bool) (limit : ℕ) (calls : List Call) → OneWalkKept k p magic limit calls
+  one_walk_kept proper magic limit calls =
+      let x : Kept = after_calls k p calls (first_kept k p magic limit) in
+      let w : OneRunKept (root (find_r p)) 0 0 x =
+      calls_kept proper (root (find_r p)) 0 0 (place-Reached (find_r p) [] tt) (omega arith) (omega arith) calls (first_kept k p magic limit) limit (first_whole magic limit) in
       record {
-        answer-is = w.answer-is;
-        session-is = w.session-is;
-        always-stands = w.always-stands;
-        finished-again = w.finished-again;
-        deepest-bounds = λ by.
+        answer_is = w.answer_is;
+        session_is = w.session_is;
+        always_stands = w.always_stands;
+        finished_again = w.finished_again;
+        deepest_bounds = λ by.
             subst
-            (λ (u : Place I). Bounds p.atoms 0 (u ∷ entries (findBy k p by) x.sum u) x.session.deepest)
-            (sym (engine-root by))
-            (w.deepest-bounds by);
-        deepest-exact = λ by. subst (λ (u : Place I). Exact 0 (entries (findBy k p by) x.sum u) x.session.deepest) (sym (engine-root by)) (w.deepest-exact by);
+            (λ (u : Place I). Bounds p.atoms 0 (u ∷ entries (find_by k p by) x.sum u) x.session.deepest)
+            (sym (engine_root by))
+            (w.deepest_bounds by);
+        deepest_exact = λ by. subst (λ (u : Place I). Exact 0 (entries (find_by k p by) x.sum u) x.session.deepest) (sym (engine_root by)) (w.deepest_exact by);
       }
 
   -- ---- other origin
 
-  pub origin-kept : Proper p → (s : Session) (t : Place I) (further : ℕ) → standsIn (findR p) p.atoms s ≡ some t → s.count + further ≤ 4294967295
+  pub origin_kept : Proper p → (s : Session) (t : Place I) (further : ℕ) → stands_in (find_r p) p.atoms s ≡ some t → s.count + further ≤ 4294967295
       → (calls : List Call) → OriginKept k p s t further calls
-  origin-kept proper s t further e h calls =
-      let there : place_of (findR p) s ≡ some t = (in-stands (findR p) p.atoms s t e).1 in
-      let right : Right (findR p) p.atoms s = in_right (findR p) p.atoms s t e in
-      let enough : length t.path ≤ s.deepest = omega (arith, stands-length (findR p) s t there, right.deep-enough) in
-      let w = calls-kept proper t s.count s.deepest (stands-reached (findR p) s t there) enough right.deep-within
-      calls (runKept k p t s.count s.deepest further) further refl in
+  origin_kept proper s t further e h calls =
+      let there : place_of (find_r p) s ≡ some t = (in_stands (find_r p) p.atoms s t e).1 in
+      let right : Right (find_r p) p.atoms s = in_right (find_r p) p.atoms s t e in
+      let enough : length t.path ≤ s.deepest = omega (arith, stands_length (find_r p) s t there, right.deep_enough) in
+      let w = calls_kept proper t s.count s.deepest (stands_reached (find_r p) s t there) enough right.deep_within
+      calls (run_kept k p t s.count s.deepest further) further refl in
       record {
-        first-is = λ by. engine-called by s further ∙ call-told (findR p) p.atoms s further t h e;
-        answer-is = w.answer-is;
-        session-is = w.session-is;
-        always-stands = w.always-stands;
-        deepest-bounds = w.deepest-bounds;
-        deepest-exact = w.deepest-exact;
+        first_is = λ by. engine_called by s further ∙ call_told (find_r p) p.atoms s further t h e;
+        answer_is = w.answer_is;
+        session_is = w.session_is;
+        always_stands = w.always_stands;
+        deepest_bounds = w.deepest_bounds;
+        deepest_exact = w.deepest_exact;
       }
 
   -- ---- any origin
 
-  satisfied-told : Proper p → (s : Session) (further n : ℕ) (bits : List Bool) (left : Session) → called (findR p) p.atoms s further ≡ told (Satisfied n bits) left
+  Satisfied-told : Proper p → (s : Session) (further n : ℕ) (bits : List Bool) (left : Session) → called (find_r p) p.atoms s further ≡ told (Satisfied n bits) left
       → (length bits ≡ p.atoms) × Model p (Marked bits)
   unfolding called
-  satisfied-told proper s further n bits left e =
-      go (ltb 4294967295 (s.count + further)) (standsIn (findR p) p.atoms s) (λ t q. stands-reached (findR p) s t (in-stands (findR p) p.atoms s t q).1) e
+  Satisfied-told proper s further n bits left e =
+      go (ltb 4294967295 (s.count + further)) (stands_in (find_r p) p.atoms s) (λ t q. stands_reached (find_r p) s t (in_stands (find_r p) p.atoms s t q).1) e
     where
-      go : (b : Bool) (o : Option (Place I)) → ((t : Place I) → o ≡ some t → Reached (findR p) t)
+      go : (b : Bool) (o : Option (Place I)) → ((t : Place I) → o ≡ some t → Reached (find_r p) t)
           → ◌≡◌ {A = Called}
-          (cond b (declined 41) (elim o [ none ↦ declined 42 | some t ↦ told (proceed (findR p) further s.count t) (sessionAfter (findR p) further s.count s.deepest t) ]))
+          (cond b (declined 41) (elim o [ none ↦ declined 42 | some t ↦ told (proceed (find_r p) further s.count t) (session_after (find_r p) further s.count s.deepest t) ]))
           (told (Satisfied n bits) left) → (length bits ≡ p.atoms) × Model p (Marked bits)
       go true o h q = let z : ◌≡◌ {A = ℕ} 0 1 = cc in absurd (omega arith)
       go false none h q = let z : ◌≡◌ {A = ℕ} 0 1 = cc in absurd (omega arith)
       go false (some t) h q =
-          let fits : proceed (findR p) further s.count t ≡ Satisfied n bits = cc in
-          let o = run-opened (findR p) further s.count n bits t (h t refl) fits in
-          (relevancy-sound p proper).opened-model (last t (entries (findR p) further t)).path o.0 bits o.1
+          let fits : proceed (find_r p) further s.count t ≡ Satisfied n bits = cc in
+          let o = run_opened (find_r p) further s.count n bits t (h t refl) fits in
+          (relevancy_sound p proper).opened_model (last t (entries (find_r p) further t)).path o.0 bits o.1
 
-  pub any-origin : Proper p → (s : Session) (further : ℕ) → AnyOrigin k p s further
-  any-origin proper s further =
+  pub any_origin : Proper p → (s : Session) (further : ℕ) → AnyOrigin k p s further
+  any_origin proper s further =
       record {
-        calls = engine-called true s further;
-        places = stands_same (findR p) (findM k p.atoms (rewriting p)) (magic-same k p) s;
-        trails = λ t e. engine-entries true further t (stands-reached (findR p) s t e);
+        calls = engine_called true s further;
+        places = stands_same (find_r p) (find_m k p.atoms (rewriting p)) (magic_same k p) s;
+        trails = λ t e. engine_entries true further t (stands_reached (find_r p) s t e);
         facts = λ t e.
-            let r : Reached (findR p) t = stands-reached (findR p) s t e in
+            let r : Reached (find_r p) t = stands_reached (find_r p) s t e in
             all_map
-            (Reached (findR p))
+            (Reached (find_r p))
             (λ u. (x : ℕ) → SameFacts k p u x)
-            (λ u h. same-facts k p u h.0)
-            (t ∷ entries (findR p) further t)
-            (r, entries-reached (findR p) further t r);
-        models = satisfied-told proper s further;
+            (λ u h. same_facts k p u h.0)
+            (t ∷ entries (find_r p) further t)
+            (r, entries-Reached (find_r p) further t r);
+        models = Satisfied-told proper s further;
       }

@@ -1,12 +1,12 @@
 -- Small ground problems at which mistakes show. The worked cases of document 01 stand with the text, in the crate `ground`.
 use Rattle.std.specs.Prelude.{ℕ, true, false, List, [], ◌∷◌, map, ◌≡◌, length, get_or}
-use Rattle.lists.specs.Key.{natKey}
+use Rattle.lists.specs.Key.{nat_key}
 use Rattle.lists.specs.Tabulate.{tabulate}
 use Rattle.search.specs.Ground.{Ground, Found}
-use Rattle.search.specs.Relevancy.{findR}
-use Rattle.search.specs.Magic.{rewriting, findM}
-use Rattle.search.specs.Staged.{findS}
-use Rattle.search.specs.Machine.{Outcome, Satisfied, Refuted, Exhausted, outcome, deepestUnder}
+use Rattle.search.specs.Relevancy.{find_r}
+use Rattle.search.specs.Magic.{rewriting, find_m}
+use Rattle.search.specs.Staged.{find_s}
+use Rattle.search.specs.Machine.{Outcome, Satisfied, Refuted, Exhausted, outcome, deepest_under}
 
 -- an instance: its conditions, and its alternatives
 pub record Case : Type 0 where
@@ -15,8 +15,8 @@ pub record Case : Type 0 where
   pub limit : ℕ
   pub expected : Outcome
 
-abbrev pub problemOf : Case → Ground ℕ
-problemOf k =
+abbrev pub problem_of : Case → Ground ℕ
+problem_of k =
     record {
       atoms = k.atoms;
       instances = tabulate (λ i. i) (length k.instances);
@@ -25,15 +25,15 @@ problemOf k =
     }
 
 -- how each engine finds a node
-abbrev pub relevancyFind : Case → List ℕ → Found ℕ
-relevancyFind k = findR (problemOf k)
+abbrev pub relevancy_find : Case → List ℕ → Found ℕ
+relevancy_find k = find_r (problem_of k)
 
-abbrev pub magicFind : Case → List ℕ → Found ℕ
-magicFind k = findM natKey k.atoms (rewriting (problemOf k))
+abbrev pub magic_find : Case → List ℕ → Found ℕ
+magic_find k = find_m nat_key k.atoms (rewriting (problem_of k))
 
 -- 0 or 1. 0 gives 2 or 3. Not 2. Not 3. Not 1 and 4. The entries are 0, 2 and 3 below it, and 1, where it is open
-abbrev pub deepThenShallow : Case
-deepThenShallow =
+abbrev pub deep_then_shallow : Case
+deep_then_shallow =
     record {
       atoms = 5;
       instances = ([], 0 ∷ 1 ∷ []) ∷ (0 ∷ [], 2 ∷ 3 ∷ []) ∷ (2 ∷ [], []) ∷ (3 ∷ [], []) ∷ (1 ∷ 4 ∷ [], []) ∷ [];
@@ -84,15 +84,15 @@ cases =
       limit = 100;
       expected = Satisfied 0 (true ∷ false ∷ false ∷ []);
     }
-    ∷ deepThenShallow
+    ∷ deep_then_shallow
     ∷ []
 
-abbrev pub stagedFind : Case → List ℕ → Found ℕ
-stagedFind k = findS (problemOf k)
+abbrev pub staged_find : Case → List ℕ → Found ℕ
+staged_find k = find_s (problem_of k)
 
 -- where marking in stages shows; expected by U12
-abbrev pub stagedCases : List Case
-stagedCases =
+abbrev pub staged_cases : List Case
+staged_cases =
     -- Document 000's example 7, p q a f e b as 0 to 5. "a gives p or q" can be split a stage before "a gives e or f" can; marking that goes on past it makes 6 entries, as the
     -- relevancy walk does, so is spent
     record {
@@ -158,13 +158,13 @@ AsExpected find = map (λ k. outcome (find k) k.limit) cases ≡ map (λ k. k.ex
 -- The deepest figure, under each of these limits. Limit 1: the entry that is due, counted in, gives 2. Limit 2: an entry that is closed at once, not counted, gives 1.
 -- Limit 3, where the session stands at the root: the length of its path is 0. Limit 4, open after 4 entries on a path of 1: the last path entered gives 1
 abbrev pub DeepAsExpected : (Case → List ℕ → Found ℕ) → Type 0
-DeepAsExpected find = map (deepestUnder (find deepThenShallow)) (0 ∷ 1 ∷ 2 ∷ 3 ∷ 4 ∷ []) ≡ 0 ∷ 1 ∷ 2 ∷ 2 ∷ 2 ∷ []
+DeepAsExpected find = map (deepest_under (find deep_then_shallow)) (0 ∷ 1 ∷ 2 ∷ 3 ∷ 4 ∷ []) ≡ 0 ∷ 1 ∷ 2 ∷ 2 ∷ 2 ∷ []
 
 -- each walk ends as it should, and has the figure that it should
 pub record CasesHold : Type 0 where
-  pub relevancy : AsExpected relevancyFind
-  pub magic : AsExpected magicFind
-  pub staged : AsExpected stagedFind
-  pub staged-apart : map (λ k. outcome (stagedFind k) k.limit) stagedCases ≡ map (λ k. k.expected) stagedCases
-  pub relevancy-deepest : DeepAsExpected relevancyFind
-  pub magic-deepest : DeepAsExpected magicFind
+  pub relevancy : AsExpected relevancy_find
+  pub magic : AsExpected magic_find
+  pub staged : AsExpected staged_find
+  pub staged_apart : map (λ k. outcome (staged_find k) k.limit) staged_cases ≡ map (λ k. k.expected) staged_cases
+  pub relevancy_deepest : DeepAsExpected relevancy_find
+  pub magic_deepest : DeepAsExpected magic_find

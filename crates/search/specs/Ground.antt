@@ -20,12 +20,12 @@ abbrev pub Model : {I : Type 0} → Ground I → (ℕ → Type 0) → Type 0
 Model p M = All (λ i. All M (p.conds i) → ∥ Any M (p.alts i) ∥₁) p.instances
 
 -- "No alternatives means the atom false"
-abbrev pub orFalse : ℕ → List ℕ → List ℕ
-orFalse A [] = A ∷ []
-orFalse A (a ∷ ds) = a ∷ ds
+abbrev pub or_false : ℕ → List ℕ → List ℕ
+or_false A [] = A ∷ []
+or_false A (a ∷ ds) = a ∷ ds
 
 abbrev pub goals : {I : Type 0} → Ground I → I → List ℕ
-goals p i = orFalse p.atoms (p.alts i)
+goals p i = or_false p.atoms (p.alts i)
 
 -- m of 2 or more: disjunctive (01: a splitting clause). The others are Horn (01: chaining)
 abbrev pub disjunctive : List ℕ → Bool

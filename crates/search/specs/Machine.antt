@@ -34,8 +34,8 @@ after closed bs = back bs
 after (opened bits) bs = none
 after (split i ds) bs = enter i ds bs (back bs)
 
-abbrev pub nextPath : {I : Type 0} → Place I → Option (List (Branch I))
-nextPath s = after s.found s.path
+abbrev pub next_path : {I : Type 0} → Place I → Option (List (Branch I))
+next_path s = after s.found s.path
 
 pub data Outcome : Type 0 where
   Satisfied : ℕ → List Bool → Outcome
@@ -47,14 +47,14 @@ abbrev pub stopped : {I : Type 0} → Option (List (Branch I)) → ℕ → Outco
 stopped none n = Refuted n
 stopped (some bs) n = Exhausted n
 
-abbrev pub answerAt : {I : Type 0} → Found I → Option (List (Branch I)) → ℕ → Outcome
-answerAt closed o n = stopped o n
-answerAt (opened bits) o n = Satisfied n bits
-answerAt (split i ds) o n = stopped o n
+abbrev pub answer_at : {I : Type 0} → Found I → Option (List (Branch I)) → ℕ → Outcome
+answer_at closed o n = stopped o n
+answer_at (opened bits) o n = Satisfied n bits
+answer_at (split i ds) o n = stopped o n
 
 -- the answer at a place after n entries: open is fits; with no further entry none; else spent
 abbrev pub answer : {I : Type 0} → Place I → ℕ → Outcome
-answer s n = answerAt s.found (nextPath s) n
+answer s n = answer_at s.found (next_path s) n
 
 -- the last place of a trail that starts at s
 abbrev pub last : {I : Type 0} → Place I → List (Place I) → Place I
@@ -76,7 +76,7 @@ module _ {I : Type 0} (find : List ℕ → Found I) where
 
   -- exactly one entry, or none where the walk is over
   abbrev pub advance : Place I → Option (Place I)
-  advance s = placed (nextPath s)
+  advance s = placed (next_path s)
 
   abbrev pub root : Place I
   root = place []
@@ -99,8 +99,8 @@ module _ {I : Type 0} (find : List ℕ → Found I) where
   outcome limit = proceed limit 0 root
 
   -- the longest path that the walk enters under the limit
-  unfoldable pub deepestUnder : ℕ → ℕ
-  deepestUnder limit = longest 0 (entries limit root)
+  unfoldable pub deepest_under : ℕ → ℕ
+  deepest_under limit = longest 0 (entries limit root)
 
   -- the entries that the walk without a limit makes from a place on
   abbrev pub Whole : Place I → List (Place I) → Type 0

@@ -2,7 +2,7 @@
 use Rattle.std.specs.Prelude.{ℕ, suc, ◌+◌, ◌-◌, Bool, true, false, cond, ◌&&◌, List, [], ◌∷◌, eqb, ltb, leb, length, drop, get_or}
 use Rattle.std.proofs.Math.Option.{Option, none, some}
 use Rattle.search.specs.Ground.{Found, closed, opened, split}
-use Rattle.search.specs.Machine.{Branch, Place, entered, nextPath, Outcome, Satisfied, Refuted, Exhausted, last, longest, root, entries, proceed}
+use Rattle.search.specs.Machine.{Branch, Place, entered, next_path, Outcome, Satisfied, Refuted, Exhausted, last, longest, root, entries, proceed}
 
 -- an entry of the path: its atom, and the next alternative of the node that it was entered from
 pub record Step : Type 0 where
@@ -24,33 +24,33 @@ pub record Session : Type 0 where
   pub deepest : ℕ
 
 -- the alternatives to enter where a node is found so
-abbrev pub altsFound : {I : Type 0} → Found I → List ℕ
-altsFound closed = []
-altsFound (opened bits) = []
-altsFound (split i ds) = ds
+abbrev pub alts_found : {I : Type 0} → Found I → List ℕ
+alts_found closed = []
+alts_found (opened bits) = []
+alts_found (split i ds) = ds
 
 -- ---- what a session stands for
 
 -- "each entry of the path is the alternative just before the next one of the split that the walk takes there"
-abbrev pub stepTaken : {I : Type 0} → Found I → Step → List (Branch I) → Option (List (Branch I))
-stepTaken closed s bs = none
-stepTaken (opened bits) s bs = none
-stepTaken (split i ds) s bs =
+abbrev pub step_taken : {I : Type 0} → Found I → Step → List (Branch I) → Option (List (Branch I))
+step_taken closed s bs = none
+step_taken (opened bits) s bs = none
+step_taken (split i ds) s bs =
     cond (ltb 0 s.next && leb s.next (length ds) && eqb (get_or ds (s.next - 1) 0) s.atom)
     (some (record { site = i; atom = s.atom; rest = drop s.next ds } ∷ bs))
     none
 
 -- "the last node's next one is at most m (0 if it has no split)": the alternatives before it are taken off
-abbrev pub nodeTaken : {I : Type 0} → Found I → ℕ → Option (Found I)
-nodeTaken closed next = cond (eqb next 0) (some closed) none
-nodeTaken (opened bits) next = cond (eqb next 0) (some (opened bits)) none
-nodeTaken (split i ds) next = cond (leb next (length ds)) (some (split i (drop next ds))) none
+abbrev pub node_taken : {I : Type 0} → Found I → ℕ → Option (Found I)
+node_taken closed next = cond (eqb next 0) (some closed) none
+node_taken (opened bits) next = cond (eqb next 0) (some (opened bits)) none
+node_taken (split i ds) next = cond (leb next (length ds)) (some (split i (drop next ds))) none
 
 -- "fits stands at an open node, and none at a root that is closed or split to its end"
-abbrev pub isOpen : {I : Type 0} → Found I → Bool
-isOpen closed = false
-isOpen (opened bits) = true
-isOpen (split i ds) = false
+abbrev pub is_open : {I : Type 0} → Found I → Bool
+is_open closed = false
+is_open (opened bits) = true
+is_open (split i ds) = false
 
 abbrev pub is_over : {I : Type 0} → Found I → Bool
 is_over closed = true
@@ -58,71 +58,71 @@ is_over (opened bits) = false
 is_over (split i []) = true
 is_over (split i (a ∷ ds)) = false
 
-abbrev pub isRoot : {I : Type 0} → List (Branch I) → Bool
-isRoot [] = true
-isRoot (b ∷ bs) = false
+abbrev pub is_root : {I : Type 0} → List (Branch I) → Bool
+is_root [] = true
+is_root (b ∷ bs) = false
 
-abbrev pub standsAt : {I : Type 0} → Standing → Place I → Bool
-standsAt refuted s = isRoot s.path && is_over s.found
-standsAt satisfied s = isOpen s.found
-standsAt exhausted s = true
+abbrev pub is_standing_at : {I : Type 0} → Standing → Place I → Bool
+is_standing_at refuted s = is_root s.path && is_over s.found
+is_standing_at satisfied s = is_open s.found
+is_standing_at exhausted s = true
 
 -- U2: "42 also meets a figure below the path's length or above A", the number of atoms
-abbrev pub deepStands : ℕ → Session → Bool
-deepStands atoms s = leb (length s.path) s.deepest && leb s.deepest atoms
+abbrev pub deep_stands : ℕ → Session → Bool
+deep_stands atoms s = leb (length s.path) s.deepest && leb s.deepest atoms
 
-abbrev pub whereStands : {I : Type 0} → Standing → Place I → Option (Place I)
-whereStands standing s = cond (standsAt standing s) (some s) none
+abbrev pub where_stands : {I : Type 0} → Standing → Place I → Option (Place I)
+where_stands standing s = cond (is_standing_at standing s) (some s) none
 
 module _ {I : Type 0} (find : List ℕ → Found I) where
   -- the path that steps stand for, if each is one of the walk
-  abbrev pub pathOf : List Step → Option (List (Branch I))
-  pathOf [] = some []
-  pathOf (s ∷ steps) = elim (pathOf steps) [ none ↦ none | some bs ↦ stepTaken (find (entered bs)) s bs ]
+  abbrev pub path_of : List Step → Option (List (Branch I))
+  path_of [] = some []
+  path_of (s ∷ steps) = elim (path_of steps) [ none ↦ none | some bs ↦ step_taken (find (entered bs)) s bs ]
 
   -- the place of the last node of a path
   abbrev pub node_of : List (Branch I) → ℕ → Option (Place I)
-  node_of bs next = elim (nodeTaken (find (entered bs)) next) [ none ↦ none | some f ↦ some (record { path = bs; found = f }) ]
+  node_of bs next = elim (node_taken (find (entered bs)) next) [ none ↦ none | some f ↦ some (record { path = bs; found = f }) ]
 
   -- the place where a session stands; none where it is no session of the walk (42)
   unfoldable pub place_of : Session → Option (Place I)
   place_of s =
-      elim (pathOf s.path) [
+      elim (path_of s.path) [
         | none ↦ none
-        | some bs ↦ elim (node_of bs s.next) [ none ↦ none | some t ↦ whereStands s.standing t ]
+        | some bs ↦ elim (node_of bs s.next) [ none ↦ none | some t ↦ where_stands s.standing t ]
       ]
 
   -- and so for one whose figure is not that of a path over so many atoms
-  abbrev pub standsIn : ℕ → Session → Option (Place I)
-  standsIn atoms s = cond (deepStands atoms s) (place_of s) none
+  abbrev pub stands_in : ℕ → Session → Option (Place I)
+  stands_in atoms s = cond (deep_stands atoms s) (place_of s) none
 
   -- ---- what a call leaves
 
   -- a path as steps: the next alternative is the one after those entered
   abbrev pub steps_of : List (Branch I) → List Step
   steps_of [] = []
-  steps_of (b ∷ bs) = record { atom = b.atom; next = length (altsFound (find (entered bs))) - length b.rest } ∷ steps_of bs
+  steps_of (b ∷ bs) = record { atom = b.atom; next = length (alts_found (find (entered bs))) - length b.rest } ∷ steps_of bs
 
   -- spent: at the node whose next alternative would be entered next; nodes that are worked off are dropped
   abbrev pub due_at : ℕ → ℕ → Option (List (Branch I)) → Session
   due_at n d none = record { standing = exhausted; count = n; path = []; next = 0; deepest = d }
   due_at n d (some []) = record { standing = exhausted; count = n; path = []; next = 0; deepest = d }
   due_at n d (some (b ∷ bs)) =
-      record { standing = exhausted; count = n; path = steps_of bs; next = length (altsFound (find (entered bs))) - suc (length b.rest); deepest = d }
+      record { standing = exhausted; count = n; path = steps_of bs; next = length (alts_found (find (entered bs))) - suc (length b.rest); deepest = d }
 
   -- fits: at the open node. None: at the root, all its alternatives used up
-  abbrev pub leftBy : Outcome → ℕ → Place I → Session
-  leftBy (Satisfied n bits) d t = record { standing = satisfied; count = n; path = steps_of t.path; next = 0; deepest = d }
-  leftBy (Refuted n) d t = record { standing = refuted; count = n; path = []; next = length (altsFound (find [])); deepest = d }
-  leftBy (Exhausted n) d t = due_at n d (nextPath t)
+  abbrev pub left_by : Outcome → ℕ → Place I → Session
+  left_by (Satisfied n bits) d t = record { standing = satisfied; count = n; path = steps_of t.path; next = 0; deepest = d }
+  left_by (Refuted n) d t = record { standing = refuted; count = n; path = []; next = length (alts_found (find [])); deepest = d }
+  left_by (Exhausted n) d t = due_at n d (next_path t)
 
   -- after a run from a place on, which counts as entry `count` and brings a deepest figure, under a limit
-  unfoldable pub sessionAfter : ℕ → ℕ → ℕ → Place I → Session
-  sessionAfter limit count d t = leftBy (proceed find limit count t) (longest d (entries find limit t)) (last t (entries find limit t))
+  unfoldable pub session_after : ℕ → ℕ → ℕ → Place I → Session
+  session_after limit count d t = left_by (proceed find limit count t) (longest d (entries find limit t)) (last t (entries find limit t))
 
   -- a first run under a limit
-  abbrev pub firstSession : ℕ → Session
-  firstSession limit = sessionAfter limit 0 0 (root find)
+  abbrev pub first_session : ℕ → Session
+  first_session limit = session_after limit 0 0 (root find)
 
 -- ---- a call
 
@@ -136,4 +136,4 @@ unfoldable pub called : {I : Type 0} → (List ℕ → Found I) → ℕ → Sess
 called find atoms s further =
     cond (ltb 4294967295 (s.count + further))
     (declined 41)
-    (elim (standsIn find atoms s) [ none ↦ declined 42 | some t ↦ told (proceed find further s.count t) (sessionAfter find further s.count s.deepest t) ])
+    (elim (stands_in find atoms s) [ none ↦ declined 42 | some t ↦ told (proceed find further s.count t) (session_after find further s.count s.deepest t) ])

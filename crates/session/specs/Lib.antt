@@ -1,4 +1,4 @@
 pub mod Record
 pub mod Calls
 pub mod Claims
-pub mod contracts
+pub mod terms

@@ -1,8 +1,8 @@
 // The end of a run: its verdict, the model where there is one, and the record of the session that it leaves, if one is kept.
 ghost use Rattle.std.specs.Prelude.{◌≡◌, ◌+◌, ◌≤◌, length};
 ghost use Rattle.lists.specs.Bytes.{is_set};
-ghost use Rattle.search.specs.Relevancy.{modelBits};
-ghost use Rattle.session.specs.contracts.End.{depth_of, answerBy, verdictBy, movedBy};
+ghost use Rattle.search.specs.Relevancy.{model_bits};
+ghost use Rattle.session.specs.terms.End.{depth_of, answer_by, verdict_by, moved_by};
 
 use crate::record::{Moved, Session};
 use ground::verdict::{Verdict, give};
@@ -20,7 +20,7 @@ pub struct Left {
 // Gives the model where a place is open.
 pub fn give_model(walked: Walked, facts: &[u8], answer: &mut [u8], atoms: usize)
     requires { (atoms ≤ 1024) × (atoms ≤ length answer.old) × (6150 ≤ length facts.now) }
-    ensures { answer.new ≡ answerBy walked (modelBits atoms (is_set facts.now) (λ a. is_set facts.now (1025 + a))) answer.old }
+    ensures { answer.new ≡ answer_by walked (model_bits atoms (is_set facts.now) (λ a. is_set facts.now (1025 + a))) answer.old }
 {
     match walked {
         Walked::Opened(_, _) => {
@@ -32,7 +32,7 @@ pub fn give_model(walked: Walked, facts: &[u8], answer: &mut [u8], atoms: usize)
 
 // The verdict of a run that ends so under a limit.
 pub fn verdict_by(walked: Walked, limit: u32) -> Verdict
-    ensures { result ≡ verdictBy walked limit }
+    ensures { result ≡ verdict_by walked limit }
 {
     match walked {
         Walked::Opened(count, _) => Verdict::Satisfied(count),
@@ -44,7 +44,7 @@ pub fn verdict_by(walked: Walked, limit: u32) -> Verdict
 // The same, and its session.
 pub fn moved(walked: Walked, limit: u32, left: Left) -> Moved
     requires { depth_of walked ≤ 1024 }
-    ensures { result ≡ movedBy walked limit left }
+    ensures { result ≡ moved_by walked limit left }
 {
     let next = left.next;
     let atoms = left.atoms;

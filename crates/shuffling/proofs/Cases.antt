@@ -3,11 +3,11 @@ use Prim.Native.Nat.{ℕ, ◌+◌, ◌%◌, ◌<◌}
 use mathlib.Core.List.{List, [], ◌∷◌}
 use mathlib.Core.Path.{◌≡◌, refl}
 use native.Mathlib.Omega.{arith}
-use Rattle.problem.specs.Digit.{digitOf, isDigit}
+use Rattle.problem.specs.Digit.{digit_of, is_digit}
 use Rattle.problem.specs.Line.{run, line_at, byte_at, frame_at}
 use Rattle.problem.specs.Problem.{Clause, Problem}
-use Rattle.problem.specs.Judge.{judgeSizes, judgeHeading, judgeArity, judgeVariable, judgeArg, judgeArgs, judgeAtom, judgeAtoms, judgeEnd, judgeBody, judgeClause}
-use Rattle.problem.specs.Parse.{judgeClosing, parseEnd, parseClosing, parseClauses, parseArities, parse}
+use Rattle.problem.specs.Judge.{judge_sizes, judge_heading, judge_arity, judge_variable, judge_arg, judge_args, judge_atom, judge_atoms, judge_end, judge_body, judge_clause}
+use Rattle.problem.specs.Parse.{judge_closing, parse_end, parse_closing, parse_clauses, parse_arities, parse}
 use Rattle.shuffling.specs.Shuffled.{swapped, same_first, one_by_one, OneToOne}
 use Rattle.shuffling.specs.Cases.{CaseShuffled}
 
@@ -35,21 +35,21 @@ next d = (d + 1) % 3
 next_one : OneToOne 3 next
 next_one = record { below = λ d h. omega arith; apart = λ d e h l s. omega arith }
 
-pub case-shuffled : CaseShuffled
-unfolding digitOf isDigit run line_at byte_at frame_at judgeSizes judgeHeading judgeArity judgeVariable judgeArg judgeArgs judgeAtom judgeAtoms judgeEnd judgeBody judgeClause judgeClosing parseEnd parseClosing parseClauses parseArities parse
-case-shuffled =
+pub case_shuffled : CaseShuffled
+unfolding digit_of is_digit run line_at byte_at frame_at judge_sizes judge_heading judge_arity judge_variable judge_arg judge_args judge_atom judge_atoms judge_end judge_body judge_clause judge_closing parse_end parse_closing parse_clauses parse_arities parse
+case_shuffled =
     record {
       before = sheet 100 (fact 0 1 ∷ rule 2 ∷ bar 1 ∷ []);
       after = sheet 5 (bar 2 ∷ fact 1 2 ∷ rule 0 ∷ []);
-      before-read = refl;
+      before_read = refl;
       after_read = refl;
       shuffled =
           record {
-            constants-same = refl;
-            arities-same = refl;
+            constants_same = refl;
+            arities_same = refl;
             renumbering = next;
-            one-to-one = next_one;
-            clauses-permuted =
+            one_to_one = next_one;
+            clauses_permuted =
                 one_by_one (fact 1 2 ∷ rule 0 ∷ bar 2 ∷ []) (fact 1 2 ∷ bar 2 ∷ rule 0 ∷ []) (bar 2 ∷ fact 1 2 ∷ rule 0 ∷ [])
                 (same_first (fact 1 2) (rule 0 ∷ bar 2 ∷ []) (bar 2 ∷ rule 0 ∷ []) (swapped (rule 0) (bar 2) []))
                 (swapped (fact 1 2) (bar 2) (rule 0 ∷ []));

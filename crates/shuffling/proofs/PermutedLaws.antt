@@ -8,58 +8,58 @@ use Rattle.lists.specs.Member.{All}
 use Rattle.problem.specs.Problem.{Clause, weight, weights}
 use Rattle.shuffling.specs.Shuffled.{Permuted, none_left, same_first, swapped, one_by_one}
 
-pub permuted-length : {A : Type 0} (xs ys : List A) → Permuted xs ys → length xs ≡ length ys
-permuted-length xs ys none_left = refl
-permuted-length xs ys (same_first x us vs p) = ap suc (permuted-length us vs p)
-permuted-length xs ys (swapped x y us) = refl
-permuted-length xs ys (one_by_one us vs ws p q) = permuted-length us vs p ∙ permuted-length vs ws q
+pub Permuted-length : {A : Type 0} (xs ys : List A) → Permuted xs ys → length xs ≡ length ys
+Permuted-length xs ys none_left = refl
+Permuted-length xs ys (same_first x us vs p) = ap suc (Permuted-length us vs p)
+Permuted-length xs ys (swapped x y us) = refl
+Permuted-length xs ys (one_by_one us vs ws p q) = Permuted-length us vs p ∙ Permuted-length vs ws q
 
-pub permuted-weights : (c : ℕ) (ks ls : List Clause) → Permuted ks ls → weights c ks ≡ weights c ls
-permuted-weights c ks ls none_left = refl
-permuted-weights c ks ls (same_first k us vs p) = ap (λ (n : ℕ). weight c k + n) (permuted-weights c us vs p)
-permuted-weights c ks ls (swapped k l us) = omega arith
-permuted-weights c ks ls (one_by_one us vs ws p q) = permuted-weights c us vs p ∙ permuted-weights c vs ws q
+pub Permuted-weights : (c : ℕ) (ks ls : List Clause) → Permuted ks ls → weights c ks ≡ weights c ls
+Permuted-weights c ks ls none_left = refl
+Permuted-weights c ks ls (same_first k us vs p) = ap (λ (n : ℕ). weight c k + n) (Permuted-weights c us vs p)
+Permuted-weights c ks ls (swapped k l us) = omega arith
+Permuted-weights c ks ls (one_by_one us vs ws p q) = Permuted-weights c us vs p ∙ Permuted-weights c vs ws q
 
-pub permuted-all {ℓ} : {A : Type 0} (P : A → Type ℓ) (xs ys : List A) → Permuted xs ys → All P xs → All P ys
-permuted-all P xs ys none_left a = tt
-permuted-all P xs ys (same_first x us vs p) a = (a.0, permuted-all P us vs p a.1)
-permuted-all P xs ys (swapped x y us) a = (a.1.0, (a.0, a.1.1))
-permuted-all P xs ys (one_by_one us vs ws p q) a = permuted-all P vs ws q (permuted-all P us vs p a)
+pub Permuted-All {ℓ} : {A : Type 0} (P : A → Type ℓ) (xs ys : List A) → Permuted xs ys → All P xs → All P ys
+Permuted-All P xs ys none_left a = tt
+Permuted-All P xs ys (same_first x us vs p) a = (a.0, Permuted-All P us vs p a.1)
+Permuted-All P xs ys (swapped x y us) a = (a.1.0, (a.0, a.1.1))
+Permuted-All P xs ys (one_by_one us vs ws p q) a = Permuted-All P vs ws q (Permuted-All P us vs p a)
 
-pub permuted-self : {A : Type 0} (xs : List A) → Permuted xs xs
-permuted-self [] = none_left
-permuted-self (x ∷ xs) = same_first x xs xs (permuted-self xs)
+pub permuted_self : {A : Type 0} (xs : List A) → Permuted xs xs
+permuted_self [] = none_left
+permuted_self (x ∷ xs) = same_first x xs xs (permuted_self xs)
 
-pub permuted-back : {A : Type 0} (xs ys : List A) → Permuted xs ys → Permuted ys xs
-permuted-back xs ys none_left = none_left
-permuted-back xs ys (same_first x us vs p) = same_first x vs us (permuted-back us vs p)
-permuted-back xs ys (swapped x y us) = swapped y x us
-permuted-back xs ys (one_by_one us vs ws p q) = one_by_one ws vs us (permuted-back vs ws q) (permuted-back us vs p)
+pub permuted_back : {A : Type 0} (xs ys : List A) → Permuted xs ys → Permuted ys xs
+permuted_back xs ys none_left = none_left
+permuted_back xs ys (same_first x us vs p) = same_first x vs us (permuted_back us vs p)
+permuted_back xs ys (swapped x y us) = swapped y x us
+permuted_back xs ys (one_by_one us vs ws p q) = one_by_one ws vs us (permuted_back vs ws q) (permuted_back us vs p)
 
-pub permuted-map : {A B : Type 0} (f : A → B) (xs ys : List A) → Permuted xs ys → Permuted (map f xs) (map f ys)
-permuted-map f xs ys none_left = none_left
-permuted-map f xs ys (same_first x us vs p) = same_first (f x) (map f us) (map f vs) (permuted-map f us vs p)
-permuted-map f xs ys (swapped x y us) = swapped (f x) (f y) (map f us)
-permuted-map f xs ys (one_by_one us vs ws p q) = one_by_one (map f us) (map f vs) (map f ws) (permuted-map f us vs p) (permuted-map f vs ws q)
+pub Permuted-map : {A B : Type 0} (f : A → B) (xs ys : List A) → Permuted xs ys → Permuted (map f xs) (map f ys)
+Permuted-map f xs ys none_left = none_left
+Permuted-map f xs ys (same_first x us vs p) = same_first (f x) (map f us) (map f vs) (Permuted-map f us vs p)
+Permuted-map f xs ys (swapped x y us) = swapped (f x) (f y) (map f us)
+Permuted-map f xs ys (one_by_one us vs ws p q) = one_by_one (map f us) (map f vs) (map f ws) (Permuted-map f us vs p) (Permuted-map f vs ws q)
 
 -- ---- two members exchanged
 
 module _ {A : Type 0} where
-  permuted-behind : (front xs ys : List A) → Permuted xs ys → Permuted (front ++ xs) (front ++ ys)
-  permuted-behind [] xs ys p = p
-  permuted-behind (x ∷ front) xs ys p = same_first x (front ++ xs) (front ++ ys) (permuted-behind front xs ys p)
+  permuted_behind : (front xs ys : List A) → Permuted xs ys → Permuted (front ++ xs) (front ++ ys)
+  permuted_behind [] xs ys p = p
+  permuted_behind (x ∷ front) xs ys p = same_first x (front ++ xs) (front ++ ys) (permuted_behind front xs ys p)
 
   -- the first goes behind others
-  permuted-past : (x : A) (mid back : List A) → Permuted (x ∷ mid ++ back) (mid ++ (x ∷ back))
-  permuted-past x [] back = permuted-self (x ∷ back)
-  permuted-past x (m ∷ mid) back =
+  permuted_past : (x : A) (mid back : List A) → Permuted (x ∷ mid ++ back) (mid ++ (x ∷ back))
+  permuted_past x [] back = permuted_self (x ∷ back)
+  permuted_past x (m ∷ mid) back =
       one_by_one (x ∷ m ∷ mid ++ back) (m ∷ x ∷ mid ++ back) (m ∷ mid ++ (x ∷ back)) (swapped x m (mid ++ back))
-      (same_first m (x ∷ mid ++ back) (mid ++ (x ∷ back)) (permuted-past x mid back))
+      (same_first m (x ∷ mid ++ back) (mid ++ (x ∷ back)) (permuted_past x mid back))
 
-  pub permuted-exchange : (front mid back : List A) (x y : A) → Permuted (front ++ (x ∷ mid ++ (y ∷ back))) (front ++ (y ∷ mid ++ (x ∷ back)))
-  permuted-exchange front mid back x y =
-      permuted-behind front (x ∷ mid ++ (y ∷ back)) (y ∷ mid ++ (x ∷ back))
+  pub permuted_exchange : (front mid back : List A) (x y : A) → Permuted (front ++ (x ∷ mid ++ (y ∷ back))) (front ++ (y ∷ mid ++ (x ∷ back)))
+  permuted_exchange front mid back x y =
+      permuted_behind front (x ∷ mid ++ (y ∷ back)) (y ∷ mid ++ (x ∷ back))
       (one_by_one (x ∷ mid ++ (y ∷ back)) (y ∷ x ∷ mid ++ back) (y ∷ mid ++ (x ∷ back))
       (one_by_one (x ∷ mid ++ (y ∷ back)) (x ∷ y ∷ mid ++ back) (y ∷ x ∷ mid ++ back)
-      (same_first x (mid ++ (y ∷ back)) (y ∷ mid ++ back) (permuted-back (y ∷ mid ++ back) (mid ++ (y ∷ back)) (permuted-past y mid back))) (swapped x y (mid ++ back)))
-      (same_first y (x ∷ mid ++ back) (mid ++ (x ∷ back)) (permuted-past x mid back)))
+      (same_first x (mid ++ (y ∷ back)) (y ∷ mid ++ back) (permuted_back (y ∷ mid ++ back) (mid ++ (y ∷ back)) (permuted_past y mid back))) (swapped x y (mid ++ back)))
+      (same_first y (x ∷ mid ++ back) (mid ++ (x ∷ back)) (permuted_past x mid back)))

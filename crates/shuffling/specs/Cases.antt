@@ -10,7 +10,7 @@ use Rattle.shuffling.specs.Shuffled.{Shuffled}
 pub record TextsShuffled (x y : String) : Type 0 where
   pub before : Problem
   pub after : Problem
-  pub before-read : parse (quoted x) ≡ parsed before
+  pub before_read : parse (quoted x) ≡ parsed before
   pub after_read : parse (quoted y) ≡ parsed after
   pub shuffled : Shuffled before after
 

@@ -13,11 +13,11 @@ pub data Permuted {A : Type 0} : List A → List A → Type 0 where
 abbrev pub argument_by : (ℕ → ℕ) → ℕ → ℕ
 argument_by σ b = cond (ltb b 128) (σ b) b
 
-abbrev pub atomBy : (ℕ → ℕ) → Atom → Atom
-atomBy σ a = record { pred = a.pred; args = map (argument_by σ) a.args }
+abbrev pub atom_by : (ℕ → ℕ) → Atom → Atom
+atom_by σ a = record { pred = a.pred; args = map (argument_by σ) a.args }
 
-abbrev pub clauseBy : (ℕ → ℕ) → Clause → Clause
-clauseBy σ k = record { vars = k.vars; conds = map (atomBy σ) k.conds; alts = map (atomBy σ) k.alts }
+abbrev pub clause_by : (ℕ → ℕ) → Clause → Clause
+clause_by σ k = record { vars = k.vars; conds = map (atom_by σ) k.conds; alts = map (atom_by σ) k.alts }
 
 -- σ renumbers the constants below c one to one
 pub record OneToOne (c : ℕ) (σ : ℕ → ℕ) : Type 0 where
@@ -30,8 +30,8 @@ swap a b d = cond (eqb d a) b (cond (eqb d b) a d)
 
 -- r is q shuffled: one renumbering for the whole problem, then another order of its clauses. Their limits may differ
 pub record Shuffled (q r : Problem) : Type 0 where
-  pub constants-same : r.constants ≡ q.constants
-  pub arities-same : r.arities ≡ q.arities
+  pub constants_same : r.constants ≡ q.constants
+  pub arities_same : r.arities ≡ q.arities
   pub renumbering : ℕ → ℕ
-  pub one-to-one : OneToOne q.constants renumbering
-  pub clauses-permuted : Permuted (map (clauseBy renumbering) q.clauses) r.clauses
+  pub one_to_one : OneToOne q.constants renumbering
+  pub clauses_permuted : Permuted (map (clause_by renumbering) q.clauses) r.clauses

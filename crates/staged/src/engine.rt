@@ -1,9 +1,9 @@
 // The staged engine's operation: a run that keeps no session.
 ghost use Rattle.std.specs.Prelude.{◌≡◌, ◌≤◌, length, replicate};
 ghost use Rattle.problem.specs.Table.{Lawful};
-ghost use Rattle.ground.specs.Verdict.{verdictOf, answer_of};
-ghost use Rattle.relevancy.specs.Engine.{fitWork};
-ghost use Rattle.staged.specs.Engine.{stagedOutcome, stagedResult, stagedAnswer};
+ghost use Rattle.ground.specs.Verdict.{verdict_of, answer_of};
+ghost use Rattle.relevancy.specs.Engine.{fit_work};
+ghost use Rattle.staged.specs.Engine.{staged_outcome, staged_result, staged_answer};
 
 use crate::whole::walk_whole;
 use ground::verdict::{Verdict, limit_in};
@@ -15,7 +15,7 @@ use writing::lent::{refusal, too_small};
 fn decide(table: &[u8], answer: &mut [u8], facts: &mut [u8]) -> Verdict
     requires lawful { Lawful table.now }
     requires in_bounds { (1024 ≤ length answer.old) × (length facts.old ≡ 6150) }
-    ensures { (result ≡ verdictOf (stagedOutcome table.now)) × (answer.new ≡ answer_of (stagedOutcome table.now) answer.old) }
+    ensures { (result ≡ verdict_of (staged_outcome table.now)) × (answer.new ≡ answer_of (staged_outcome table.now) answer.old) }
 {
     let mut path = [0u8; 9227];
     let limit = limit_in(table);
@@ -29,7 +29,7 @@ fn decide(table: &[u8], answer: &mut [u8], facts: &mut [u8]) -> Verdict
 fn run(table: &[u8], answer: &mut [u8], work: &mut [u8]) -> Verdict
     requires lawful { Lawful table.now }
     requires in_bounds { (1024 ≤ length answer.old) × (length work.old ≡ 65536) }
-    ensures { (result ≡ verdictOf (stagedOutcome table.now)) × (answer.new ≡ answer_of (stagedOutcome table.now) answer.old) × (work.new ≡ replicate 65536 0) }
+    ensures { (result ≡ verdict_of (staged_outcome table.now)) × (answer.new ≡ answer_of (staged_outcome table.now) answer.old) × (work.new ≡ replicate 65536 0) }
 {
     let verdict = decide(table, answer, &mut work[0..6150]);
     lists::zero(work);
@@ -38,7 +38,7 @@ fn run(table: &[u8], answer: &mut [u8], work: &mut [u8]) -> Verdict
 
 // Fits a lent table: the staged walk under the table's own limit.
 pub fn fit(table: &[u8], answer: &mut [u8], work: &mut [u8]) -> Verdict
-    ensures { (result ≡ stagedResult table.now answer.old work.old) × (answer.new ≡ stagedAnswer table.now answer.old work.old) × (work.new ≡ fitWork table.now answer.old work.old) }
+    ensures { (result ≡ staged_result table.now answer.old work.old) × (answer.new ≡ staged_answer table.now answer.old work.old) × (work.new ≡ fit_work table.now answer.old work.old) }
 {
     let e = refusal(table, too_small(answer.len(), work.len()));
     if 0 < e {

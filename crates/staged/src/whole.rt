@@ -1,9 +1,9 @@
 // The walk of a whole table.
 ghost use Rattle.std.specs.Prelude.{◌≡◌, length, replicate};
 ghost use Rattle.problem.specs.Table.{Lawful};
-ghost use Rattle.walk.specs.contracts.Walker.{fromRoot};
-ghost use Rattle.walk.specs.contracts.Walk.{Walks};
-ghost use Rattle.staged_walk.specs.contracts.Place.{stagedWalker};
+ghost use Rattle.walk.specs.terms.Walker.{from_root};
+ghost use Rattle.walk.specs.terms.Walk.{Walks};
+ghost use Rattle.staged_walk.specs.terms.Place.{staged_walker};
 
 use relevancy_rule::index::build;
 use staged_node::chains::chain_table;
@@ -15,7 +15,7 @@ use walk::answer::Walked;
 pub fn walk_whole(table: &[u8], facts: &mut [u8], path: &mut [u8], limit: u32) -> Walked
     requires lawful { Lawful table.now }
     requires facts_len { (length facts.old ≡ 6150) × (path.old ≡ replicate 9227 0) }
-    ensures { Walks (stagedWalker table.now) (fromRoot (stagedWalker table.now) 0 limit) result facts.new path.new }
+    ensures { Walks (staged_walker table.now) (from_root (staged_walker table.now) 0 limit) result facts.new path.new }
 {
     let mut horn = [0u8; 4096];
     chain_table(table, &mut horn);

@@ -1,29 +1,29 @@
 -- What the staged engine shows of its walker.
 use Prim.Native.Nat.{ℕ}
 use mathlib.Core.List.{List, ◌∷◌}
-use Rattle.search.specs.Staged.{findS}
-use Rattle.search.proofs.Sound.{path-small, path-short}
-use Rattle.search.proofs.StagedSound.{staged-sound}
-use Rattle.problem.specs.Layout.{problemIn}
+use Rattle.search.specs.Staged.{find_s}
+use Rattle.search.proofs.Sound.{path_small, path_short}
+use Rattle.search.proofs.StagedSound.{staged_sound}
+use Rattle.problem.specs.Layout.{problem_in}
 use Rattle.problem.specs.Table.{Lawful}
-use Rattle.ground.specs.Instance.{groundIn}
-use Rattle.ground.proofs.Instances.{atoms-few, ground-proper}
-use Rattle.walk.specs.contracts.Walker.{Sound}
-use Rattle.walk.proofs.PathLaws.{genuine-enters}
-use Rattle.relevancy_walk.specs.contracts.Place.{instanceOf, instanceAlts}
+use Rattle.ground.specs.Instance.{ground_in}
+use Rattle.ground.proofs.Instances.{atoms_few, ground_proper}
+use Rattle.walk.specs.terms.Walker.{Sound}
+use Rattle.walk.proofs.PathLaws.{genuine_enters}
+use Rattle.relevancy_walk.specs.terms.Place.{instance_of, instance_alts}
 use Rattle.relevancy_walk.proofs.SoundLaws.{sound as relevancy-walker-sound}
-use Rattle.staged_walk.specs.contracts.Place.{stagedWalker}
+use Rattle.staged_walk.specs.terms.Place.{staged_walker}
 
-pub sound : (tb : List ℕ) → Lawful tb → Sound (stagedWalker tb)
+pub sound : (tb : List ℕ) → Lawful tb → Sound (staged_walker tb)
 sound tb h =
-    let p = groundIn tb in
-    let fresh = (staged-sound p (ground-proper (problemIn tb) h.fits)).split-fresh in
+    let p = ground_in tb in
+    let fresh = (staged_sound p (ground_proper (problem_in tb) h.fits)).split_fresh in
     record {
-      few = atoms-few (problemIn tb) h.fits;
-      short = path-short p (findS p) fresh;
-      small = λ b bs g. (path-small p (findS p) fresh (b ∷ bs) g).1.0;
+      few = atoms_few (problem_in tb) h.fits;
+      short = path_short p (find_s p) fresh;
+      small = λ b bs g. (path_small p (find_s p) fresh (b ∷ bs) g).1.0;
       four = (relevancy-walker-sound tb h).four;
-      enters = λ bs s g e. genuine-enters (stagedWalker tb).find bs (instanceOf s) (instanceAlts tb s) g e;
-      has-entered = λ s l facts r. r.holds;
+      enters = λ bs s g e. genuine_enters (staged_walker tb).find bs (instance_of s) (instance_alts tb s) g e;
+      has_entered = λ s l facts r. r.holds;
       untrue = λ s l facts r. r.untrue;
     }

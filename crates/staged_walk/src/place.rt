@@ -1,12 +1,12 @@
 // A place of the walk: making the next one, from the path and the next alternative at each node.
 ghost use Rattle.std.specs.Prelude.{◌≡◌, ℕ};
-ghost use Rattle.store.specs.contracts.Store.{Store};
+ghost use Rattle.store.specs.terms.Store.{Store};
 ghost use Rattle.problem.specs.Table.{Lawful};
-ghost use Rattle.ground.specs.contracts.Branching.{NextOf};
+ghost use Rattle.ground.specs.terms.Branching.{NextOf};
 ghost use Rattle.ground.specs.declared.branch.NextBranch.TheVariants.{Atom};
-ghost use Rattle.walk.specs.contracts.Path.{Room, next_at, deepestAt, siteAt, altsAt};
-ghost use Rattle.walk.specs.contracts.Place.{Parted, Making, Beginning};
-ghost use Rattle.staged_walk.specs.contracts.Place.{stagedWalker, StagesLent};
+ghost use Rattle.walk.specs.terms.Path.{Room, next_at, deepest_at, site_at, alts_at};
+ghost use Rattle.walk.specs.terms.Place.{Parted, Making, Beginning};
+ghost use Rattle.staged_walk.specs.terms.Place.{staged_walker, StagesLent};
 
 use ground::branch::NextBranch;
 use relevancy_close::close::start;
@@ -19,8 +19,8 @@ use walk::node::{mark, pass};
 // The alternative that the split node at `depth` enters next: it is read from the record as in the relevancy engine's walk.
 pub fn alternative(table: &[u8], path: &[u8], depth: usize) -> NextBranch
     requires lawful { Lawful table.now }
-    requires room { Room path.now depth × (stagedWalker table.now).Named (siteAt (stagedWalker table.now) path.now depth) }
-    ensures { NextOf (altsAt (stagedWalker table.now) path.now depth) (next_at path.now depth) result }
+    requires room { Room path.now depth × (staged_walker table.now).Named (site_at (staged_walker table.now) path.now depth) }
+    ensures { NextOf (alts_at (staged_walker table.now) path.now depth) (next_at path.now depth) result }
 {
     relevancy_walk::place::alternative(table, path, depth)
 }
@@ -38,9 +38,9 @@ pub fn enter(
 ) -> Found
     requires lawful { Lawful table.now }
     requires stages_lent { StagesLent table.now horn.now conds.now chains.now }
-    requires parted { Parted (stagedWalker table.now) facts.old path.old depth }
-    requires next_of { NextOf (altsAt (stagedWalker table.now) path.old depth) (next_at path.old depth) (Atom a) }
-    ensures { (count : ℕ) → Making (stagedWalker table.now) facts.old path.old depth count result facts.new path.new }
+    requires parted { Parted (staged_walker table.now) facts.old path.old depth }
+    requires next_of { NextOf (alts_at (staged_walker table.now) path.old depth) (next_at path.old depth) (Atom a) }
+    ensures { (count : ℕ) → Making (staged_walker table.now) facts.old path.old depth count result facts.new path.new }
 {
     let own = mark(path, depth);
     pass(path, depth);
@@ -61,7 +61,7 @@ pub fn root(
     requires lawful { Lawful table.now }
     requires stages_lent { StagesLent table.now horn.now conds.now chains.now }
     requires store { Store 2050 facts.old 0 × Room path.old 0 }
-    ensures { Beginning (stagedWalker table.now) result facts.new path.new × (deepestAt path.new ≡ deepestAt path.old) }
+    ensures { Beginning (staged_walker table.now) result facts.new path.new × (deepest_at path.new ≡ deepest_at path.old) }
 {
     let n = start(table, facts);
     let node = settle(table, horn, conds, chains, facts, n, 0);

@@ -2,11 +2,11 @@
 ghost use Rattle.std.specs.Prelude.{◌≡◌, ◌≤◌};
 ghost use Rattle.problem.specs.Table.{Lawful};
 ghost use Rattle.ground.specs.Instance.{Instance};
-ghost use Rattle.walk.specs.contracts.Walker.{Run, fromRoot};
-ghost use Rattle.walk.specs.contracts.Path.{markAt, deepestAt};
-ghost use Rattle.walk.specs.contracts.Place.{Parted, Reached, Visiting, Trying, Beginning};
-ghost use Rattle.walk.specs.contracts.Walk.{Leaves, Ended, Walks};
-ghost use Rattle.staged_walk.specs.contracts.Place.{stagedWalker, StagesLent};
+ghost use Rattle.walk.specs.terms.Walker.{Run, from_root};
+ghost use Rattle.walk.specs.terms.Path.{mark_at, deepest_at};
+ghost use Rattle.walk.specs.terms.Place.{Parted, Reached, Visiting, Trying, Beginning};
+ghost use Rattle.walk.specs.terms.Walk.{Leaves, Ended, Walks};
+ghost use Rattle.staged_walk.specs.terms.Place.{staged_walker, StagesLent};
 
 use crate::place::{alternative, enter};
 use ground::branch::NextBranch;
@@ -31,9 +31,9 @@ pub fn visit(
 ) -> Walked
     requires lawful { Lawful table.now }
     requires stages_lent { StagesLent table.now horn.now conds.now chains.now }
-    requires reached { Reached (stagedWalker table.now) facts.old path.old depth done found }
+    requires reached { Reached (staged_walker table.now) facts.old path.old depth done found }
     requires count_le_limit { count ≤ limit }
-    ensures { Leaves (stagedWalker table.now) facts.old path.old depth done count limit result facts.new path.new × ((r : Run Instance) → r.limit ≡ limit → Visiting (stagedWalker table.now) r facts.old path.old depth found count → Ended (stagedWalker table.now) r path.old depth result facts.new path.new) }
+    ensures { Leaves (staged_walker table.now) facts.old path.old depth done count limit result facts.new path.new × ((r : Run Instance) → r.limit ≡ limit → Visiting (staged_walker table.now) r facts.old path.old depth found count → Ended (staged_walker table.now) r path.old depth result facts.new path.new) }
 {
     match found {
         Found::Split(n) => {
@@ -73,9 +73,9 @@ pub fn try_next(
 ) -> Walked
     requires lawful { Lawful table.now }
     requires stages_lent { StagesLent table.now horn.now conds.now chains.now }
-    requires parted { Parted (stagedWalker table.now) facts.old path.old depth }
+    requires parted { Parted (staged_walker table.now) facts.old path.old depth }
     requires count_le_limit { count ≤ limit }
-    ensures { Leaves (stagedWalker table.now) facts.old path.old depth (markAt path.old depth) count limit result facts.new path.new × ((r : Run Instance) → r.limit ≡ limit → Trying (stagedWalker table.now) r path.old depth count → Ended (stagedWalker table.now) r path.old depth result facts.new path.new) }
+    ensures { Leaves (staged_walker table.now) facts.old path.old depth (mark_at path.old depth) count limit result facts.new path.new × ((r : Run Instance) → r.limit ≡ limit → Trying (staged_walker table.now) r path.old depth count → Ended (staged_walker table.now) r path.old depth result facts.new path.new) }
 {
     let own = mark(path, depth);
     let mut made = count;
@@ -121,8 +121,8 @@ pub fn from_root(
 ) -> Walked
     requires lawful { Lawful table.now }
     requires stages_lent { StagesLent table.now horn.now conds.now chains.now }
-    requires beginning { Beginning (stagedWalker table.now) found facts.old path.old }
-    ensures { Walks (stagedWalker table.now) (fromRoot (stagedWalker table.now) (deepestAt path.old) limit) result facts.new path.new }
+    requires beginning { Beginning (staged_walker table.now) found facts.old path.old }
+    ensures { Walks (staged_walker table.now) (from_root (staged_walker table.now) (deepest_at path.old) limit) result facts.new path.new }
 {
     visit(
         table, horn, conds, chains, facts, path, 0, 0, found, 0, limit,

@@ -1,6 +1,6 @@
 // The sixteen digits.
 ghost use Rattle.std.specs.Prelude.{◌≡◌, cond, ◌&&◌, ◌<◌, ltb, eqb, get_or};
-ghost use Rattle.problem.specs.Digit.{digits, digitOf};
+ghost use Rattle.problem.specs.Digit.{digits, digit_of};
 
 // The digit of a value below 16.
 pub fn digit_of(k: u8) -> u8
@@ -27,7 +27,7 @@ fn value(b: u8, k: u8) -> u8
 
 // The value of the digit b, or 16 for any other byte.
 pub fn digit(b: u8) -> u8
-    ensures { result ≡ digitOf b }
+    ensures { result ≡ digit_of b }
 {
     if b < 48 {
         return 16;
@@ -40,8 +40,8 @@ pub fn digit(b: u8) -> u8
 
 // The value of a digit b: of a byte that has been compared with the sixteen.
 pub fn known(b: u8) -> u8
-    requires { digitOf b < 16 }
-    ensures { result ≡ digitOf b }
+    requires { digit_of b < 16 }
+    ensures { result ≡ digit_of b }
 {
     if 65 <= b {
         return b - 55;

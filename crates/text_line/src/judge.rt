@@ -3,8 +3,8 @@ ghost use Rattle.std.specs.Prelude.{◌≡◌, ◌≤◌};
 ghost use Rattle.lists.specs.Powers.{powers as allPowers};
 ghost use Rattle.problem.specs.declared.line.Line.TheVariants.{Holds};
 ghost use Rattle.problem.specs.Line.{line_at, frame_at};
-ghost use Rattle.problem.specs.Judge.{judgeSizes, judgeHeading, judgeArity, judgeVariable, judgeArg};
-ghost use Rattle.problem.specs.Parse.{judgeClosing};
+ghost use Rattle.problem.specs.Judge.{judge_sizes, judge_heading, judge_arity, judge_variable, judge_arg};
+ghost use Rattle.problem.specs.Parse.{judge_closing};
 
 use crate::line::frame_byte;
 use crate::power::power;
@@ -13,7 +13,7 @@ use problem::judge::{Heading, Judged};
 // The first line of the text.
 pub fn first_line(text: &[u8], at: usize, n: usize) -> Heading
     requires { line_at text.now at ≡ Holds n }
-    ensures { result ≡ judgeHeading (frame_at text.now at n) }
+    ensures { result ≡ judge_heading (frame_at text.now at n) }
 {
     let kind = frame_byte(text, at, n, 0);
     match kind {
@@ -41,7 +41,7 @@ pub fn first_line(text: &[u8], at: usize, n: usize) -> Heading
 // The rest of the first line, from the number of predicates on.
 fn sizes(text: &[u8], at: usize, n: usize, c: u8) -> Heading
     requires { line_at text.now at ≡ Holds n }
-    ensures { result ≡ judgeSizes c (frame_at text.now at n) }
+    ensures { result ≡ judge_sizes c (frame_at text.now at n) }
 {
     if n <= 3 {
         return Heading::Wrong(3);
@@ -71,7 +71,7 @@ pub fn arity_line(
     requires powers_value { powers.now ≡ allPowers }
     requires at_value { line_at text.now at ≡ Holds n }
     requires c_bound { (c ≤ 32) × (atoms ≤ 1024) }
-    ensures { result ≡ judgeArity c atoms (frame_at text.now at n) }
+    ensures { result ≡ judge_arity c atoms (frame_at text.now at n) }
 {
     let kind = frame_byte(text, at, n, 0);
     match kind {
@@ -98,7 +98,7 @@ pub fn arity_line(
 
 // An argument, after v variables.
 pub fn argument(c: u8, v: u8, b: u8) -> Judged
-    ensures { result ≡ judgeArg c v b }
+    ensures { result ≡ judge_arg c v b }
 {
     match b {
         0..=31 => {
@@ -116,7 +116,7 @@ pub fn argument(c: u8, v: u8, b: u8) -> Judged
 // The variable x, after v variables.
 fn variable(v: u8, x: u8) -> Judged
     requires { x ≤ 3 }
-    ensures { result ≡ judgeVariable v x }
+    ensures { result ≡ judge_variable v x }
 {
     if x < v {
         return Judged::Found(v);
@@ -130,7 +130,7 @@ fn variable(v: u8, x: u8) -> Judged
 // The last line, after so many clauses.
 pub fn last_line(text: &[u8], at: usize, n: usize, count: u8) -> Judged
     requires { line_at text.now at ≡ Holds n }
-    ensures { result ≡ judgeClosing count (frame_at text.now at n) }
+    ensures { result ≡ judge_closing count (frame_at text.now at n) }
 {
     if n <= 1 {
         return Judged::Fault(3);

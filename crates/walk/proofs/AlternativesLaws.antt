@@ -10,32 +10,32 @@ use lib.Dec.{leb}
 use lib.ListN.{length, take, drop, get_or, set, length-set, length-drop, get_or-eq_default}
 use lib.Seq.{length-take-le, take_all, take-suc, take-suc-set, get_or-take}
 use Rattle.walk.specs.declared.alternatives.Alternatives.{Alternatives}
-use Rattle.walk.specs.contracts.Alternatives.{listed, Listing}
+use Rattle.walk.specs.terms.Alternatives.{listed, Listing}
 
 -- ---- what is asked of them by a number
 
 module _ (alts : Alternatives) (h : Listing alts) where
-  pub listed-many : length (listed alts) ≡ alts.count
-  listed-many = length-take-le alts.count alts.atoms (omega (arith, h.few, h.four))
+  pub listed_many : length (listed alts) ≡ alts.count
+  listed_many = length-take-le alts.count alts.atoms (omega (arith, h.few, h.four))
 
   -- so many are not left
-  pub taken-some : (next : ℕ) → next ≤ alts.count → next ≡ length (listed alts) - length (drop next (listed alts))
-  taken-some next l = omega (arith, listed-many, length-drop next (listed alts))
+  pub taken_some : (next : ℕ) → next ≤ alts.count → next ≡ length (listed alts) - length (drop next (listed alts))
+  taken_some next l = omega (arith, listed_many, length-drop next (listed alts))
 
-  pub taken-all : (next : ℕ) → alts.count ≤ next → alts.count ≡ length (listed alts) - length (drop next (listed alts))
-  taken-all next l = omega (arith, listed-many, length-drop next (listed alts))
+  pub taken_all : (next : ℕ) → alts.count ≤ next → alts.count ≡ length (listed alts) - length (drop next (listed alts))
+  taken_all next l = omega (arith, listed_many, length-drop next (listed alts))
 
-  pub before-past : (next : ℕ) → alts.count < next → 0 ≡ get_or (listed alts) (next - 1) 0
-  before-past next l = sym (get_or-eq_default (listed alts) 0 {n = next - 1} (omega (arith, listed-many)))
+  pub before_past : (next : ℕ) → alts.count < next → 0 ≡ get_or (listed alts) (next - 1) 0
+  before_past next l = sym (get_or-eq_default (listed alts) 0 {n = next - 1} (omega (arith, listed_many)))
 
   pub before_here : (next : ℕ) → 0 < next → next ≤ alts.count → get_or alts.atoms (next - 1) 0 ≡ get_or (listed alts) (next - 1) 0
   before_here next some_next l = sym (get_or-take alts.count alts.atoms (next - 1) 0 (omega arith))
 
-  pub not-reached : (next : ℕ) → alts.count < next → leb next (length (listed alts)) ≡ false
-  not-reached next l = lt-leb next (length (listed alts)) (omega (arith, listed-many))
+  pub not_reached : (next : ℕ) → alts.count < next → leb next (length (listed alts)) ≡ false
+  not_reached next l = lt-leb next (length (listed alts)) (omega (arith, listed_many))
 
-  pub is-reached : (next : ℕ) → next ≤ alts.count → leb next (length (listed alts)) ≡ true
-  is-reached next l = le-leb next (length (listed alts)) (omega (arith, listed-many))
+  pub is_reached : (next : ℕ) → next ≤ alts.count → leb next (length (listed alts)) ≡ true
+  is_reached next l = le-leb next (length (listed alts)) (omega (arith, listed_many))
 
 -- ---- listing them one by one
 
@@ -47,8 +47,8 @@ pub record FirstListed (ds atoms : List ℕ) (n : ℕ) : Type 0 where
   pub are : take n atoms ≡ take n ds
 
 module _ (ds atoms : List ℕ) where
-  pub listed-none : length atoms ≡ 4 → FirstListed ds atoms 0
-  listed-none four = record { four = four; within = omega arith; part = omega arith; are = refl }
+  pub listed_none : length atoms ≡ 4 → FirstListed ds atoms 0
+  listed_none four = record { four = four; within = omega arith; part = omega arith; are = refl }
 
   module _ (n : ℕ) (h : FirstListed ds atoms n) where
     pub listed_more : n < 4 → (a : ℕ) → n < length ds → a ≡ get_or ds n 0 → FirstListed ds (set atoms n a) (n + 1)
@@ -61,5 +61,5 @@ module _ (ds atoms : List ℕ) where
         }
 
     -- there are no more
-    pub listed-all : length ds ≤ n → Listing (record { count = n; atoms = atoms }) × (take n atoms ≡ ds)
-    listed-all l = (record { few = h.within; four = h.four }, h.are ∙ take_all n ds l)
+    pub listed_all : length ds ≤ n → Listing (record { count = n; atoms = atoms }) × (take n atoms ≡ ds)
+    listed_all l = (record { few = h.within; four = h.four }, h.are ∙ take_all n ds l)

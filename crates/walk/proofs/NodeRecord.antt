@@ -6,7 +6,7 @@ use native.Mathlib.Nat.{add-zero}
 use native.Mathlib.Omega.{arith}
 use lib.ListN.{length, take, drop, get_or, set, get_or-append}
 use lib.Seq.{length-take-le, get_or-take, get_or-drop, sets, sets-eq}
-use Rattle.lists.proofs.Bytes.{getD-skip}
+use Rattle.lists.proofs.Bytes.{get_d_skip}
 
 module _ (path : List ℕ) (at : ℕ) (a b c d e f g h i : ℕ) (room : at + 9 ≤ length path) where
   abbrev bytes : List ℕ
@@ -35,39 +35,39 @@ module _ (path : List ℕ) (at : ℕ) (a b c d e f g h i : ℕ) (room : at + 9 �
   front = length-take-le at path (omega arith)
 
   -- the bytes are read back
-  pub stored-byte : (j : ℕ) → j < 9 → get_or stored (at + j) 0 ≡ get_or bytes j 0
-  stored-byte j l =
+  pub stored_byte : (j : ℕ) → j < 9 → get_or stored (at + j) 0 ≡ get_or bytes j 0
+  stored_byte j l =
       ap (λ (xs : List ℕ). get_or xs (at + j) 0) stored-whole
-      ∙ getD-skip (take at path) (bytes ++ drop (at + 9) path) at j front
+      ∙ get_d_skip (take at path) (bytes ++ drop (at + 9) path) at j front
       ∙ get_or-append bytes (drop (at + 9) path) 0 j l
 
-  pub stored-first : get_or stored at 0 ≡ a
-  stored-first = ap (λ (j : ℕ). get_or stored j 0) (sym (add-zero at)) ∙ stored-byte 0 (omega arith)
+  pub stored_first : get_or stored at 0 ≡ a
+  stored_first = ap (λ (j : ℕ). get_or stored j 0) (sym (add-zero at)) ∙ stored_byte 0 (omega arith)
 
   -- and those before and behind them are kept
-  pub stored-before : (j : ℕ) → j < at → get_or stored j 0 ≡ get_or path j 0
-  stored-before j l =
+  pub stored_before : (j : ℕ) → j < at → get_or stored j 0 ≡ get_or path j 0
+  stored_before j l =
       ap (λ (xs : List ℕ). get_or xs j 0) stored-whole
       ∙ get_or-append (take at path) (bytes ++ drop (at + 9) path) 0 j (omega (arith, front))
       ∙ get_or-take at path j 0 l
 
-  pub stored-behind : (j : ℕ) → at + 9 ≤ j → get_or stored j 0 ≡ get_or path j 0
-  stored-behind j l =
+  pub stored_behind : (j : ℕ) → at + 9 ≤ j → get_or stored j 0 ≡ get_or path j 0
+  stored_behind j l =
       let k : ℕ = j - (at + 9) in
       let there : at + (9 + k) ≡ j = omega arith in
       let same : get_or stored (at + (9 + k)) 0 ≡ get_or path (at + 9 + k) 0 =
       ap (λ (xs : List ℕ). get_or xs (at + (9 + k)) 0) stored-whole
-      ∙ getD-skip (take at path) (bytes ++ drop (at + 9) path) at (9 + k) front
-      ∙ getD-skip bytes (drop (at + 9) path) 9 k refl
+      ∙ get_d_skip (take at path) (bytes ++ drop (at + 9) path) at (9 + k) front
+      ∙ get_d_skip bytes (drop (at + 9) path) 9 k refl
       ∙ get_or-drop (at + 9) path k 0 in
       ap (λ (i : ℕ). get_or stored i 0) (sym there) ∙ same ∙ ap (λ (i : ℕ). get_or path i 0) (omega arith)
 
 -- v values that stand in four bytes, with 0 after them
-pub take-four : (values : List ℕ) (a b c d v : ℕ) → length values ≡ v → v ≤ 4 → get_or values 0 0 ≡ a → get_or values 1 0 ≡ b → get_or values 2 0 ≡ c → get_or values 3 0 ≡ d
+pub take_four : (values : List ℕ) (a b c d v : ℕ) → length values ≡ v → v ≤ 4 → get_or values 0 0 ≡ a → get_or values 1 0 ≡ b → get_or values 2 0 ≡ c → get_or values 3 0 ≡ d
     → take v (a ∷ b ∷ c ∷ d ∷ []) ≡ values
-take-four [] a b c d v n few ea eb ec ed = rw (← n)
-take-four (x ∷ []) a b c d v n few ea eb ec ed = rw (← n, ea)
-take-four (x ∷ y ∷ []) a b c d v n few ea eb ec ed = rw (← n, ea, eb)
-take-four (x ∷ y ∷ z ∷ []) a b c d v n few ea eb ec ed = rw (← n, ea, eb, ec)
-take-four (x ∷ y ∷ z ∷ w ∷ []) a b c d v n few ea eb ec ed = rw (← n, ea, eb, ec, ed)
-take-four (x ∷ y ∷ z ∷ w ∷ u ∷ us) a b c d v n few ea eb ec ed = absurd (omega arith)
+take_four [] a b c d v n few ea eb ec ed = rw (← n)
+take_four (x ∷ []) a b c d v n few ea eb ec ed = rw (← n, ea)
+take_four (x ∷ y ∷ []) a b c d v n few ea eb ec ed = rw (← n, ea, eb)
+take_four (x ∷ y ∷ z ∷ []) a b c d v n few ea eb ec ed = rw (← n, ea, eb, ec)
+take_four (x ∷ y ∷ z ∷ w ∷ []) a b c d v n few ea eb ec ed = rw (← n, ea, eb, ec, ed)
+take_four (x ∷ y ∷ z ∷ w ∷ u ∷ us) a b c d v n few ea eb ec ed = absurd (omega arith)

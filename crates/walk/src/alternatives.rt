@@ -1,8 +1,8 @@
 // The alternatives of a split node, and what is asked of them by a number: the next alternative.
 ghost use Rattle.std.specs.Prelude.{◌≡◌, ◌-◌, ◌<◌, length, drop, get_or};
-ghost use Rattle.walk.specs.Numbers.{standingBy};
-ghost use Rattle.walk.specs.contracts.Resume.{is_taken, splitStands};
-ghost use Rattle.walk.specs.contracts.Alternatives.{listed, Listing};
+ghost use Rattle.walk.specs.Numbers.{standing_by};
+ghost use Rattle.walk.specs.terms.Resume.{is_taken, split_stands};
+ghost use Rattle.walk.specs.terms.Alternatives.{listed, Listing};
 
 // In order: the first `count` of these atoms, four at most.
 #[derive(Drop)]
@@ -53,7 +53,7 @@ pub fn is_taken(alts: Alternatives, next: u8, atom: usize) -> bool
 // Whether a session may stand at a node of this depth that is split into them.
 pub fn split_stands(alts: Alternatives, depth: usize, standing: u8, next: u8) -> bool
     requires { Listing alts }
-    ensures { result ≡ splitStands (standingBy standing) depth (listed alts) next }
+    ensures { result ≡ split_stands (standing_by standing) depth (listed alts) next }
 {
     if standing == 1 {
         return false;

@@ -2,7 +2,7 @@
 // variable that the clause lacks), the next alternative, and how many facts the node has (2, low byte first). Behind 1,025 of them stands how long the longest path
 // was that the walk has entered (2, low byte first).
 ghost use Rattle.std.specs.Prelude.{◌≡◌, ◌+◌, ◌<◌, length, set};
-ghost use Rattle.walk.specs.contracts.Path.{Room, nodeAt, number_at, fourAt, next_at, markAt, deepestAt, PathKept, Noted, Passed};
+ghost use Rattle.walk.specs.terms.Path.{Room, node_at, number_at, four_at, next_at, mark_at, deepest_at, PathKept, Noted, Passed};
 
 use lists::pair;
 
@@ -18,7 +18,7 @@ pub fn number(path: &[u8], depth: usize) -> usize
 // The four values of its instance.
 pub fn values(path: &[u8], depth: usize) -> [u8; 4]
     requires { Room path.now depth }
-    ensures { result ≡ fourAt path.now depth }
+    ensures { result ≡ four_at path.now depth }
 {
     let at = 9 * depth;
     [path[at + 2], path[at + 3], path[at + 4], path[at + 5]]
@@ -35,7 +35,7 @@ pub fn next(path: &[u8], depth: usize) -> u8
 // How many facts it has.
 pub fn mark(path: &[u8], depth: usize) -> usize
     requires { Room path.now depth }
-    ensures { result ≡ markAt path.now depth }
+    ensures { result ≡ mark_at path.now depth }
 {
     let at = 9 * depth;
     pair(path[at + 7], path[at + 8])
@@ -44,7 +44,7 @@ pub fn mark(path: &[u8], depth: usize) -> usize
 // The longest path that was entered.
 pub fn deepest(path: &[u8]) -> usize
     requires { length path.now ≡ 9227 }
-    ensures { result ≡ deepestAt path.now }
+    ensures { result ≡ deepest_at path.now }
 {
     pair(path[9225], path[9226])
 }
@@ -52,7 +52,7 @@ pub fn deepest(path: &[u8]) -> usize
 // Takes this for the longest path entered so far.
 pub fn bring(path: &mut [u8], deepest: usize)
     requires { (length path.old ≡ 9227) × (deepest < 65536) }
-    ensures { (deepestAt path.new ≡ deepest) × PathKept path.old 1025 path.new }
+    ensures { (deepest_at path.new ≡ deepest) × PathKept path.old 1025 path.new }
 {
     path[9225] = (deepest % 256) as u8;
     path[9226] = (deepest / 256 % 256) as u8;
@@ -74,7 +74,7 @@ pub fn pass(path: &mut [u8], depth: usize)
 // Turns to another alternative.
 pub fn turn(path: &mut [u8], depth: usize, next: u8)
     requires { Room path.old depth }
-    ensures { path.new ≡ set path.old (nodeAt depth + 6) next }
+    ensures { path.new ≡ set path.old (node_at depth + 6) next }
 {
     path[9 * depth + 6] = next;
 }

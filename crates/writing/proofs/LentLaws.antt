@@ -7,45 +7,45 @@ use native.Mathlib.Omega.{arith}
 use borrow.Author.Tests.{lt-ltb, le-ltb, ltb-false}
 use lib.Dec.{ltb}
 use lib.ListN.{length, take}
-use Rattle.problem.specs.Table.{isValid}
-use Rattle.writing.specs.contracts.Lent.{refusalOf}
+use Rattle.problem.specs.Table.{is_valid}
+use Rattle.writing.specs.terms.Lent.{refusal_of}
 
 module _ (tb : List ℕ) (short : Bool) where
-  pub refusal-table : length tb < 4096 → 11 ≡ refusalOf tb short
-  unfolding refusalOf
-  refusal-table l = rw (lt-ltb (length tb) 4096 l)
+  pub refusal_table : length tb < 4096 → 11 ≡ refusal_of tb short
+  unfolding refusal_of
+  refusal_table l = rw (lt-ltb (length tb) 4096 l)
 
   module _ (long : 4096 ≤ length tb) where
-    pub refusal-buffer : short ≡ true → 11 ≡ refusalOf tb short
-    unfolding refusalOf
-    refusal-buffer e = rw (le-ltb (length tb) 4096 long, e)
+    pub refusal_buffer : short ≡ true → 11 ≡ refusal_of tb short
+    unfolding refusal_of
+    refusal_buffer e = rw (le-ltb (length tb) 4096 long, e)
 
     module _ (room : short ≡ false) where
-      pub refusal-invalid : isValid (take 4096 tb) ≡ false → 31 ≡ refusalOf tb short
-      unfolding refusalOf
-      refusal-invalid v = rw (le-ltb (length tb) 4096 long, room, v)
+      pub refusal_invalid : is_valid (take 4096 tb) ≡ false → 31 ≡ refusal_of tb short
+      unfolding refusal_of
+      refusal_invalid v = rw (le-ltb (length tb) 4096 long, room, v)
 
-      pub refusal-none : isValid (take 4096 tb) ≡ true → 0 ≡ refusalOf tb short
-      unfolding refusalOf
-      refusal-none v = rw (le-ltb (length tb) 4096 long, room, v)
+      pub refusal_none : is_valid (take 4096 tb) ≡ true → 0 ≡ refusal_of tb short
+      unfolding refusal_of
+      refusal_none v = rw (le-ltb (length tb) 4096 long, room, v)
 
 -- what an operation says and leaves, by the refusal
 module _ {A : Type 0} (tb : List ℕ) (short : Bool) (f : ℕ → A) (x : A) where
   abbrev Said : A
-  Said = cond (ltb (length tb) 4096 || short) (f 11) (cond (isValid (take 4096 tb)) x (f 31))
+  Said = cond (ltb (length tb) 4096 || short) (f 11) (cond (is_valid (take 4096 tb)) x (f 31))
 
-  pub refused_says : 0 < refusalOf tb short → f (refusalOf tb short) ≡ Said
-  unfolding refusalOf
-  refused_says = go (ltb (length tb) 4096 || short) (isValid (take 4096 tb))
+  pub refused_says : 0 < refusal_of tb short → f (refusal_of tb short) ≡ Said
+  unfolding refusal_of
+  refused_says = go (ltb (length tb) 4096 || short) (is_valid (take 4096 tb))
     where
       go : (b v : Bool) → 0 < cond b 11 (cond v 0 31) → f (cond b 11 (cond v 0 31)) ≡ cond b (f 11) (cond v x (f 31))
       go true v l = refl
       go false true l = absurd (omega arith)
       go false false l = refl
 
-  pub taken-says : refusalOf tb short ≡ 0 → x ≡ Said
-  unfolding refusalOf
-  taken-says = go (ltb (length tb) 4096 || short) (isValid (take 4096 tb))
+  pub taken_says : refusal_of tb short ≡ 0 → x ≡ Said
+  unfolding refusal_of
+  taken_says = go (ltb (length tb) 4096 || short) (is_valid (take 4096 tb))
     where
       go : (b v : Bool) → ◌≡◌ {A = ℕ} (cond b 11 (cond v 0 31)) 0 → x ≡ cond b (f 11) (cond v x (f 31))
       go true v e = absurd (omega arith)
@@ -56,13 +56,13 @@ module _ {A : Type 0} (tb : List ℕ) (short : Bool) (f : ℕ → A) (x : A) whe
 pub record Taken (tb : List ℕ) (short : Bool) : Type 0 where
   pub long : 4096 ≤ length tb
   pub room : short ≡ false
-  pub valid : isValid (take 4096 tb) ≡ true
+  pub valid : is_valid (take 4096 tb) ≡ true
 
-pub taken : (tb : List ℕ) (short : Bool) → refusalOf tb short ≡ 0 → Taken tb short
-unfolding refusalOf
-taken tb short = go (ltb (length tb) 4096) refl short (isValid (take 4096 tb)) refl
+pub taken : (tb : List ℕ) (short : Bool) → refusal_of tb short ≡ 0 → Taken tb short
+unfolding refusal_of
+taken tb short = go (ltb (length tb) 4096) refl short (is_valid (take 4096 tb)) refl
   where
-    go : (b : Bool) → ltb (length tb) 4096 ≡ b → (s v : Bool) → isValid (take 4096 tb) ≡ v → ◌≡◌ {A = ℕ} (cond (b || s) 11 (cond v 0 31)) 0 → Taken tb s
+    go : (b : Bool) → ltb (length tb) 4096 ≡ b → (s v : Bool) → is_valid (take 4096 tb) ≡ v → ◌≡◌ {A = ℕ} (cond (b || s) 11 (cond v 0 31)) 0 → Taken tb s
     go true e s v w r = absurd (omega arith)
     go false e true v w r = absurd (omega arith)
     go false e false true w r = record { long = ltb-false (length tb) 4096 e; room = refl; valid = w }
@@ -70,14 +70,14 @@ taken tb short = go (ltb (length tb) 4096) refl short (isValid (take 4096 tb)) r
 
 -- ---- buffers that are too short
 
-pub short-answer : (a w : ℕ) → a < 1024 → true ≡ (ltb a 1024 || ltb w 65536)
-short-answer a w l = rw (lt-ltb a 1024 l)
+pub short_answer : (a w : ℕ) → a < 1024 → true ≡ (ltb a 1024 || ltb w 65536)
+short_answer a w l = rw (lt-ltb a 1024 l)
 
-pub long-answer : (a w : ℕ) → 1024 ≤ a → ltb w 65536 ≡ (ltb a 1024 || ltb w 65536)
-long-answer a w l = rw (le-ltb a 1024 l)
+pub long_answer : (a w : ℕ) → 1024 ≤ a → ltb w 65536 ≡ (ltb a 1024 || ltb w 65536)
+long_answer a w l = rw (le-ltb a 1024 l)
 
-pub short-rules : (r a w : ℕ) → r < 16384 → true ≡ (ltb r 16384 || ltb a 1024 || ltb w 65536)
-short-rules r a w l = rw (lt-ltb r 16384 l)
+pub short_rules : (r a w : ℕ) → r < 16384 → true ≡ (ltb r 16384 || ltb a 1024 || ltb w 65536)
+short_rules r a w l = rw (lt-ltb r 16384 l)
 
-pub long-rules : (r a w : ℕ) → 16384 ≤ r → (ltb a 1024 || ltb w 65536) ≡ (ltb r 16384 || ltb a 1024 || ltb w 65536)
-long-rules r a w l = rw (le-ltb r 16384 l)
+pub long_rules : (r a w : ℕ) → 16384 ≤ r → (ltb a 1024 || ltb w 65536) ≡ (ltb r 16384 || ltb a 1024 || ltb w 65536)
+long_rules r a w l = rw (le-ltb r 16384 l)

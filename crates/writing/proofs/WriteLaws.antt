@@ -11,23 +11,23 @@ use lib.Seq.{take_at, set_split}
 use borrow.Author.Tests.{lt-ltb, le-ltb}
 use Rattle.lists.specs.Bytes.{same_list}
 use Rattle.lists.specs.Tabulate.{tabulate}
-use Rattle.lists.proofs.Digits.{digits-top}
-use Rattle.lists.proofs.Bytes.{tabulate-part, splice-none, splice-then}
-use Rattle.lists.proofs.Member.{flat_append, flat-snoc}
+use Rattle.lists.proofs.Digits.{digits_top}
+use Rattle.lists.proofs.Bytes.{tabulate_part, splice_none, splice_then}
+use Rattle.lists.proofs.Member.{flat_append, flat_snoc}
 use Rattle.lists.proofs.Tabulate.{tabulate-length}
 use Rattle.reading.specs.declared.read.Reading.{Reading}
 use Rattle.reading.specs.declared.read.Reading.TheVariants.{Refused, Accepted}
 use Rattle.writing.specs.declared.write.Writing.TheVariants.{Unwritten, Written}
-use Rattle.problem.specs.Digit.{digits, hexByte, hexLine}
+use Rattle.problem.specs.Digit.{digits, hex_byte, hex_line}
 use Rattle.problem.specs.Problem.{Problem}
 use Rattle.problem.specs.Parse.{Parsed, refused, parsed, parse}
-use Rattle.problem.specs.Layout.{atomIn, clauseIn, problemIn, layout}
-use Rattle.problem.specs.Print.{atomBytes, headingFrame, clauseFrame, closingFrame, print}
+use Rattle.problem.specs.Layout.{atom_in, clause_in, problem_in, layout}
+use Rattle.problem.specs.Print.{atom_bytes, heading_frame, clause_frame, closing_frame, print}
 use Rattle.reading.specs.Read.{reading_of}
-use Rattle.problem.specs.Table.{readsTo, isValid}
-use Rattle.writing.specs.Write.{writeResult, writeLeaves}
-use Rattle.reading.specs.contracts.Filled.{ReadAs}
-use Rattle.writing.specs.contracts.Printed.{Put}
+use Rattle.problem.specs.Table.{reads_to, is_valid}
+use Rattle.writing.specs.Write.{write_result, write_leaves}
+use Rattle.reading.specs.terms.Filled.{ReadAs}
+use Rattle.writing.specs.terms.Printed.{Put}
 
 -- ---- bytes put over others, one after another
 
@@ -35,8 +35,8 @@ module _ {e x : List ℕ} {a m r : ℕ} {bs : List ℕ} (p : Put e a bs m r x) w
   pub put_as : {cs : List ℕ} → bs ≡ cs → Put e a cs m r x
   put_as q = subst (λ (l : List ℕ). Put e a l m r x) q p
 
-  pub put-most : {n : ℕ} → m ≤ n → Put e a bs n r x
-  put-most h = record { next = p.next; few = omega (arith, p.few); leaves = p.leaves }
+  pub put_most : {n : ℕ} → m ≤ n → Put e a bs n r x
+  put_most h = record { next = p.next; few = omega (arith, p.few); leaves = p.leaves }
 
   -- what is put after it, where there is room for both
   pub put_then : {y : List ℕ} {n s : ℕ} {cs : List ℕ} → a + m + n ≤ length e → Put x r cs n s y → Put e a (bs ++ cs) (m + n) s y
@@ -45,11 +45,11 @@ module _ {e x : List ℕ} {a m r : ℕ} {bs : List ℕ} (p : Put e a bs m r x) w
       record {
         next = omega (arith, p.next, q.next, length-append bs cs);
         few = omega (arith, p.few, q.few, length-append bs cs);
-        leaves = q.leaves ∙ rw (p.leaves, p.next) (splice-then a bs cs e room);
+        leaves = q.leaves ∙ rw (p.leaves, p.next) (splice_then a bs cs e room);
       }
 
-pub put-none : (e : List ℕ) (a : ℕ) → Put e a [] 0 a e
-put-none e a = record { next = sym (add-zero a); few = omega arith; leaves = splice-none a e }
+pub put_none : (e : List ℕ) (a : ℕ) → Put e a [] 0 a e
+put_none e a = record { next = sym (add-zero a); few = omega arith; leaves = splice_none a e }
 
 -- ---- a byte, two digits, a line
 
@@ -62,72 +62,72 @@ put_one e a b h =
     }
 
 pub put_two : (e : List ℕ) (a b c d : ℕ) → b < 256 → a + 2 ≤ length e → c ≡ get_or digits (b / 16) 0 → d ≡ get_or digits (b % 16) 0
-    → Put e a (hexByte b) 2 (a + 2) (set (set e a c) (a + 1) d)
-unfolding hexByte
+    → Put e a (hex_byte b) 2 (a + 2) (set (set e a c) (a + 1) d)
+unfolding hex_byte
 put_two e a b c d small h p q =
     let two : a + 1 + 1 ≡ a + 2 = omega arith in
     let room : a + 1 + 1 ≤ length e = omega arith in
-    let bytes : ◌≡◌ {A = List ℕ} (c ∷ d ∷ []) (hexByte b) = rw (p, q, digits-top 16 1 b small) in
+    let bytes : ◌≡◌ {A = List ℕ} (c ∷ d ∷ []) (hex_byte b) = rw (p, q, digits_top 16 1 b small) in
     subst
-    (λ (n : ℕ). Put e a (hexByte b) 2 n (set (set e a c) (a + 1) d))
+    (λ (n : ℕ). Put e a (hex_byte b) 2 n (set (set e a c) (a + 1) d))
     two
     (put_as (put_then (put_one e a c (omega arith)) room (put_one (set e a c) (a + 1) d (simp length-set (omega arith)))) bytes)
 
 -- ---- a frame as a line
 
 module _ {e x : List ℕ} {a m r : ℕ} where
-  pub put_first : (b : ℕ) → Put e a (hexByte b) m r x → Put e a (flat_map hexByte (b ∷ [])) m r x
+  pub put_first : (b : ℕ) → Put e a (hex_byte b) m r x → Put e a (flat_map hex_byte (b ∷ [])) m r x
   unfolding flat_map
-  put_first b p = put_as p (sym (append-nil (hexByte b)))
+  put_first b p = put_as p (sym (append-nil (hex_byte b)))
 
-  pub put-frame : {y : List ℕ} {n s : ℕ} (bs cs : List ℕ) → Put e a (flat_map hexByte bs) m r x → a + m + n ≤ length e → Put x r (flat_map hexByte cs) n s y
-      → Put e a (flat_map hexByte (bs ++ cs)) (m + n) s y
-  put-frame bs cs p h q = put_as (put_then p h q) (sym (flat_append hexByte bs cs))
+  pub put_frame : {y : List ℕ} {n s : ℕ} (bs cs : List ℕ) → Put e a (flat_map hex_byte bs) m r x → a + m + n ≤ length e → Put x r (flat_map hex_byte cs) n s y
+      → Put e a (flat_map hex_byte (bs ++ cs)) (m + n) s y
+  put_frame bs cs p h q = put_as (put_then p h q) (sym (flat_append hex_byte bs cs))
 
-  pub put-line : {y : List ℕ} {s : ℕ} (bs : List ℕ) → Put e a (flat_map hexByte bs) m r x → a + m + 1 ≤ length e → Put x r (10 ∷ []) 1 s y → Put e a (hexLine bs) (m + 1) s y
-  unfolding hexLine
-  put-line bs p h q = put_then p h q
+  pub put_line : {y : List ℕ} {s : ℕ} (bs : List ℕ) → Put e a (flat_map hex_byte bs) m r x → a + m + 1 ≤ length e → Put x r (10 ∷ []) 1 s y → Put e a (hex_line bs) (m + 1) s y
+  unfolding hex_line
+  put_line bs p h q = put_then p h q
 
 -- one byte more
-pub put-hex : {e x y : List ℕ} {a m r s : ℕ} (bs : List ℕ) (b : ℕ) → Put e a (flat_map hexByte bs) m r x → a + m + 2 ≤ length e → Put x r (hexByte b) 2 s y
-    → Put e a (flat_map hexByte (bs ++ (b ∷ []))) (m + 2) s y
-put-hex bs b p h q = put-frame bs (b ∷ []) p h (put_first b q)
+pub put_hex : {e x y : List ℕ} {a m r s : ℕ} (bs : List ℕ) (b : ℕ) → Put e a (flat_map hex_byte bs) m r x → a + m + 2 ≤ length e → Put x r (hex_byte b) 2 s y
+    → Put e a (flat_map hex_byte (bs ++ (b ∷ []))) (m + 2) s y
+put_hex bs b p h q = put_frame bs (b ∷ []) p h (put_first b q)
 
 -- ---- a loop: w bytes at most for each element
 
 module _ {A : Type 0} (g : A → List ℕ) (f : ℕ → A) (w : ℕ) where
   pub puts_none : (e : List ℕ) (a : ℕ) → Put e a (flat_map g (tabulate f 0)) (w * 0) a e
   unfolding flat_map
-  puts_none e a = rw mul-zero (put-none e a)
+  puts_none e a = rw mul-zero (put_none e a)
 
-  pub puts-more : {e x y : List ℕ} {a r s : ℕ} (k : ℕ) → Put e a (flat_map g (tabulate f k)) (w * k) r x → a + w * k + w ≤ length e → Put x r (g (f k)) w s y
+  pub puts_more : {e x y : List ℕ} {a r s : ℕ} (k : ℕ) → Put e a (flat_map g (tabulate f k)) (w * k) r x → a + w * k + w ≤ length e → Put x r (g (f k)) w s y
       → Put e a (flat_map g (tabulate f (k + 1))) (w * (k + 1)) s y
   unfolding flat_map
-  puts-more {e} {x} {y} {a} {r} {s} k p h q = rw (add-one, mul-suc) (put_as (put_then p h q) (sym (flat-snoc g (tabulate f k) (f k))))
+  puts_more {e} {x} {y} {a} {r} {s} k p h q = rw (add-one, mul-suc) (put_as (put_then p h q) (sym (flat_snoc g (tabulate f k) (f k))))
 
-  pub puts-done : {e x : List ℕ} {a r : ℕ} (k n m : ℕ) → Put e a (flat_map g (tabulate f k)) (w * k) r x → k ≡ n → w * n ≤ m → Put e a (flat_map g (tabulate f n)) m r x
-  puts-done {e} {x} {a} {r} k n m p same h = put-most (subst (λ (i : ℕ). Put e a (flat_map g (tabulate f i)) (w * i) r x) same p) h
+  pub puts_done : {e x : List ℕ} {a r : ℕ} (k n m : ℕ) → Put e a (flat_map g (tabulate f k)) (w * k) r x → k ≡ n → w * n ≤ m → Put e a (flat_map g (tabulate f n)) m r x
+  puts_done {e} {x} {a} {r} k n m p same h = put_most (subst (λ (i : ℕ). Put e a (flat_map g (tabulate f i)) (w * i) r x) same p) h
 
 -- ---- what is put, as the table has it
 
 module _ (tb : List ℕ) (n : ℕ) where
-  pub heading-frame : length tb ≡ 4096 → n ≡ min (get_or tb 1 0) 32
-      → (1 ∷ 1 ∷ get_or tb 0 0 ∷ n ∷ []) ++ tabulate (λ j. get_or tb (4 + j) 0) 4 ≡ headingFrame (problemIn tb)
-  unfolding problemIn
-  heading-frame l e = rw (tabulate-length, ← e, tabulate-part tb 4 4 (omega arith))
+  pub heading_frame_lem : length tb ≡ 4096 → n ≡ min (get_or tb 1 0) 32
+      → (1 ∷ 1 ∷ get_or tb 0 0 ∷ n ∷ []) ++ tabulate (λ j. get_or tb (4 + j) 0) 4 ≡ heading_frame (problem_in tb)
+  unfolding problem_in
+  heading_frame_lem l e = rw (tabulate-length, ← e, tabulate_part tb 4 4 (omega arith))
 
-  pub closing-frame : n ≡ min (get_or tb 2 0) 64 → 255 ∷ n ∷ [] ≡ closingFrame (problemIn tb)
-  unfolding problemIn
-  closing-frame e = rw (tabulate-length, ← e)
+  pub closing_frame_lem : n ≡ min (get_or tb 2 0) 64 → 255 ∷ n ∷ [] ≡ closing_frame (problem_in tb)
+  unfolding problem_in
+  closing_frame_lem e = rw (tabulate-length, ← e)
 
 module _ (arities tb : List ℕ) (at n : ℕ) where
-  pub atom-bytes : n ≡ get_or arities (get_or tb at 0) 0 → get_or tb at 0 ∷ tabulate (λ j. get_or tb (at + 1 + j) 0) n ≡ atomBytes (atomIn arities tb at)
-  atom-bytes e = rw e
+  pub atom_bytes_lem : n ≡ get_or arities (get_or tb at 0) 0 → get_or tb at 0 ∷ tabulate (λ j. get_or tb (at + 1 + j) 0) n ≡ atom_bytes (atom_in arities tb at)
+  atom_bytes_lem e = rw e
 
-  pub clause-frame : (m : ℕ) → n ≡ min (get_or tb at 0) 4 → m ≡ min (get_or tb (at + 1) 0) 4
-      → (3 ∷ n ∷ m ∷ []) ++ flat_map atomBytes (tabulate (λ i. atomIn arities tb (at + 8 + 6 * i)) n) ++ flat_map atomBytes (tabulate (λ i. atomIn arities tb (at + 32 + 6 * i)) m)
-      ≡ clauseFrame (clauseIn arities tb at)
-  clause-frame m e f = rw (e, f) (simp tabulate-length)
+  pub clause_frame_lem : (m : ℕ) → n ≡ min (get_or tb at 0) 4 → m ≡ min (get_or tb (at + 1) 0) 4
+      → (3 ∷ n ∷ m ∷ []) ++ flat_map atom_bytes (tabulate (λ i. atom_in arities tb (at + 8 + 6 * i)) n) ++ flat_map atom_bytes (tabulate (λ i. atom_in arities tb (at + 32 + 6 * i)) m)
+      ≡ clause_frame (clause_in arities tb at)
+  clause_frame_lem m e f = rw (e, f) (simp tabulate-length)
 
 -- ---- a text put from the start, and what is read of it
 
@@ -138,48 +138,48 @@ module _ {e x : List ℕ} {bs : List ℕ} {m r : ℕ} (p : Put e 0 bs m r x) whe
   pub put_front : x ≡ bs ++ drop (length bs) e
   put_front = p.leaves ∙ rw zero-add
 
-  pub put-text : take r x ≡ bs
-  put-text = rw put_front (take_at bs (drop (length bs) e) r (sym put_count))
+  pub put_text : take r x ≡ bs
+  put_text = rw put_front (take_at bs (drop (length bs) e) r (sym put_count))
 
 -- the table's text is a table's validity
-pub valid-read : (tb x : List ℕ) → x ≡ print tb → readsTo (parse x) tb ≡ isValid tb
-unfolding isValid
-valid-read tb x text = ap (λ (y : List ℕ). readsTo (parse y) tb) text
+pub valid_read : (tb x : List ℕ) → x ≡ print tb → reads_to (parse x) tb ≡ is_valid tb
+unfolding is_valid
+valid_read tb x text = ap (λ (y : List ℕ). reads_to (parse y) tb) text
 
 -- a text is read into `own`
 module _ (tb x own : List ℕ) (r : Reading) (f : ReadAs (parse x) r own) where
-  pub not-read : {e line : ℕ} → r ≡ Refused e line → false ≡ readsTo (parse x) tb
-  not-read refusal = go (parse x) f.reading
+  pub not_read : {e line : ℕ} → r ≡ Refused e line → false ≡ reads_to (parse x) tb
+  not_read refusal = go (parse x) f.reading
     where
-      go : (what : Parsed) → r ≡ reading_of what → false ≡ readsTo what tb
+      go : (what : Parsed) → r ≡ reading_of what → false ≡ reads_to what tb
       go (refused i l) read = refl
       go (parsed q) read = let z : ◌≡◌ {A = ℕ} 0 1 = cc in absurd (omega arith)
 
-  pub read_same : r ≡ Accepted → same_list own tb ≡ readsTo (parse x) tb
+  pub read_same : r ≡ Accepted → same_list own tb ≡ reads_to (parse x) tb
   read_same accepted = go (parse x) f.reading f.table
     where
-      go : (what : Parsed) → r ≡ reading_of what → ((q : Problem) → what ≡ parsed q → own ≡ layout q) → same_list own tb ≡ readsTo what tb
+      go : (what : Parsed) → r ≡ reading_of what → ((q : Problem) → what ≡ parsed q → own ≡ layout q) → same_list own tb ≡ reads_to what tb
       go (refused i l) read table = let z : ◌≡◌ {A = ℕ} 0 1 = cc in absurd (omega arith)
       go (parsed q) read table = rw (table q refl)
 
 -- ---- writing: what it says, and what it leaves in the text out
 
 module _ (tb out : List ℕ) where
-  pub write-short : length tb < 4096 → (Unwritten 11 ≡ writeResult tb out) × (out ≡ writeLeaves tb out)
-  unfolding writeResult writeLeaves
-  write-short h = rw (lt-ltb (length tb) 4096 h) (refl, refl)
+  pub write_short : length tb < 4096 → (Unwritten 11 ≡ write_result tb out) × (out ≡ write_leaves tb out)
+  unfolding write_result write_leaves
+  write_short h = rw (lt-ltb (length tb) 4096 h) (refl, refl)
 
   module _ (h : 4096 ≤ length tb) where
-    pub write-narrow : length out < 7168 → (Unwritten 11 ≡ writeResult tb out) × (out ≡ writeLeaves tb out)
-    unfolding writeResult writeLeaves
-    write-narrow l = rw (le-ltb (length tb) 4096 h, lt-ltb (length out) 7168 l) (refl, refl)
+    pub write_narrow : length out < 7168 → (Unwritten 11 ≡ write_result tb out) × (out ≡ write_leaves tb out)
+    unfolding write_result write_leaves
+    write_narrow l = rw (le-ltb (length tb) 4096 h, lt-ltb (length out) 7168 l) (refl, refl)
 
     module _ (l : 7168 ≤ length out) where
-      pub write-invalid : isValid (take 4096 tb) ≡ false → (Unwritten 31 ≡ writeResult tb out) × (out ≡ writeLeaves tb out)
-      unfolding writeResult writeLeaves
-      write-invalid v = rw (le-ltb (length tb) 4096 h, le-ltb (length out) 7168 l, v) (refl, refl)
+      pub write_invalid : is_valid (take 4096 tb) ≡ false → (Unwritten 31 ≡ write_result tb out) × (out ≡ write_leaves tb out)
+      unfolding write_result write_leaves
+      write_invalid v = rw (le-ltb (length tb) 4096 h, le-ltb (length out) 7168 l, v) (refl, refl)
 
-      pub write-valid : {x : List ℕ} {m r : ℕ} → isValid (take 4096 tb) ≡ true → Put out 0 (print (take 4096 tb)) m r x
-          → (Written r ≡ writeResult tb out) × (x ≡ writeLeaves tb out)
-      unfolding writeResult writeLeaves
-      write-valid v p = rw (le-ltb (length tb) 4096 h, le-ltb (length out) 7168 l, v) (ap Written (put_count p), put_front p)
+      pub write_valid : {x : List ℕ} {m r : ℕ} → is_valid (take 4096 tb) ≡ true → Put out 0 (print (take 4096 tb)) m r x
+          → (Written r ≡ write_result tb out) × (x ≡ write_leaves tb out)
+      unfolding write_result write_leaves
+      write_valid v p = rw (le-ltb (length tb) 4096 h, le-ltb (length out) 7168 l, v) (ap Written (put_count p), put_front p)

@@ -1,12 +1,12 @@
 // Whether a lent table, and the buffers lent with it, are taken.
 ghost use Rattle.std.specs.Prelude.{◌||◌, ◌≡◌, ltb};
-ghost use Rattle.writing.specs.contracts.Lent.{refusalOf};
+ghost use Rattle.writing.specs.terms.Lent.{refusal_of};
 
 use crate::write::valid;
 
 // The number of the refusal, or 0: 11 if the table is too short or a buffer lent with it is, 31 if the table is not valid.
 pub fn refusal(table: &[u8], short: bool) -> u8
-    ensures { result ≡ refusalOf table.now short }
+    ensures { result ≡ refusal_of table.now short }
 {
     if table.len() < 4096 {
         return 11;

@@ -3,14 +3,14 @@ ghost use Rattle.std.specs.Prelude.{◌≡◌, ◌+◌, ◌*◌, ◌≤◌, ◌<
 ghost use mathlib.Core.List.{flat_map, ◌∷◌, []};
 ghost use Rattle.lists.specs.Bytes.{same_list};
 ghost use Rattle.lists.specs.Tabulate.{tabulate};
-ghost use Rattle.problem.specs.Digit.{hexByte, hexLine};
-ghost use Rattle.problem.specs.Layout.{atomIn, clauseIn, aritiesIn, problemIn};
-ghost use Rattle.problem.specs.Print.{atomBytes, headingFrame, arityFrame, clauseFrame, closingFrame, print};
+ghost use Rattle.problem.specs.Digit.{hex_byte, hex_line};
+ghost use Rattle.problem.specs.Layout.{atom_in, clause_in, arities_in, problem_in};
+ghost use Rattle.problem.specs.Print.{atom_bytes, heading_frame, arity_frame, clause_frame, closing_frame, print};
 ghost use Rattle.problem.specs.Parse.{parse};
-ghost use Rattle.problem.specs.Table.{readsTo, isValid};
-ghost use Rattle.writing.specs.Write.{writeResult, writeLeaves};
-ghost use Rattle.writing.specs.contracts.Printed.{Put};
-ghost use Rattle.writing.specs.contracts.Compared.{Ended};
+ghost use Rattle.problem.specs.Table.{reads_to, is_valid};
+ghost use Rattle.writing.specs.Write.{write_result, write_leaves};
+ghost use Rattle.writing.specs.terms.Printed.{Put};
+ghost use Rattle.writing.specs.terms.Compared.{Ended};
 
 use clause_line::clause::arity_in;
 use reading::read::{Reading, read_text};
@@ -36,7 +36,7 @@ fn at_most(n: u8, limit: u8) -> u8
 // A byte as two digits.
 pub fn put_byte(out: &mut [u8], at: usize, b: u8) -> usize
     requires { at + 2 ≤ length out.old }
-    ensures { Put out.old at (hexByte b) 2 result out.new }
+    ensures { Put out.old at (hex_byte b) 2 result out.new }
 {
     out[at] = digit_of(b / 16);
     out[at + 1] = digit_of(b % 16);
@@ -55,7 +55,7 @@ pub fn put_end(out: &mut [u8], at: usize) -> usize
 // So many bytes from a place of the table on.
 fn put_bytes(table: &[u8], from: usize, count: u8, out: &mut [u8], at: usize) -> usize
     requires { (length table.now ≡ 4096) × (from + count ≤ 4096) × (at + 2 * count ≤ length out.old) }
-    ensures { Put out.old at (flat_map hexByte (tabulate (λ j. get_or table.now (from + j) 0) count)) (2 * count) result out.new }
+    ensures { Put out.old at (flat_map hex_byte (tabulate (λ j. get_or table.now (from + j) 0) count)) (2 * count) result out.new }
 {
     let mut next = at;
     let mut j: u8 = 0;
@@ -70,7 +70,7 @@ fn put_bytes(table: &[u8], from: usize, count: u8, out: &mut [u8], at: usize) ->
 // The first line.
 fn put_first(table: &[u8], out: &mut [u8]) -> usize
     requires { (length table.now ≡ 4096) × (17 ≤ length out.old) }
-    ensures { Put out.old 0 (hexLine (headingFrame (problemIn table.now))) 17 result out.new }
+    ensures { Put out.old 0 (hex_line (heading_frame (problem_in table.now))) 17 result out.new }
 {
     let kind = put_byte(out, 0, 1);
     let version = put_byte(out, kind, 1);
@@ -83,7 +83,7 @@ fn put_first(table: &[u8], out: &mut [u8]) -> usize
 // An arity line.
 fn put_arity(a: u8, out: &mut [u8], at: usize) -> usize
     requires { at + 5 ≤ length out.old }
-    ensures { Put out.old at (hexLine (arityFrame a)) 5 result out.new }
+    ensures { Put out.old at (hex_line (arity_frame a)) 5 result out.new }
 {
     let kind = put_byte(out, at, 2);
     let next = put_byte(out, kind, a);
@@ -93,7 +93,7 @@ fn put_arity(a: u8, out: &mut [u8], at: usize) -> usize
 // The arity lines.
 fn put_arities(table: &[u8], out: &mut [u8], at: usize) -> usize
     requires { (length table.now ≡ 4096) × (at + 160 ≤ length out.old) }
-    ensures { Put out.old at (flat_map (λ a. hexLine (arityFrame a)) (aritiesIn table.now)) 160 result out.new }
+    ensures { Put out.old at (flat_map (λ a. hex_line (arity_frame a)) (arities_in table.now)) 160 result out.new }
 {
     let p = at_most(table[1], 32);
     let mut next = at;
@@ -108,7 +108,7 @@ fn put_arities(table: &[u8], out: &mut [u8], at: usize) -> usize
 // The atom at a place of the table.
 fn put_atom(table: &[u8], from: usize, out: &mut [u8], at: usize) -> usize
     requires { (length table.now ≡ 4096) × (from + 3 < 4096) × (at + 8 ≤ length out.old) }
-    ensures { Put out.old at (flat_map hexByte (atomBytes (atomIn (aritiesIn table.now) table.now from))) 8 result out.new }
+    ensures { Put out.old at (flat_map hex_byte (atom_bytes (atom_in (arities_in table.now) table.now from))) 8 result out.new }
 {
     let b = table[from];
     let next = put_byte(out, at, b);
@@ -118,7 +118,7 @@ fn put_atom(table: &[u8], from: usize, out: &mut [u8], at: usize) -> usize
 // So many atoms, in slots from a place of the table on.
 fn put_atoms(table: &[u8], from: usize, count: u8, out: &mut [u8], at: usize) -> usize
     requires { (length table.now ≡ 4096) × (from + 24 ≤ 4096) × (count ≤ 4) × (at + 32 ≤ length out.old) }
-    ensures { Put out.old at (flat_map hexByte (flat_map atomBytes (tabulate (λ i. atomIn (aritiesIn table.now) table.now (from + 6 * i)) count))) 32 result out.new }
+    ensures { Put out.old at (flat_map hex_byte (flat_map atom_bytes (tabulate (λ i. atom_in (arities_in table.now) table.now (from + 6 * i)) count))) 32 result out.new }
 {
     let mut next = at;
     let mut i: u8 = 0;
@@ -132,7 +132,7 @@ fn put_atoms(table: &[u8], from: usize, count: u8, out: &mut [u8], at: usize) ->
 // The line of the clause whose record starts at a place of the table.
 fn put_clause(table: &[u8], from: usize, out: &mut [u8], at: usize) -> usize
     requires { (length table.now ≡ 4096) × (from + 56 ≤ 4096) × (at + 71 ≤ length out.old) }
-    ensures { Put out.old at (hexLine (clauseFrame (clauseIn (aritiesIn table.now) table.now from))) 71 result out.new }
+    ensures { Put out.old at (hex_line (clause_frame (clause_in (arities_in table.now) table.now from))) 71 result out.new }
 {
     let conds = at_most(table[from], 4);
     let alts = at_most(table[from + 1], 4);
@@ -147,7 +147,7 @@ fn put_clause(table: &[u8], from: usize, out: &mut [u8], at: usize) -> usize
 // The clause lines.
 fn put_clauses(table: &[u8], out: &mut [u8], at: usize) -> usize
     requires { (length table.now ≡ 4096) × (at + 71 * min (get_or table.now 2 0) 64 ≤ length out.old) }
-    ensures { Put out.old at (flat_map (λ k. hexLine (clauseFrame k)) (tabulate (λ k. clauseIn (aritiesIn table.now) table.now (144 + 56 * k)) (min (get_or table.now 2 0) 64))) (71 * min (get_or table.now 2 0) 64) result out.new }
+    ensures { Put out.old at (flat_map (λ k. hex_line (clause_frame k)) (tabulate (λ k. clause_in (arities_in table.now) table.now (144 + 56 * k)) (min (get_or table.now 2 0) 64))) (71 * min (get_or table.now 2 0) 64) result out.new }
 {
     let count = at_most(table[2], 64);
     let mut next = at;
@@ -162,7 +162,7 @@ fn put_clauses(table: &[u8], out: &mut [u8], at: usize) -> usize
 // The last line.
 fn put_last(table: &[u8], out: &mut [u8], at: usize) -> usize
     requires { (length table.now ≡ 4096) × (at + 5 ≤ length out.old) }
-    ensures { Put out.old at (hexLine (closingFrame (problemIn table.now))) 5 result out.new }
+    ensures { Put out.old at (hex_line (closing_frame (problem_in table.now))) 5 result out.new }
 {
     let kind = put_byte(out, at, 255);
     let count = put_byte(out, kind, at_most(table[2], 64));
@@ -210,7 +210,7 @@ fn same_table(own: &[u8], table: &[u8]) -> bool
 // Whether a text is accepted and reads to these bytes.
 fn reads_to(text: &[u8], table: &[u8]) -> bool
     requires { length table.now ≡ 4096 }
-    ensures { result ≡ readsTo (parse text.now) table.now }
+    ensures { result ≡ reads_to (parse text.now) table.now }
 {
     let mut own = [0u8; 4096];
     let reading = read_text(text, &mut own);
@@ -223,7 +223,7 @@ fn reads_to(text: &[u8], table: &[u8]) -> bool
 // Whether a table of few clauses is valid, with less room to make zero for its text.
 fn few_valid(table: &[u8]) -> bool
     requires { (length table.now ≡ 4096) × (get_or table.now 2 0 ≤ 8) }
-    ensures { result ≡ isValid table.now }
+    ensures { result ≡ is_valid table.now }
 {
     let mut text = [0u8; 750];
     let n = print_table(table, &mut text);
@@ -233,7 +233,7 @@ fn few_valid(table: &[u8]) -> bool
 // The same with room for the text of any table.
 fn any_valid(table: &[u8]) -> bool
     requires { length table.now ≡ 4096 }
-    ensures { result ≡ isValid table.now }
+    ensures { result ≡ is_valid table.now }
 {
     let mut text = [0u8; 4726];
     let n = print_table(table, &mut text);
@@ -243,7 +243,7 @@ fn any_valid(table: &[u8]) -> bool
 // Whether some accepted text reads to these 4,096 bytes.
 pub fn valid(table: &[u8]) -> bool
     requires { length table.now ≡ 4096 }
-    ensures { result ≡ isValid table.now }
+    ensures { result ≡ is_valid table.now }
 {
     if table[2] <= 8 {
         return few_valid(table);
@@ -253,7 +253,7 @@ pub fn valid(table: &[u8]) -> bool
 
 // Writes a lent table out as text. A refusal leaves the text out as it was.
 pub fn write(table: &[u8], out: &mut [u8]) -> Writing
-    ensures { (result ≡ writeResult table.now out.old) × (out.new ≡ writeLeaves table.now out.old) }
+    ensures { (result ≡ write_result table.now out.old) × (out.new ≡ write_leaves table.now out.old) }
 {
     if table.len() < 4096 {
         return Writing::Unwritten(11);

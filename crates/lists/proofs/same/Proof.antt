@@ -6,7 +6,7 @@ use mathlib.Core.Path.{◌≡◌, refl, sym, ◌∙◌}
 use native.Mathlib.Omega.{arith}
 use lib.ListN.{length, drop}
 use Rattle.lists.specs.Bytes.{same_list}
-use Rattle.lists.proofs.Loops.{same-apart, same_more, same_differs, same-done}
+use Rattle.lists.proofs.Loops.{same_apart, same_more, same_differs, same_done}
 use Rattle.lists.proofs.same.Statement.{statement}
 use Rattle.lists.proofs.same.Tie as tie
 
@@ -22,7 +22,7 @@ same_spec =
     (tie.spec
     invariant-loop
     decreases-loop
-    (λ c. sym (same-apart c.before.args.a.now c.before.args.b.now c.if1.true))  -- returns
+    (λ c. sym (same_apart c.before.args.a.now c.before.args.b.now c.if1.true))  -- returns
     (λ c. (omega arith, refl))  -- loop-holds
     (λ c. omega arith)  -- shared-slice-read-if2
     (λ c. omega arith)  -- shared-slice-read-if2-2
@@ -40,4 +40,4 @@ same_spec =
     let a = c.before.before.before.args.a.now in
     let b = c.before.before.before.args.b.now in
     let e : l.i ≡ length a = omega arith in
-    sym (l.invariant.1 ∙ same-done a b l.i l.all e c.before.before.if1.false)))  -- returns-2
+    sym (l.invariant.1 ∙ same_done a b l.i l.all e c.before.before.if1.false)))  -- returns-2

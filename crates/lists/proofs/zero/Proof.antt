@@ -17,8 +17,8 @@ decreases-loop dst₀ i₀ dst i = length dst₀ - i
 filled : (d : List ℕ) (i : ℕ) → i ≡ length d → replicate i 0 ++ drop i d ≡ replicate (length d) 0
 filled d i e = rw (e, drop_of_length-le d {i = length d} (omega arith)) (append-nil (replicate (length d) 0))
 
-pub zero-spec : {M : Type 1} → statement M
-zero-spec =
+pub zero_spec : {M : Type 1} → statement M
+zero_spec =
     tie.close
     (tie.spec
     invariant-loop

@@ -1,12 +1,12 @@
 -- `lutsamik::lutsamik_fit_relevancy` meets its contract.
 use borrow.Author.Rules.{rules}
 use mathlib.Core.Path.{ap₂, ◌∙◌}
-use Rattle.lutsamik.specs.Pack.{packVerdict}
+use Rattle.lutsamik.specs.Pack.{pack_verdict}
 use Rattle.lutsamik.proofs.lutsamik_fit_relevancy.Statement.{statement}
 use Rattle.lutsamik.proofs.lutsamik_fit_relevancy.Tie as tie
 
-pub lutsamik-fit-relevancy-spec : {M : Type 1} → statement M
-lutsamik-fit-relevancy-spec =
+pub lutsamik_fit_relevancy_spec : {M : Type 1} → statement M
+lutsamik_fit_relevancy_spec =
     tie.close
     (tie.spec
     (λ c κs. search rules)  -- fit-requires
@@ -15,4 +15,4 @@ lutsamik-fit-relevancy-spec =
     (λ c. search rules)  -- same-length-2
     (λ c.
     let fit = c.before.before.before.before.before.fit in
-    (c.pack-reply.ensures ∙ ap₂ packVerdict fit.ensures.0 fit.ensures.1, fit.ensures.2, fit.ensures.3)))  -- returns
+    (c.pack-reply.ensures ∙ ap₂ pack_verdict fit.ensures.0 fit.ensures.1, fit.ensures.2, fit.ensures.3)))  -- returns

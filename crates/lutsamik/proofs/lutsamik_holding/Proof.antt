@@ -1,14 +1,14 @@
 -- `lutsamik::lutsamik_holding` meets its contract.
 use borrow.Author.Rules.{rules}
 use mathlib.Core.Path.{ap, ◌∙◌}
-use Rattle.lutsamik.specs.Pack.{packHolding}
+use Rattle.lutsamik.specs.Pack.{pack_holding}
 use Rattle.lutsamik.proofs.lutsamik_holding.Statement.{statement}
 use Rattle.lutsamik.proofs.lutsamik_holding.Tie as tie
 
-pub lutsamik-holding-spec : {M : Type 1} → statement M
-lutsamik-holding-spec =
+pub lutsamik_holding_spec : {M : Type 1} → statement M
+lutsamik_holding_spec =
     tie.close
     (tie.spec
     (λ c κs. search rules)  -- how-far-requires
     (λ c κs. search rules)  -- pack-holding-requires
-    (λ c. c.pack-holding.ensures ∙ ap packHolding c.before.how-far.ensures))  -- returns
+    (λ c. c.pack-holding.ensures ∙ ap pack_holding c.before.how-far.ensures))  -- returns

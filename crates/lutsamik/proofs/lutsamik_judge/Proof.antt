@@ -1,14 +1,14 @@
 -- `lutsamik::lutsamik_judge` meets its contract.
 use borrow.Author.Rules.{rules}
 use mathlib.Core.Path.{ap, ◌∙◌}
-use Rattle.lutsamik.specs.Pack.{packJudging}
+use Rattle.lutsamik.specs.Pack.{pack_judging}
 use Rattle.lutsamik.proofs.lutsamik_judge.Statement.{statement}
 use Rattle.lutsamik.proofs.lutsamik_judge.Tie as tie
 
-pub lutsamik-judge-spec : {M : Type 1} → statement M
-lutsamik-judge-spec =
+pub lutsamik_judge_spec : {M : Type 1} → statement M
+lutsamik_judge_spec =
     tie.close
     (tie.spec
     (λ c κs. search rules)  -- judge-requires
     (λ c κs. search rules)  -- pack-judging-requires
-    (λ c. c.pack-judging.ensures ∙ ap packJudging c.before.judge.ensures))  -- returns
+    (λ c. c.pack-judging.ensures ∙ ap pack_judging c.before.judge.ensures))  -- returns

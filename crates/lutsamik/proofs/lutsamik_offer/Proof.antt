@@ -1,12 +1,12 @@
 -- `lutsamik::lutsamik_offer` meets its contract.
 use borrow.Author.Rules.{rules}
 use mathlib.Core.Path.{ap, ◌∙◌}
-use Rattle.lutsamik.specs.Pack.{packOffering}
+use Rattle.lutsamik.specs.Pack.{pack_offering}
 use Rattle.lutsamik.proofs.lutsamik_offer.Statement.{statement}
 use Rattle.lutsamik.proofs.lutsamik_offer.Tie as tie
 
-pub lutsamik-offer-spec : {M : Type 1} → statement M
-lutsamik-offer-spec =
+pub lutsamik_offer_spec : {M : Type 1} → statement M
+lutsamik_offer_spec =
     tie.close
     (tie.spec
     (λ c κs. search rules)
@@ -14,4 +14,4 @@ lutsamik-offer-spec =
     (λ c. search rules)
     (λ c.
     let offer = c.before.before.before.offer in
-    (c.pack-offering.ensures ∙ ap packOffering offer.ensures.0, offer.ensures.1)))  -- returns
+    (c.pack-offering.ensures ∙ ap pack_offering offer.ensures.0, offer.ensures.1)))  -- returns

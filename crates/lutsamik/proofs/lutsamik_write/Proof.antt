@@ -1,12 +1,12 @@
 -- `lutsamik::lutsamik_write` meets its contract.
 use borrow.Author.Rules.{rules}
 use mathlib.Core.Path.{ap, ◌∙◌}
-use Rattle.lutsamik.specs.Pack.{packWriting}
+use Rattle.lutsamik.specs.Pack.{pack_writing}
 use Rattle.lutsamik.proofs.lutsamik_write.Statement.{statement}
 use Rattle.lutsamik.proofs.lutsamik_write.Tie as tie
 
-pub lutsamik-write-spec : {M : Type 1} → statement M
-lutsamik-write-spec =
+pub lutsamik_write_spec : {M : Type 1} → statement M
+lutsamik_write_spec =
     tie.close
     (tie.spec
     (λ c κs. search rules)
@@ -14,4 +14,4 @@ lutsamik-write-spec =
     (λ c. search rules)
     (λ c.
     let write = c.before.before.before.write in
-    (c.pack-writing.ensures ∙ ap packWriting write.ensures.0, write.ensures.1)))  -- returns
+    (c.pack-writing.ensures ∙ ap pack_writing write.ensures.0, write.ensures.1)))  -- returns

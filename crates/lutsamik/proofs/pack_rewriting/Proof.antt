@@ -1,12 +1,12 @@
 -- `lutsamik::pack_rewriting` meets its contract.
 use borrow.Author.Rules.{rules}
 use mathlib.Core.Path.{sym, ap, ◌∙◌}
-use Rattle.lutsamik.specs.Pack.{packRewriting}
+use Rattle.lutsamik.specs.Pack.{pack_rewriting}
 use Rattle.lutsamik.proofs.pack_rewriting.Statement.{statement}
 use Rattle.lutsamik.proofs.pack_rewriting.Tie as tie
 
-pub pack-rewriting-spec : {M : Type 1} → statement M
-pack-rewriting-spec =
+pub pack_rewriting_spec : {M : Type 1} → statement M
+pack_rewriting_spec =
     tie.close
     (tie.spec
     (λ c. search rules)  -- enum-known-r
@@ -14,5 +14,5 @@ pack-rewriting-spec =
     (λ c. search rules)  -- enum-known-r-2
     (λ c. search rules)  -- cast-packed
     (λ c κs. search rules)  -- packed-requires-2
-    (λ c. c.packed.ensures ∙ sym (ap packRewriting c.before.before.r.given.1))  -- returns
-    (λ c. c.packed2.ensures ∙ sym (ap packRewriting c.before.before.r2.given.1)))  -- returns-2
+    (λ c. c.packed.ensures ∙ sym (ap pack_rewriting c.before.before.r.given.1))  -- returns
+    (λ c. c.packed2.ensures ∙ sym (ap pack_rewriting c.before.before.r2.given.1)))  -- returns-2

@@ -3,16 +3,16 @@ use Prim.Native.Nat.{ℕ}
 use borrow.Author.Rules.{rules}
 use mathlib.Core.Path.{◌≡◌, sym, ap, ◌∙◌}
 use Rattle.ground.specs.declared.verdict.Verdict.{Verdict}
-use Rattle.lutsamik.specs.Pack.{packVerdict}
+use Rattle.lutsamik.specs.Pack.{pack_verdict}
 use Rattle.lutsamik.proofs.pack_verdict.Statement.{statement}
 use Rattle.lutsamik.proofs.pack_verdict.Tie as tie
 
 -- as the variant that it is
-by : (deepest : ℕ) {v w : Verdict} → v ≡ w → packVerdict w deepest ≡ packVerdict v deepest
-by deepest e = ap (λ (x : Verdict). packVerdict x deepest) (sym e)
+by : (deepest : ℕ) {v w : Verdict} → v ≡ w → pack_verdict w deepest ≡ pack_verdict v deepest
+by deepest e = ap (λ (x : Verdict). pack_verdict x deepest) (sym e)
 
-pub pack-verdict-spec : {M : Type 1} → statement M
-pack-verdict-spec =
+pub pack_verdict_spec : {M : Type 1} → statement M
+pack_verdict_spec =
     tie.close
     (tie.spec
     (λ c. search rules)  -- enum-known-v

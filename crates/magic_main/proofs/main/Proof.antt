@@ -1,6 +1,6 @@
 -- `magic_main::main` is safe and ends: what was printed lies in the buffer.
 use borrow.Author.Rules.{rules}
-use Rattle.report.proofs.PrintLaws.{printed-within, printed-size}
+use Rattle.report.proofs.PrintLaws.{printed_within, printed_size}
 use Rattle.magic_main.proofs.main.Statement.{statement}
 use Rattle.magic_main.proofs.main.Tie as tie
 
@@ -13,7 +13,7 @@ main_spec =
     (λ c. search rules)  -- array-share-prefix-text
     (λ c. search rules)  -- slice-aggregate-print-magic
     (λ c κs. search rules)  -- print-magic-requires
-    (λ c. printed-within _ _ _ c.print-magic.ensures)  -- array-share-prefix-out
-    (λ c. printed-size _ _ _ c.before.print-magic.ensures)  -- slice-aggregate-write-all
+    (λ c. printed_within _ _ _ c.print-magic.ensures)  -- array-share-prefix-out
+    (λ c. printed_size _ _ _ c.before.print-magic.ensures)  -- slice-aggregate-write-all
     (λ c κs. search rules)  -- write-all-requires
     (λ c. search rules))  -- returns

@@ -11,8 +11,8 @@ invariant-loop c k₀ k = k ≤ 5
 abbrev decreases-loop : tie.decreases-loop
 decreases-loop c k₀ k = 5 - k
 
-pub print-powers-spec : {M : Type 1} → statement M
-print-powers-spec =
+pub print_powers_spec : {M : Type 1} → statement M
+print_powers_spec =
     tie.close
     (tie.spec
     invariant-loop

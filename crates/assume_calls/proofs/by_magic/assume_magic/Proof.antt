@@ -6,8 +6,8 @@ use borrow.Author.Rules.{rules}
 use lib.Dec.{ltb}
 use lib.ListN.{length}
 use lib.Seq.{length-take-le}
-use Rattle.assuming.specs.contracts.Made.{callRefusal}
-use Rattle.assuming.proofs.RunLaws.{refused_says, facts-taken, magic-refused, magic-lent, magic-lawful, magic-says, magic-leaves, refused-rules}
+use Rattle.assuming.specs.terms.Made.{call_refusal}
+use Rattle.assuming.proofs.RunLaws.{refused_says, facts_taken, magic_refused, magic_lent, magic_lawful, magic_says, magic_leaves, refused_rules}
 use Rattle.assume_calls.proofs.by_magic.assume_magic.Statement.{statement}
 use Rattle.assume_calls.proofs.by_magic.assume_magic.Tie as tie
 
@@ -18,26 +18,26 @@ start c = c.before.before.before.before.before.before.before
 -- the number that it is refused by, or 0
 told : (c : tie.After-refused) → (
     let a = (start c).args in
-    c.refused.result ≡ callRefusal a.table.now a.facts.now (ltb (length a.rules.now) 16384 || ltb (length a.answer.now) 1024 || ltb (length a.work.now) 65536))
-told c = let a = (start c).args in c.refused.ensures ∙ ap (callRefusal a.table.now a.facts.now) c.before.any-too-small.ensures
+    c.refused.result ≡ call_refusal a.table.now a.facts.now (ltb (length a.rules.now) 16384 || ltb (length a.answer.now) 1024 || ltb (length a.work.now) 65536))
+told c = let a = (start c).args in c.refused.ensures ∙ ap (call_refusal a.table.now a.facts.now) c.before.any-too-small.ensures
 
 -- past the refusals the buffers are long enough
 lent : (c : tie.Else1) → (let a = (start c.before).args in (4096 ≤ length a.table.now) × (16384 ≤ length a.rules.now) × (65536 ≤ length a.work.now))
 lent c =
     let a = (start c.before).args in
-    magic-lent a.table.now a.facts.now a.rules.now a.answer.now a.work.now _ (told c.before) c.if1.false
+    magic_lent a.table.now a.facts.now a.rules.now a.answer.now a.work.now _ (told c.before) c.if1.false
 
-pub assume-magic-spec : {M : Type 1} → statement M
-assume-magic-spec =
+pub assume_magic_spec : {M : Type 1} → statement M
+assume_magic_spec =
     tie.close
     (tie.spec
     (λ c κs. search rules)  -- any-too-small-requires
     (λ c κs. search rules)  -- refused-requires
     (λ c.
     let a = c.before.before.before.before.before.before.before.before.args in
-    let declined = magic-refused a.table.now a.facts.now a.rules.now a.answer.now a.work.now _ (told c.before) c.if1.true in
+    let declined = magic_refused a.table.now a.facts.now a.rules.now a.answer.now a.work.now _ (told c.before) c.if1.true in
     let says = refused_says _ a.first.now a.second.now a.work.now _ declined in
-    (says.0, says.1, says.2, refused-rules a.table.now a.facts.now a.rules.now _ _ declined, says.3))  -- returns
+    (says.0, says.1, says.2, refused_rules a.table.now a.facts.now a.rules.now _ _ declined, says.3))  -- returns
     (λ c. sym (length-take-le 4096 c.before.before.before.before.before.before.before.before.before.args.table.now (lent c.before).0))  -- slice-aggregate-run-both
     (λ c. (lent c.before).1)  -- slice-relend-prefix-run-both
     (λ c. sym (length-take-le 16384 c.before.before.before.before.before.before.before.before.before.before.args.rules.now (lent c.before.before).1))  -- slice-aggregate-run-both-2
@@ -48,14 +48,14 @@ assume-magic-spec =
     let e = c.before.before.before in
     let t = told e.before in
     let l = e.if1.false in
-    let lawful = magic-lawful a.table.now a.facts.now a.rules.now a.answer.now a.work.now _ t l in
-    (lawful, (facts-taken a.table.now a.facts.now _ _ t l, length-take-le 16384 a.rules.now (lent e).1, length-take-le 65536 a.work.now (lent e).2)))  -- run-both-requires
+    let lawful = magic_lawful a.table.now a.facts.now a.rules.now a.answer.now a.work.now _ t l in
+    (lawful, (facts_taken a.table.now a.facts.now _ _ t l, length-take-le 16384 a.rules.now (lent e).1, length-take-le 65536 a.work.now (lent e).2)))  -- run-both-requires
     (λ c. search rules)  -- same-length
     (λ c. search rules)  -- same-length-2
     (λ c.
     let a = c.before.before.before.before.before.before.before.before.before.before.before.before.before.before.before.before.args in
     let e = c.before.before.before.before.before.before.before.before in
     let u = c.before.before.before.before.run-both in
-    let says = magic-says a.table.now a.facts.now a.rules.now a.answer.now a.work.now _ (told e.before) e.if1.false u.result _ _ u.ensures.0 u.ensures.1 a.first.now a.second.now in
-    let rules = magic-leaves a.table.now a.facts.now a.rules.now a.answer.now a.work.now _ (told e.before) e.if1.false u.result _ _ u.ensures.0 u.ensures.1 in
+    let says = magic_says a.table.now a.facts.now a.rules.now a.answer.now a.work.now _ (told e.before) e.if1.false u.result _ _ u.ensures.0 u.ensures.1 a.first.now a.second.now in
+    let rules = magic_leaves a.table.now a.facts.now a.rules.now a.answer.now a.work.now _ (told e.before) e.if1.false u.result _ _ u.ensures.0 u.ensures.1 in
     (says.0, says.1, says.2, rules, says.3)))  -- returns-2

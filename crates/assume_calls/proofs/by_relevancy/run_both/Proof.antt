@@ -5,17 +5,17 @@ use mathlib.Core.Path.{sym, ap, ◌∙◌}
 use native.Mathlib.Omega.{arith}
 use borrow.Author.Rules.{rules}
 use lib.ListN.{length, length-replicate}
-use Rattle.ground.specs.Verdict.{verdictOf}
-use Rattle.relevancy.specs.Engine.{outcomeIn}
-use Rattle.adding.proofs.AppendLaws.{table-size}
-use Rattle.assuming.specs.Assume.{assumedTable}
-use Rattle.assuming.proofs.FactLaws.{copied-lawful, copied-addable, copied-longer, copied-longer-lawful}
-use Rattle.assuming.proofs.RunLaws.{made-once, made-twice}
+use Rattle.ground.specs.Verdict.{verdict_of}
+use Rattle.relevancy.specs.Engine.{outcome_in}
+use Rattle.adding.proofs.AppendLaws.{table_size}
+use Rattle.assuming.specs.Assume.{assumed_table}
+use Rattle.assuming.proofs.FactLaws.{copied_lawful, copied_addable, copied_longer, copied_longer_lawful}
+use Rattle.assuming.proofs.RunLaws.{made_once, made_twice}
 use Rattle.assume_calls.proofs.by_relevancy.run_both.Statement.{statement}
 use Rattle.assume_calls.proofs.by_relevancy.run_both.Tie as tie
 
-pub run-both-spec : {M : Type 1} → statement M
-run-both-spec =
+pub run_both_spec : {M : Type 1} → statement M
+run_both_spec =
     tie.close
     (tie.spec
     (λ c κs. search rules)  -- verdict-of-requires
@@ -27,18 +27,18 @@ run-both-spec =
     let v = c.before.before.before.before.before.verdict-of in
     let t = c.once.ensures in
     let tb = s.args.table.now in
-    (made-once (outcomeIn tb) (outcomeIn (assumedTable tb s.args.facts.now)) v.result v.ensures.0 c.once.result t.1 (sym c.before.before.is-refuted.ensures ∙ c.before.if1.true) t.0 t.2, v.ensures.1))  -- returns
+    (made_once (outcome_in tb) (outcome_in (assumed_table tb s.args.facts.now)) v.result v.ensures.0 c.once.result t.1 (sym c.before.before.is-refuted.ensures ∙ c.before.if1.true) t.0 t.2, v.ensures.1))  -- returns
     (λ c. search rules)  -- slice-aggregate-copy
-    (λ c κs. let s = c.before.before.before.before.before.before.before.before.before.before in omega (arith, table-size _ s.requires.0, length-replicate {A = ℕ} 4096 0))  -- copy-requires
+    (λ c κs. let s = c.before.before.before.before.before.before.before.before.before.before in omega (arith, table_size _ s.requires.0, length-replicate {A = ℕ} 4096 0))  -- copy-requires
     (λ c. search rules)  -- slice-aggregate-add-facts
     (λ c κs.
     let s = c.before.before.before.before.before.before.before.before.before.before.before.before.before in
     let e = c.before.before.copy.ensures in
-    (copied-lawful _ _ s.requires.0 s.requires.1.0 _ e, copied-addable _ _ s.requires.0 s.requires.1.0 _ e))  -- add-facts-requires
+    (copied_lawful _ _ s.requires.0 s.requires.1.0 _ e, copied_addable _ _ s.requires.0 s.requires.1.0 _ e))  -- add-facts-requires
     (λ c. search rules)  -- slice-aggregate-verdict-of
     (λ c κs.
     let s = c.before.before.before.before.before.before.before.before.before.before.before.before.before.before.before.before.before in
-    (copied-longer-lawful _ _ s.requires.0 s.requires.1.0 _ c.before.before.before.before.before.before.copy.ensures _ c.before.before.before.add-facts.ensures, ap length c.before.before.before.before.before.before.before.before.before.before.before.before.verdict-of.ensures.1 ∙ length-replicate {A = ℕ} 65536 0))  -- verdict-of-requires-2
+    (copied_longer_lawful _ _ s.requires.0 s.requires.1.0 _ c.before.before.before.before.before.before.copy.ensures _ c.before.before.before.add-facts.ensures, ap length c.before.before.before.before.before.before.before.before.before.before.before.before.verdict-of.ensures.1 ∙ length-replicate {A = ℕ} 65536 0))  -- verdict-of-requires-2
     (λ c κs. search rules)  -- twice-requires
     (λ c. search rules)  -- same-length-2
     (λ c.
@@ -48,6 +48,6 @@ run-both-spec =
     let t = c.twice.ensures in
     let tb = s.args.table.now in
     let facts = s.args.facts.now in
-    let longer = copied-longer tb facts s.requires.0 s.requires.1.0 _ c.before.before.before.before.before.before.before.before.before.before.copy.ensures _ c.before.before.before.before.before.before.before.add-facts.ensures in
-    let second = w.ensures.0 ∙ ap (λ (l : List ℕ). verdictOf (outcomeIn l)) longer in
-    (made-twice (outcomeIn tb) (outcomeIn (assumedTable tb facts)) v.result v.ensures.0 c.twice.result t.1 (sym c.before.before.before.before.before.before.before.before.before.before.before.before.before.is-refuted.ensures ∙ c.before.before.before.before.before.before.before.before.before.before.before.before.if1.false) w.result second t.0 t.2, w.ensures.1)))  -- returns-2
+    let longer = copied_longer tb facts s.requires.0 s.requires.1.0 _ c.before.before.before.before.before.before.before.before.before.before.copy.ensures _ c.before.before.before.before.before.before.before.add-facts.ensures in
+    let second = w.ensures.0 ∙ ap (λ (l : List ℕ). verdict_of (outcome_in l)) longer in
+    (made_twice (outcome_in tb) (outcome_in (assumed_table tb facts)) v.result v.ensures.0 c.twice.result t.1 (sym c.before.before.before.before.before.before.before.before.before.before.before.before.before.is-refuted.ensures ∙ c.before.before.before.before.before.before.before.before.before.before.before.before.if1.false) w.result second t.0 t.2, w.ensures.1)))  -- returns-2

@@ -4,20 +4,20 @@ use mathlib.Core.Bool.{false}
 use mathlib.Core.Path.{◌≡◌, refl}
 use native.Mathlib.Omega.{arith}
 use lib.ListN.{take}
-use Rattle.lists.specs.Key.{natKey}
+use Rattle.lists.specs.Key.{nat_key}
 use Rattle.lists.specs.Member.{has}
-use Rattle.ground.proofs.BranchLaws.{seen_more, seen-there}
+use Rattle.ground.proofs.BranchLaws.{seen_more, seen_there}
 use Rattle.ground.proofs.branch.fresh.Statement.{statement}
 use Rattle.ground.proofs.branch.fresh.Tie as tie
 
 abbrev invariant-loop : tie.invariant-loop
-invariant-loop seen n a j₀ j = (has natKey (take j seen) a ≡ false) × (j ≤ n)
+invariant-loop seen n a j₀ j = (has nat_key (take j seen) a ≡ false) × (j ≤ n)
 
 abbrev decreases-loop : tie.decreases-loop
 decreases-loop seen n a j₀ j = n - j
 
-pub fresh-spec : {M : Type 1} → statement M
-fresh-spec =
+pub fresh_spec : {M : Type 1} → statement M
+fresh_spec =
     tie.close
     (tie.spec
     invariant-loop
@@ -28,7 +28,7 @@ fresh-spec =
     (λ c.
     let l = c.before.before.before.loop in
     let s = c.before.before.before.before in
-    rw (seen-there s.args.seen.now s.args.a l.j s.args.n c.before.before.loop-test.true (omega (arith, s.requires)) c.if1.true))  -- returns
+    rw (seen_there s.args.seen.now s.args.a l.j s.args.n c.before.before.loop-test.true (omega (arith, s.requires)) c.if1.true))  -- returns
     (λ c. let s = c.before.before.before.before in omega (arith, s.requires.1, c.before.before.loop-test.true))  -- add-j
     (λ c. omega (arith, c.before.before.loop-test.true))  -- loop-less
     (λ c.

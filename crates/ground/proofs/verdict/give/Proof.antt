@@ -6,14 +6,14 @@ use native.Mathlib.Omega.{arith}
 use lib.ListN.{length, drop, set, length-set}
 use Rattle.lists.specs.Tabulate.{tabulate}
 use Rattle.lists.specs.Bytes.{bit}
-use Rattle.ground.specs.contracts.Chosen.{chosenBit}
-use Rattle.ground.proofs.VerdictLaws.{give-more}
+use Rattle.ground.specs.terms.Chosen.{chosen_bit}
+use Rattle.ground.proofs.VerdictLaws.{give_more}
 use Rattle.ground.proofs.verdict.give.Statement.{statement}
 use Rattle.ground.proofs.verdict.give.Tie as tie
 
 abbrev invariant-loop : tie.invariant-loop
 invariant-loop work answer₀ atoms a₀ answer a =
-    (a ≤ atoms) × (answer ≡ map bit (tabulate (chosenBit work) a) ++ drop a answer₀) × (length answer ≡ length answer₀)
+    (a ≤ atoms) × (answer ≡ map bit (tabulate (chosen_bit work) a) ++ drop a answer₀) × (length answer ≡ length answer₀)
 
 abbrev decreases-loop : tie.decreases-loop
 decreases-loop work answer₀ atoms a₀ answer a = atoms - a
@@ -36,8 +36,8 @@ give_spec =
     let room : l.a + 1 ≤ length answer = omega arith in (
       omega arith,
       ap (λ (b : ℕ). set l.answer l.a b) c.in-model.ensures
-          ∙ ap (λ (r : List ℕ). set r l.a (bit (chosenBit s.args.work.now l.a))) l.invariant.1
-          ∙ give-more (chosenBit s.args.work.now) answer l.a (omega arith),
+          ∙ ap (λ (r : List ℕ). set r l.a (bit (chosen_bit s.args.work.now l.a))) l.invariant.1
+          ∙ give_more (chosen_bit s.args.work.now) answer l.a (omega arith),
       simp length-set l.invariant.2,
     ))  -- loop-again
     (λ c. c.before.loop.invariant.2)  -- same-length

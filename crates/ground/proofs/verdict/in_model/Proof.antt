@@ -6,8 +6,8 @@ use Rattle.lists.specs.Bytes.{is_set}
 use Rattle.ground.proofs.verdict.in_model.Statement.{statement}
 use Rattle.ground.proofs.verdict.in_model.Tie as tie
 
-pub in-model-spec : {M : Type 1} → statement M
-in-model-spec =
+pub in_model_spec : {M : Type 1} → statement M
+in_model_spec =
     tie.close
     (tie.spec
     (λ c κs. search rules)

@@ -6,7 +6,7 @@ use borrow.Author.Rules.{rules}
 use lib.Dec.{ltb}
 use lib.ListN.{take, drop}
 use Rattle.lists.specs.Member.{every}
-use Rattle.judging.proofs.CheckLoops.{below_more, below-stop, below_end}
+use Rattle.judging.proofs.CheckLoops.{below_more, below_stop, below_end}
 use Rattle.judging.proofs.how_far.are_constants.Statement.{statement}
 use Rattle.judging.proofs.how_far.are_constants.Tie as tie
 
@@ -16,8 +16,8 @@ invariant-loop values v c i₀ i = (i ≤ v) × (every (λ d. ltb d c) (take v v
 abbrev decreases-loop : tie.decreases-loop
 decreases-loop values v c i₀ i = v - i
 
-pub are-constants-spec : {M : Type 1} → statement M
-are-constants-spec =
+pub are_constants_spec : {M : Type 1} → statement M
+are_constants_spec =
     tie.close
     (tie.spec
     invariant-loop
@@ -29,7 +29,7 @@ are-constants-spec =
     (λ c.
     let l = c.before.before.before.loop in
     let s = c.before.before.before.before in
-    sym (l.invariant.1 ∙ below-stop s.args.c s.args.values.now s.args.v (omega arith) l.i (omega arith) (omega arith)))  -- returns
+    sym (l.invariant.1 ∙ below_stop s.args.c s.args.values.now s.args.v (omega arith) l.i (omega arith) (omega arith)))  -- returns
     (λ c. omega arith)  -- add-i
     (λ c. omega arith)  -- loop-less
     (λ c.

@@ -7,35 +7,35 @@ use borrow.Author.Tests.{ltb-false}
 use lib.Dec.{ltb}
 use lib.ListN.{length, take}
 use lib.Seq.{length-take-le}
-use Rattle.problem.proofs.Theorems.{valid-table}
+use Rattle.problem.proofs.Theorems.{valid_table}
 use Rattle.writing.proofs.LentLaws.{Taken}
 use Rattle.judging.specs.declared.how_far.Holding.TheVariants.{Unheld}
-use Rattle.judging.specs.Holding.{holdingNamed, holdingResult}
-use Rattle.judging.proofs.CheckLoops.{unjudged-says, judged-says, judged-good}
+use Rattle.judging.specs.Holding.{holding_named, holding_result}
+use Rattle.judging.proofs.CheckLoops.{unjudged_says, judged_says, judged_good}
 use Rattle.judging.proofs.how_far.how_far.Statement.{statement}
 use Rattle.judging.proofs.how_far.how_far.Tie as tie
 
 -- what is not refused
 good : (c : tie.Else1) → (let a = c.before.before.before.before.args in Taken a.table.now (ltb (length a.answer.now) 1024))
-good c = let a = c.before.before.before.before.args in judged-good a.table.now a.answer.now _ c.before.refused.ensures (omega arith)
+good c = let a = c.before.before.before.before.args in judged_good a.table.now a.answer.now _ c.before.refused.ensures (omega arith)
 
-pub how-far-spec : {M : Type 1} → statement M
-unfolding holdingResult
-how-far-spec =
+pub how_far_spec : {M : Type 1} → statement M
+unfolding holding_result
+how_far_spec =
     tie.close
     (tie.spec
     (λ c κs. search rules)  -- refused-requires
     (λ c.
     let a = c.before.before.before.before.args in
-    unjudged-says a.table.now a.answer.now _ c.before.refused.ensures (λ e. Unheld e)
-    (λ q. holdingNamed q a.answer.now a.clause (a.a ∷ a.b ∷ a.c ∷ a.d ∷ [])) (omega arith))  -- returns
+    unjudged_says a.table.now a.answer.now _ c.before.refused.ensures (λ e. Unheld e)
+    (λ q. holding_named q a.answer.now a.clause (a.a ∷ a.b ∷ a.c ∷ a.d ∷ [])) (omega arith))  -- returns
     (λ c. sym (length-take-le 4096 c.before.before.before.before.before.args.table.now (good c.before).long))  -- slice-aggregate-held
     (λ c κs.
     let a = c.before.before.before.before.before.args in
     let t = good c.before in
-    (valid-table (take 4096 a.table.now) t.valid, ltb-false (length a.answer.now) 1024 t.room))  -- held-requires
+    (valid_table (take 4096 a.table.now) t.valid, ltb-false (length a.answer.now) 1024 t.room))  -- held-requires
     (λ c.
     let a = c.before.before.before.before.before.before.args in
     c.held.ensures
-    ∙ judged-says a.table.now a.answer.now _ c.before.before.before.refused.ensures (omega arith) (λ e. Unheld e)
-    (λ q. holdingNamed q a.answer.now a.clause (a.a ∷ a.b ∷ a.c ∷ a.d ∷ []))))  -- returns-2
+    ∙ judged_says a.table.now a.answer.now _ c.before.before.before.refused.ensures (omega arith) (λ e. Unheld e)
+    (λ q. holding_named q a.answer.now a.clause (a.a ∷ a.b ∷ a.c ∷ a.d ∷ []))))  -- returns-2

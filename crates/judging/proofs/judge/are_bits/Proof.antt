@@ -5,7 +5,7 @@ use native.Mathlib.Omega.{arith}
 use lib.Dec.{ltb}
 use lib.ListN.{take, drop}
 use Rattle.lists.specs.Member.{every}
-use Rattle.judging.proofs.CheckLoops.{below_more, below-stop, below_end}
+use Rattle.judging.proofs.CheckLoops.{below_more, below_stop, below_end}
 use Rattle.judging.proofs.judge.are_bits.Statement.{statement}
 use Rattle.judging.proofs.judge.are_bits.Tie as tie
 
@@ -15,8 +15,8 @@ invariant-loop answer n i₀ i = (i ≤ n) × (every (λ b. ltb b 2) (take n ans
 abbrev decreases-loop : tie.decreases-loop
 decreases-loop answer n i₀ i = n - i
 
-pub are-bits-spec : {M : Type 1} → statement M
-are-bits-spec =
+pub are_bits_spec : {M : Type 1} → statement M
+are_bits_spec =
     tie.close
     (tie.spec
     invariant-loop
@@ -26,7 +26,7 @@ are-bits-spec =
     (λ c.
     let l = c.before.before.before.loop in
     let s = c.before.before.before.before in
-    sym (l.invariant.1 ∙ below-stop 2 s.args.answer.now s.args.n s.requires l.i c.before.before.loop-test.true c.if1.true))  -- returns
+    sym (l.invariant.1 ∙ below_stop 2 s.args.answer.now s.args.n s.requires l.i c.before.before.loop-test.true c.if1.true))  -- returns
     (λ c. omega arith)  -- add-i
     (λ c. omega arith)  -- loop-less
     (λ c.

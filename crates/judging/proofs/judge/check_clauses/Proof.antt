@@ -5,14 +5,14 @@ use mathlib.Core.Path.{◌≡◌, sym, ap, ◌∙◌}
 use native.Mathlib.Omega.{arith}
 use borrow.Author.Rules.{rules}
 use denote.Enum.Declared.{tag_of}
-use Rattle.problem.specs.Layout.{problemIn}
+use Rattle.problem.specs.Layout.{problem_in}
 use Rattle.judging.specs.declared.judge.Judging.{Judging}
 use Rattle.judging.specs.declared.judge.Judging.TheVariants.{Violated}
 use Rattle.judging.specs.contracts.judge.Judging.{the_type}
-use Rattle.ground.proofs.AtomLaws.{table-size}
+use Rattle.ground.proofs.AtomLaws.{table_size}
 use Rattle.judging.specs.ModelCheck.{violates}
-use Rattle.ground.proofs.Turns.{Undecided, clauses-byte, clause-listed, clauses-start}
-use Rattle.judging.proofs.CheckLoops.{check-on, check-stop, check-end}
+use Rattle.ground.proofs.Turns.{Undecided, clauses_byte, clause_listed, clauses_start}
+use Rattle.judging.proofs.CheckLoops.{check_on, check_stop, check_end}
 use Rattle.judging.proofs.judge.check_clauses.Statement.{statement}
 use Rattle.judging.proofs.judge.check_clauses.Tie as tie
 
@@ -22,23 +22,23 @@ other o (inl t) j a b c d e = let z : ◌≡◌ {A = ℕ} 2 0 = sym (ap (tag_of 
 other o (inr t) j a b c d e = let z : ◌≡◌ {A = ℕ} 2 1 = sym (ap (tag_of the_type) e) ∙ t in omega arith
 
 abbrev invariant-loop : tie.invariant-loop
-invariant-loop table flags count k₀ k = (k ≤ count) × Undecided (problemIn table) (violates (problemIn table) flags) k
+invariant-loop table flags count k₀ k = (k ≤ count) × Undecided (problem_in table) (violates (problem_in table) flags) k
 
 abbrev decreases-loop : tie.decreases-loop
 decreases-loop table flags count k₀ k = count - k
 
-pub check-clauses-spec : {M : Type 1} → statement M
-check-clauses-spec =
+pub check_clauses_spec : {M : Type 1} → statement M
+check_clauses_spec =
     tie.close
     (tie.spec
     invariant-loop
     decreases-loop
     (λ c.
     let s = c.before.before.before in
-    omega (arith, table-size s.args.table.now s.requires.0))  -- shared-slice-read-count
+    omega (arith, table_size s.args.table.now s.requires.0))  -- shared-slice-read-count
     (λ c.
     let s = c.before.before.before in
-    (omega arith, clauses-start (problemIn s.args.table.now) (violates (problemIn s.args.table.now) s.args.flags.now)))  -- loop-holds
+    (omega arith, clauses_start (problem_in s.args.table.now) (violates (problem_in s.args.table.now) s.args.flags.now)))  -- loop-holds
     (λ c κs.
     let s = c.before.before.before.before.before in
     (s.requires.0, (c.loop-test.true, s.requires.1)))  -- check-clause-requires
@@ -49,11 +49,11 @@ check-clauses-spec =
     let s = r.before.before.before.before.before.before in
     let tb = s.args.table.now in
     sym
-    (check-stop (problemIn tb) s.args.flags.now l.k (clause-listed tb s.requires.0 l.k r.before.loop-test.true) l.invariant.1 _ _ _ _ _
+    (check_stop (problem_in tb) s.args.flags.now l.k (clause_listed tb s.requires.0 l.k r.before.loop-test.true) l.invariant.1 _ _ _ _ _
     (sym r.check-clause.ensures ∙ c.before.judging.given.1)))  -- returns
     (λ c.
     let s = c.before.before.before.before.before.before.before in
-    omega (arith, clauses-byte s.args.table.now s.requires.0, s.requires.0.fits.clauses-fit))  -- add-k
+    omega (arith, clauses_byte s.args.table.now s.requires.0, s.requires.0.fits.clauses_fit))  -- add-k
     (λ c. omega arith)  -- loop-less
     (λ c.
     let r = c.before in
@@ -61,11 +61,11 @@ check-clauses-spec =
     let s = r.before.before.before.before.before.before in
     let tb = s.args.table.now in (
       omega arith,
-      check-on (problemIn tb) s.args.flags.now l.k (clause-listed tb s.requires.0 l.k r.before.loop-test.true) l.invariant.1
+      check_on (problem_in tb) s.args.flags.now l.k (clause_listed tb s.requires.0 l.k r.before.loop-test.true) l.invariant.1
           (λ j v₀ v₁ v₂ v₃ e. other r.check-clause.result c.match.keys2 j v₀ v₁ v₂ v₃ (r.check-clause.ensures ∙ e)),
     ))  -- loop-again
     (λ c.
     let l = c.before.loop in
     let s = c.before.before.before.before.before in
     let tb = s.args.table.now in
-    sym (check-end (problemIn tb) s.args.flags.now l.k (omega (arith, clauses-byte tb s.requires.0)) l.invariant.1)))  -- returns-2
+    sym (check_end (problem_in tb) s.args.flags.now l.k (omega (arith, clauses_byte tb s.requires.0)) l.invariant.1)))  -- returns-2

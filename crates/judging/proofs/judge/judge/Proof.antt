@@ -6,31 +6,31 @@ use borrow.Author.Tests.{ltb-false}
 use lib.Dec.{ltb}
 use lib.ListN.{length, take}
 use lib.Seq.{length-take-le}
-use Rattle.problem.proofs.Theorems.{valid-table}
+use Rattle.problem.proofs.Theorems.{valid_table}
 use Rattle.writing.proofs.LentLaws.{Taken}
 use Rattle.judging.specs.declared.judge.Judging.TheVariants.{Unjudged}
-use Rattle.judging.specs.ModelCheck.{checkOf, judgeResult}
-use Rattle.judging.proofs.CheckLoops.{unjudged-says, judged-says, judged-good}
+use Rattle.judging.specs.ModelCheck.{check_of, judge_result}
+use Rattle.judging.proofs.CheckLoops.{unjudged_says, judged_says, judged_good}
 use Rattle.judging.proofs.judge.judge.Statement.{statement}
 use Rattle.judging.proofs.judge.judge.Tie as tie
 
 -- what is not refused
 good : (c : tie.Else1) → (let a = c.before.before.before.before.args in Taken a.table.now (ltb (length a.answer.now) 1024))
-good c = let a = c.before.before.before.before.args in judged-good a.table.now a.answer.now _ c.before.refused.ensures (omega arith)
+good c = let a = c.before.before.before.before.args in judged_good a.table.now a.answer.now _ c.before.refused.ensures (omega arith)
 
-pub judge-spec : {M : Type 1} → statement M
-unfolding judgeResult
-judge-spec =
+pub judge_spec : {M : Type 1} → statement M
+unfolding judge_result
+judge_spec =
     tie.close
     (tie.spec
     (λ c κs. search rules)  -- refused-requires
-    (λ c. let a = c.before.before.before.before.args in unjudged-says a.table.now a.answer.now _ c.before.refused.ensures (λ e. Unjudged e) (λ q. checkOf q a.answer.now) (omega arith))  -- returns
+    (λ c. let a = c.before.before.before.before.args in unjudged_says a.table.now a.answer.now _ c.before.refused.ensures (λ e. Unjudged e) (λ q. check_of q a.answer.now) (omega arith))  -- returns
     (λ c. sym (length-take-le 4096 c.before.before.before.before.before.args.table.now (good c.before).long))  -- slice-aggregate-check-clauses
     (λ c κs.
     let a = c.before.before.before.before.before.args in
     let t = good c.before in
-    (valid-table (take 4096 a.table.now) t.valid, ltb-false (length a.answer.now) 1024 t.room))  -- check-clauses-requires
+    (valid_table (take 4096 a.table.now) t.valid, ltb-false (length a.answer.now) 1024 t.room))  -- check-clauses-requires
     (λ c.
     let a = c.before.before.before.before.before.before.args in
     c.check-clauses.ensures
-    ∙ judged-says a.table.now a.answer.now _ c.before.before.before.refused.ensures (omega arith) (λ e. Unjudged e) (λ q. checkOf q a.answer.now)))  -- returns-2
+    ∙ judged_says a.table.now a.answer.now _ c.before.before.before.refused.ensures (omega arith) (λ e. Unjudged e) (λ q. check_of q a.answer.now)))  -- returns-2

@@ -1,12 +1,12 @@
 -- `lutsamik::assume::lutsamik_assume_relevancy` meets its contract.
 use borrow.Author.Rules.{rules}
 use mathlib.Core.Path.{ap, ◌∙◌}
-use Rattle.lutsamik.specs.Pack.{packAssumed}
+use Rattle.lutsamik.specs.Pack.{pack_assumed}
 use Rattle.lutsamik.proofs.assume.lutsamik_assume_relevancy.Statement.{statement}
 use Rattle.lutsamik.proofs.assume.lutsamik_assume_relevancy.Tie as tie
 
-pub lutsamik-assume-relevancy-spec : {M : Type 1} → statement M
-lutsamik-assume-relevancy-spec =
+pub lutsamik_assume_relevancy_spec : {M : Type 1} → statement M
+lutsamik_assume_relevancy_spec =
     tie.close
     (tie.spec
     (λ c κs. search rules)  -- assume-relevancy-requires
@@ -14,4 +14,4 @@ lutsamik-assume-relevancy-spec =
     (λ c. search rules)  -- same-length
     (λ c.
     let said = c.before.before.before.assume-relevancy in
-    (c.pack-assumed.ensures ∙ ap packAssumed said.ensures.0, said.ensures.1, said.ensures.2, said.ensures.3)))  -- returns
+    (c.pack-assumed.ensures ∙ ap pack_assumed said.ensures.0, said.ensures.1, said.ensures.2, said.ensures.3)))  -- returns

@@ -2,16 +2,16 @@
 use borrow.Author.Rules.{rules}
 use mathlib.Core.Path.{◌≡◌, sym, ap, ◌∙◌}
 use Rattle.assuming.specs.declared.assume.Assumed.{Assumed}
-use Rattle.lutsamik.specs.Pack.{packAssumed}
+use Rattle.lutsamik.specs.Pack.{pack_assumed}
 use Rattle.lutsamik.proofs.assume.pack_assumed.Statement.{statement}
 use Rattle.lutsamik.proofs.assume.pack_assumed.Tie as tie
 
 -- as the variant that it is
-by : {a b : Assumed} → a ≡ b → packAssumed b ≡ packAssumed a
-by e = ap packAssumed (sym e)
+by : {a b : Assumed} → a ≡ b → pack_assumed b ≡ pack_assumed a
+by e = ap pack_assumed (sym e)
 
-pub pack-assumed-spec : {M : Type 1} → statement M
-pack-assumed-spec =
+pub pack_assumed_spec : {M : Type 1} → statement M
+pack_assumed_spec =
     tie.close
     (tie.spec
     (λ c. search rules)  -- enum-known-a

@@ -1,12 +1,12 @@
 -- `lutsamik::calls::begin_magic` meets its contract.
 use borrow.Author.Rules.{rules}
 use mathlib.Core.Path.{◌∙◌}
-use Rattle.lutsamik.proofs.CallLaws.{magic-packed}
+use Rattle.lutsamik.proofs.CallLaws.{magic_packed}
 use Rattle.lutsamik.proofs.calls.begin_magic.Statement.{statement}
 use Rattle.lutsamik.proofs.calls.begin_magic.Tie as tie
 
-pub begin-magic-spec : {M : Type 1} → statement M
-begin-magic-spec =
+pub begin_magic_spec : {M : Type 1} → statement M
+begin_magic_spec =
     tie.close
     (tie.spec
     (λ c κs. search rules)  -- begin-requires
@@ -17,4 +17,4 @@ begin-magic-spec =
     (λ c.
     let begin = c.before.before.before.before.before.before.before.begin in
     let packed = c.pack-moved.ensures in
-    (packed.0 ∙ magic-packed _ _ _ _ _ begin.ensures.0 begin.ensures.1, packed.1 ∙ begin.ensures.1, begin.ensures.2, begin.ensures.3, begin.ensures.4)))  -- returns
+    (packed.0 ∙ magic_packed _ _ _ _ _ begin.ensures.0 begin.ensures.1, packed.1 ∙ begin.ensures.1, begin.ensures.2, begin.ensures.3, begin.ensures.4)))  -- returns

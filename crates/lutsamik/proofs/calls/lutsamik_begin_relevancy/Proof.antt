@@ -9,7 +9,7 @@ use types.Run.{and_then, no_more}
 use denote.Triple.Spec.{triple_of}
 use denote.Triple.Table.{entered, cited}
 use Rattle.lutsamik.proofs.LocalLaws.{copied, relends}
-use Rattle.lutsamik.proofs.SessionLaws.{Passed, shared, lent, session-vals, vals, takes, turns, meets, Walking}
+use Rattle.lutsamik.proofs.SessionLaws.{Passed, shared, lent, session_vals, vals, takes, turns, meets, Walking}
 use Rattle.lutsamik.specs.contracts.calls.begin_relevancy as inner
 use Rattle.lutsamik.proofs.calls.begin_relevancy.Symbol as inner-def
 use Rattle.lutsamik.proofs.calls.begin_relevancy.Symbol.{name as #inner}
@@ -28,12 +28,12 @@ walk M 𝓤 𝓛 mem run 𝓣 known κs qs a g are bs was =
     takes 3 ps 𝓛 (outer.clauses 𝓛 mem run) 𝓣 κs qs a g ! was refl refl refl (
     relends ! 7 refl refl refl are.1.0.0.1.0 $
     relends ! 7 refl refl refl are.1.1.0.0.1.0 $
-    turns 3 ps 𝓛 (outer.clauses 𝓛 mem run) 𝓣 κs qs a g ! _ known ((κs.1, qs.1, tt, (a.0.now, a.1), (session-vals a.0.now, (vals 3 ps κs a).1)), tt) _ (id⊢ 𝓤 _) (λ v. id⊢ 𝓤 _)
+    turns 3 ps 𝓛 (outer.clauses 𝓛 mem run) 𝓣 κs qs a g ! _ known ((κs.1, qs.1, tt, (a.0.now, a.1), (session_vals a.0.now, (vals 3 ps κs a).1)), tt) _ (id⊢ 𝓤 _) (λ v. id⊢ 𝓤 _)
     (and_then ! (copied ! 5 refl) (and_then ! (copied ! 5 refl) (and_then ! (copied ! 5 refl) (and_then ! (copied ! 5 refl) (no_more !))))) refl refl (λ r. refl) (λ r. refl))
 
-pub lutsamik-begin-relevancy-spec : {M : Type 1} → stated.statement M
+pub lutsamik_begin_relevancy_spec : {M : Type 1} → stated.statement M
 unfolding code.routine tables_of
-lutsamik-begin-relevancy-spec 𝓤 𝓛 𝓜 𝓡 =
+lutsamik_begin_relevancy_spec 𝓤 𝓛 𝓜 𝓡 =
     entered 𝓤 𝓛.H (triple_of 𝓛 outer.signature (outer.spec 𝓛 𝓜.mem 𝓡.run))
     (tables 𝓤 𝓛.H 𝓜 𝓡 code.env).C (tables 𝓤 𝓛.H 𝓜 𝓡 code.env).Λ #outer code.function (code.unfolded 𝓤 𝓛.H 𝓜 𝓡)
     (meets 3 ps 𝓛 (outer.clauses 𝓛 𝓜.mem 𝓡.run) (tables_of 𝓤 𝓛.H 𝓜 (tables 𝓤 𝓛.H 𝓜 𝓡 code.env)) code.function refl (λ κs a typed bs. ((tt, tt), typed))

@@ -1,13 +1,13 @@
 -- `lutsamik::calls::resume_magic` meets its contract.
 use borrow.Author.Rules.{rules}
 use mathlib.Core.Path.{◌∙◌}
-use Rattle.magic.specs.Sessions.{magicResumed}
-use Rattle.lutsamik.proofs.CallLaws.{call-packed}
+use Rattle.magic.specs.Sessions.{magic_resumed}
+use Rattle.lutsamik.proofs.CallLaws.{call_packed}
 use Rattle.lutsamik.proofs.calls.resume_magic.Statement.{statement}
 use Rattle.lutsamik.proofs.calls.resume_magic.Tie as tie
 
-pub resume-magic-spec : {M : Type 1} → statement M
-resume-magic-spec =
+pub resume_magic_spec : {M : Type 1} → statement M
+resume_magic_spec =
     tie.close
     (tie.spec
     (λ c κs. search rules)  -- resume-requires
@@ -18,6 +18,6 @@ resume-magic-spec =
     (λ c.
     let resume = c.before.before.before.before.before.before.before.resume in
     let a = c.before.before.before.before.before.before.before.before.before.before.before.before.before.before.before.args in
-    let on = magicResumed a.session a.further a.table.now a.rules.now a.answer.now a.work.now in
+    let on = magic_resumed a.session a.further a.table.now a.rules.now a.answer.now a.work.now in
     let packed = c.pack-moved.ensures in
-    (packed.0 ∙ call-packed on a.session resume.ensures.0 resume.ensures.1, packed.1 ∙ resume.ensures.1, resume.ensures.2, resume.ensures.3, resume.ensures.4)))  -- returns
+    (packed.0 ∙ call_packed on a.session resume.ensures.0 resume.ensures.1, packed.1 ∙ resume.ensures.1, resume.ensures.2, resume.ensures.3, resume.ensures.4)))  -- returns

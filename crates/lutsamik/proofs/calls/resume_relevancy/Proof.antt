@@ -2,12 +2,12 @@
 use borrow.Author.Rules.{rules}
 use mathlib.Core.Path.{◌∙◌}
 use Rattle.relevancy.specs.Sessions.{resumed}
-use Rattle.lutsamik.proofs.CallLaws.{call-packed}
+use Rattle.lutsamik.proofs.CallLaws.{call_packed}
 use Rattle.lutsamik.proofs.calls.resume_relevancy.Statement.{statement}
 use Rattle.lutsamik.proofs.calls.resume_relevancy.Tie as tie
 
-pub resume-relevancy-spec : {M : Type 1} → statement M
-resume-relevancy-spec =
+pub resume_relevancy_spec : {M : Type 1} → statement M
+resume_relevancy_spec =
     tie.close
     (tie.spec
     (λ c κs. search rules)  -- resume-requires
@@ -19,4 +19,4 @@ resume-relevancy-spec =
     let a = c.before.before.before.before.before.before.before.before.before.before.before.args in
     let on = resumed a.session a.further a.table.now a.answer.now a.work.now in
     let packed = c.pack-moved.ensures in
-    (packed.0 ∙ call-packed on a.session resume.ensures.0 resume.ensures.1, packed.1 ∙ resume.ensures.1, resume.ensures.2, resume.ensures.3)))  -- returns
+    (packed.0 ∙ call_packed on a.session resume.ensures.0 resume.ensures.1, packed.1 ∙ resume.ensures.1, resume.ensures.2, resume.ensures.3)))  -- returns

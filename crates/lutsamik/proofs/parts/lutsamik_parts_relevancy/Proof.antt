@@ -1,16 +1,16 @@
 -- `lutsamik::parts::lutsamik_parts_relevancy` meets its contract.
 use mathlib.Core.Path.{ap, ◌∙◌}
 use borrow.Author.Rules.{rules}
-use Rattle.lutsamik.specs.Pack.{packParting}
+use Rattle.lutsamik.specs.Pack.{pack_parting}
 use Rattle.lutsamik.proofs.parts.lutsamik_parts_relevancy.Statement.{statement}
 use Rattle.lutsamik.proofs.parts.lutsamik_parts_relevancy.Tie as tie
 
-pub lutsamik-parts-relevancy-spec : {M : Type 1} → statement M
-lutsamik-parts-relevancy-spec =
+pub lutsamik_parts_relevancy_spec : {M : Type 1} → statement M
+lutsamik_parts_relevancy_spec =
     tie.close
     (tie.spec
     (λ c κs. search rules)  -- parts-relevancy-requires
     (λ c κs. search rules)  -- pack-parting-requires
     (λ c. search rules)  -- same-length
     (λ c. search rules)  -- same-length-2
-    (λ c. let u = c.before.before.before.before.before.parts-relevancy in (c.pack-parting.ensures ∙ ap packParting u.ensures.0, u.ensures.1, u.ensures.2, u.ensures.3)))  -- returns
+    (λ c. let u = c.before.before.before.before.before.parts-relevancy in (c.pack-parting.ensures ∙ ap pack_parting u.ensures.0, u.ensures.1, u.ensures.2, u.ensures.3)))  -- returns

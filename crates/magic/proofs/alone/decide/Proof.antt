@@ -3,16 +3,16 @@ use Prim.Native.Nat.{ℕ}
 use mathlib.Core.Path.{◌∙◌}
 use borrow.Author.Rules.{rules}
 use lib.ListN.{length-replicate}
-use Rattle.magic.proofs.EngineLaws.{no-facts}
+use Rattle.magic.proofs.EngineLaws.{no_facts}
 use Rattle.magic.proofs.alone.decide.Statement.{statement}
 use Rattle.magic.proofs.alone.decide.Tie as tie
 
-pub decide-spec : {M : Type 1} → statement M
-decide-spec =
+pub decide_spec : {M : Type 1} → statement M
+decide_spec =
     tie.close
     (tie.spec
     (λ c. search rules)  -- slice-aggregate-walk-whole
-    (λ c κs. let s = c.before.before.before.before.before in (s.requires.0, (no-facts, s.requires.1.1)))  -- walk-whole-requires
+    (λ c κs. let s = c.before.before.before.before.before in (s.requires.0, (no_facts, s.requires.1.1)))  -- walk-whole-requires
     (λ c. search rules)  -- slice-aggregate-reply
     (λ c κs.
     let s = c.before.before.before.before.before.before.before.before.before.before.before.before in

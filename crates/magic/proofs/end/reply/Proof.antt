@@ -4,11 +4,11 @@ use mathlib.Core.List.{List}
 use mathlib.Core.Path.{◌≡◌, refl, ◌∙◌}
 use native.Mathlib.Omega.{arith}
 use borrow.Author.Rules.{rules}
-use Rattle.rewriting.specs.Facts.{falseIn}
-use Rattle.session.proofs.EndLaws.{first-replied}
-use Rattle.magic_rule.proofs.RuledLaws.{ruled-headed, ruled-false}
-use Rattle.magic_walk.specs.contracts.Place.{magicWalker}
-use Rattle.magic_walk.proofs.TiedLaws.{magic-tied}
+use Rattle.rewriting.specs.Facts.{false_in}
+use Rattle.session.proofs.EndLaws.{first_replied}
+use Rattle.magic_rule.proofs.RuledLaws.{ruled_headed, ruled_false}
+use Rattle.magic_walk.specs.terms.Place.{magic_walker}
+use Rattle.magic_walk.proofs.TiedLaws.{magic_tied}
 use Rattle.magic.proofs.end.reply.Statement.{statement}
 use Rattle.magic.proofs.end.reply.Tie as tie
 
@@ -16,14 +16,14 @@ abbrev begun : tie.After-pair → tie.Start
 begun p = p.before.before.before.before.before.before.before
 
 -- the number of atoms is read from the rules
-atoms_are : (p : tie.After-pair) → p.pair.result ≡ falseIn (begun p).args.rules.now
-atoms_are p = let s = begun p in p.pair.ensures ∙ ruled-false s.args.rules.now s.pre.0
+atoms_are : (p : tie.After-pair) → p.pair.result ≡ false_in (begun p).args.rules.now
+atoms_are p = let s = begun p in p.pair.ensures ∙ ruled_false s.args.rules.now s.pre.0
 
-atoms-few : (p : tie.After-pair) → p.pair.result ≤ 1024
-atoms-few p = let s = begun p in omega (arith, atoms_are p, (ruled-headed s.args.rules.now s.pre.0).atoms)
+atoms_few : (p : tie.After-pair) → p.pair.result ≤ 1024
+atoms_few p = let s = begun p in omega (arith, atoms_are p, (ruled_headed s.args.rules.now s.pre.0).atoms)
 
-pub reply-spec : {M : Type 1} → statement M
-reply-spec =
+pub reply_spec : {M : Type 1} → statement M
+reply_spec =
     tie.close
     (tie.spec
     (λ c. omega (arith, c.before.before.before.before.before.requires.0.size))  -- shared-slice-read-pair
@@ -31,7 +31,7 @@ reply-spec =
     (λ c κs. search rules)  -- pair-requires
     (λ c κs.
     let p = c.before in
-    let few = atoms-few p in
+    let few = atoms_few p in
     let sizes = (begun p).requires.1.0 in
     (few, omega (arith, few, sizes.0), omega (arith, sizes.1)))  -- give-model-requires
     (λ c κs. search rules)  -- deepest-requires
@@ -44,5 +44,5 @@ reply-spec =
     let a = s.args in
     let bs : List ℕ = a.rules.now in
     let give = c.before.before.before.before.give-model in
-    first-replied (magicWalker bs) (magic-tied bs s.pre.0) a.limit a.limit refl a.walked a.facts.now a.path.now a.answer.now s.pre.1.1 (record { verdict = c.verdict-by.result; deepest = c.before.deepest.result })
+    first_replied (magic_walker bs) (magic_tied bs s.pre.0) a.limit a.limit refl a.walked a.facts.now a.path.now a.answer.now s.pre.1.1 (record { verdict = c.verdict-by.result; deepest = c.before.deepest.result })
     c.verdict-by.ensures c.before.deepest.ensures give.new.1.1.0 p.pair.result (atoms_are p) give.ensures))  -- returns

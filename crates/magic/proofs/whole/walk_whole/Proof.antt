@@ -3,14 +3,14 @@ use Prim.Native.Nat.{ℕ}
 use mathlib.Core.Path.{◌≡◌, subst, ◌∙◌}
 use native.Mathlib.Omega.{arith}
 use borrow.Author.Rules.{rules}
-use Rattle.walk.specs.contracts.Walker.{fromRoot}
-use Rattle.walk.specs.contracts.Walk.{Walks}
-use Rattle.magic_walk.specs.contracts.Place.{magicWalker}
+use Rattle.walk.specs.terms.Walker.{from_root}
+use Rattle.walk.specs.terms.Walk.{Walks}
+use Rattle.magic_walk.specs.terms.Place.{magic_walker}
 use Rattle.magic.proofs.whole.walk_whole.Statement.{statement}
 use Rattle.magic.proofs.whole.walk_whole.Tie as tie
 
-pub walk-whole-spec : {M : Type 1} → statement M
-walk-whole-spec =
+pub walk_whole_spec : {M : Type 1} → statement M
+walk_whole_spec =
     tie.close
     (tie.spec
     (λ c κs. search rules)  -- build-requires
@@ -22,8 +22,8 @@ walk-whole-spec =
     (λ c. search rules)  -- same-length-2
     (λ c.
     let s = c.before.before.before.before.before.before.before.before.before.before.before.before.before.before.before.before.before.before.before.before.before.before.before.before.before.before.before in
-    let w = magicWalker s.args.rules.now in
+    let w = magic_walker s.args.rules.now in
     let f = c.before.before.before.before.from-root in (
       c.before.before.before.before.before.before.before.before.root-alternatives.ensures,
-      subst (λ (d : ℕ). Walks w (fromRoot w d s.args.limit) f.result f.new.1.1.0 f.new.1.1.1.0) (c.before.before.before.before.before.before.before.before.before.before.before.before.before.before.root.ensures.2 ∙ c.before.before.before.before.before.before.before.before.before.before.before.before.before.before.before.before.before.before.before.before.bring.ensures.0) f.ensures,
+      subst (λ (d : ℕ). Walks w (from_root w d s.args.limit) f.result f.new.1.1.0 f.new.1.1.1.0) (c.before.before.before.before.before.before.before.before.before.before.before.before.before.before.root.ensures.2 ∙ c.before.before.before.before.before.before.before.before.before.before.before.before.before.before.before.before.before.before.before.before.bring.ensures.0) f.ensures,
     )))  -- returns

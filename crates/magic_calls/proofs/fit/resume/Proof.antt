@@ -7,24 +7,24 @@ use borrow.Author.Rules.{rules}
 use lib.Dec.{ltb}
 use lib.ListN.{length, take, drop}
 use lib.Seq.{length-take-le}
-use Rattle.store.proofs.Lent.{put-size}
-use Rattle.problem.proofs.Theorems.{valid-table}
-use Rattle.writing.specs.contracts.Lent.{refusalOf}
-use Rattle.ground.specs.Instance.{groundIn}
-use Rattle.rewriting.specs.Facts.{findIn}
-use Rattle.rewriting.specs.Rewrite.{rulesOver}
-use Rattle.session.specs.Calls.{calledIn}
+use Rattle.store.proofs.Lent.{put_size}
+use Rattle.problem.proofs.Theorems.{valid_table}
+use Rattle.writing.specs.terms.Lent.{refusal_of}
+use Rattle.ground.specs.Instance.{ground_in}
+use Rattle.rewriting.specs.Facts.{find_in}
+use Rattle.rewriting.specs.Rewrite.{rules_over}
+use Rattle.session.specs.Calls.{called_in}
 use Rattle.magic.proofs.EngineLaws.{AllTaken, unrefused}
 use Rattle.magic.proofs.FurtherLaws.{CallMade}
-use Rattle.magic.proofs.OperationLaws.{resume-refused, resume-runs}
+use Rattle.magic.proofs.OperationLaws.{resume_refused, resume_runs}
 use Rattle.magic_calls.proofs.fit.resume.Statement.{statement}
 use Rattle.magic_calls.proofs.fit.resume.Tie as tie
 
 -- the number that it is refused by, or 0
 lent : (c : tie.After-refusal) → (
     let a = c.before.before.before.before.before.before.args in
-    c.refusal.result ≡ refusalOf a.table.now (ltb (length a.rules.now) 16384 || ltb (length a.answer.now) 1024 || ltb (length a.work.now) 65536))
-lent c = let a = c.before.before.before.before.before.before.args in c.refusal.ensures ∙ ap (refusalOf a.table.now) c.before.any-too-small.ensures
+    c.refusal.result ≡ refusal_of a.table.now (ltb (length a.rules.now) 16384 || ltb (length a.answer.now) 1024 || ltb (length a.work.now) 65536))
+lent c = let a = c.before.before.before.before.before.before.args in c.refusal.ensures ∙ ap (refusal_of a.table.now) c.before.any-too-small.ensures
 
 -- all is taken
 good : (c : tie.Else1) → (let a = c.before.before.before.before.before.before.before.args in AllTaken a.table.now a.rules.now a.answer.now a.work.now)
@@ -33,29 +33,29 @@ good c =
     unrefused a.table.now a.rules.now a.answer.now a.work.now c.before.refusal.result (lent c.before) c.if1.false
 
 -- the parts lent are put back
-rules-whole : (u : tie.After-run-on) → (let xs = u.before.before.before.before.before.before.before.before.before.before.before.before.args.rules.now in length (u.run_on.new.1.1.1.0 ++ drop 16384 xs) ≡ length xs)
-rules-whole u =
+rules_whole : (u : tie.After-run-on) → (let xs = u.before.before.before.before.before.before.before.before.before.before.before.before.args.rules.now in length (u.run_on.new.1.1.1.0 ++ drop 16384 xs) ≡ length xs)
+rules_whole u =
     let xs : List ℕ = u.before.before.before.before.before.before.before.before.before.before.before.before.args.rules.now in
-    let l : 16384 ≤ length xs = (good u.before.before.before.before.before).rules-long in
+    let l : 16384 ≤ length xs = (good u.before.before.before.before.before).rules_long in
     let kept : length u.run_on.new.1.1.1.0 ≡ length (take 16384 xs) = u.run_on.auto.1.1.1.0 in
-    put-size 16384 (length xs) l xs refl u.run_on.new.1.1.1.0 (kept ∙ length-take-le 16384 xs l)
+    put_size 16384 (length xs) l xs refl u.run_on.new.1.1.1.0 (kept ∙ length-take-le 16384 xs l)
 
-work-whole : (u : tie.After-run-on) → (let xs = u.before.before.before.before.before.before.before.before.before.before.before.before.args.work.now in length (u.run_on.new.1.1.1.1.1.0 ++ drop 65536 xs) ≡ length xs)
-work-whole u =
+work_whole : (u : tie.After-run-on) → (let xs = u.before.before.before.before.before.before.before.before.before.before.before.before.args.work.now in length (u.run_on.new.1.1.1.1.1.0 ++ drop 65536 xs) ≡ length xs)
+work_whole u =
     let xs : List ℕ = u.before.before.before.before.before.before.before.before.before.before.before.before.args.work.now in
-    let l : 65536 ≤ length xs = (good u.before.before.before.before.before).work-long in
+    let l : 65536 ≤ length xs = (good u.before.before.before.before.before).work_long in
     let kept : length u.run_on.new.1.1.1.1.1.0 ≡ length (take 65536 xs) = u.run_on.auto.1.1.1.1.1.0 in
-    put-size 65536 (length xs) l xs refl u.run_on.new.1.1.1.1.1.0 (kept ∙ length-take-le 65536 xs l)
+    put_size 65536 (length xs) l xs refl u.run_on.new.1.1.1.1.1.0 (kept ∙ length-take-le 65536 xs l)
 
 -- what the run says and leaves, of the parts lent
 ran : (u : tie.After-run-on)
     → let a = u.before.before.before.before.before.before.before.before.before.before.before.before.args in
-    CallMade (calledIn (findIn (rulesOver (take 4096 a.table.now) (take 16384 a.rules.now))) (groundIn (take 4096 a.table.now)).atoms a.session a.further) a.session (take 4096 a.table.now) (take 16384 a.rules.now) a.answer.now
+    CallMade (called_in (find_in (rules_over (take 4096 a.table.now) (take 16384 a.rules.now))) (ground_in (take 4096 a.table.now)).atoms a.session a.further) a.session (take 4096 a.table.now) (take 16384 a.rules.now) a.answer.now
     (take 65536 a.work.now) u.run_on.result u.run_on.new.1.1.1.0 u.run_on.new.1.1.1.1.0 u.run_on.new.1.1.1.1.1.0
 ran u = u.run_on.ensures
 
-pub resume-spec : {M : Type 1} → statement M
-resume-spec =
+pub resume_spec : {M : Type 1} → statement M
+resume_spec =
     tie.close
     (tie.spec
     (λ c κs. search rules)  -- any-too-small-requires
@@ -64,21 +64,21 @@ resume-spec =
     (λ c.
     let a = c.before.before.before.before.before.before.before.before.args in
     let e = c.before.before in
-    resume-refused a.session a.table.now a.rules.now a.answer.now a.work.now a.further e.refusal.result (lent e) c.before.if1.true c.refused.result c.refused.ensures)  -- returns
-    (λ c. sym (length-take-le 4096 c.before.before.before.before.before.before.before.before.args.table.now (good c.before).table-long))  -- slice-aggregate-run-on
-    (λ c. (good c.before).rules-long)  -- slice-relend-prefix-run-on
-    (λ c. sym (length-take-le 16384 c.before.before.before.before.before.before.before.before.before.args.rules.now (good c.before.before).rules-long))  -- slice-aggregate-run-on-2
-    (λ c. (good c.before.before.before).work-long)  -- slice-relend-prefix-run-on-2
-    (λ c. sym (length-take-le 65536 c.before.before.before.before.before.before.before.before.before.before.before.args.work.now (good c.before.before.before.before).work-long))  -- slice-aggregate-run-on-3
+    resume_refused a.session a.table.now a.rules.now a.answer.now a.work.now a.further e.refusal.result (lent e) c.before.if1.true c.refused.result c.refused.ensures)  -- returns
+    (λ c. sym (length-take-le 4096 c.before.before.before.before.before.before.before.before.args.table.now (good c.before).table_long))  -- slice-aggregate-run-on
+    (λ c. (good c.before).rules_long)  -- slice-relend-prefix-run-on
+    (λ c. sym (length-take-le 16384 c.before.before.before.before.before.before.before.before.before.args.rules.now (good c.before.before).rules_long))  -- slice-aggregate-run-on-2
+    (λ c. (good c.before.before.before).work_long)  -- slice-relend-prefix-run-on-2
+    (λ c. sym (length-take-le 65536 c.before.before.before.before.before.before.before.before.before.before.before.args.work.now (good c.before.before.before.before).work_long))  -- slice-aggregate-run-on-3
     (λ c κs.
     let a = c.before.before.before.before.before.before.before.before.before.before.before.args in
     let t = good c.before.before.before.before in
-    (valid-table (take 4096 a.table.now) t.valid, (length-take-le 16384 a.rules.now t.rules-long, t.answer-long, length-take-le 65536 a.work.now t.work-long)))  -- run-on-requires
-    (λ c. rules-whole c.before.before.before.before.before.before)  -- same-length
+    (valid_table (take 4096 a.table.now) t.valid, (length-take-le 16384 a.rules.now t.rules_long, t.answer_long, length-take-le 65536 a.work.now t.work_long)))  -- run-on-requires
+    (λ c. rules_whole c.before.before.before.before.before.before)  -- same-length
     (λ c. c.before.before.before.before.before.before.run_on.auto.1.1.1.1.0)  -- same-length-2
-    (λ c. work-whole c.before.before.before.before.before.before)  -- same-length-3
+    (λ c. work_whole c.before.before.before.before.before.before)  -- same-length-3
     (λ c.
     let a = c.before.before.before.before.before.before.before.before.before.before.before.before.before.before.before.before.before.before.args in
     let u = c.before.before.before.before.before.before.run_on in
-    resume-runs a.session a.table.now a.rules.now a.answer.now a.work.now a.further (good c.before.before.before.before.before.before.before.before.before.before.before) u.result u.new.1.1.1.0 u.new.1.1.1.1.0 u.new.1.1.1.1.1.0
+    resume_runs a.session a.table.now a.rules.now a.answer.now a.work.now a.further (good c.before.before.before.before.before.before.before.before.before.before.before) u.result u.new.1.1.1.0 u.new.1.1.1.1.0 u.new.1.1.1.1.1.0
     (ran c.before.before.before.before.before.before)))  -- returns-2

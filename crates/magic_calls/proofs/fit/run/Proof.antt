@@ -7,18 +7,18 @@ use lib.ListN.{length, take, drop, replicate}
 use lib.Seq.{length-take-le}
 use borrow.Author.Rules.{rules}
 use Rattle.search.specs.Machine.{Outcome}
-use Rattle.search.specs.Session.{Session, firstSession}
-use Rattle.store.proofs.Lent.{put-size}
-use Rattle.problem.specs.Problem.{limitOf}
-use Rattle.problem.specs.Layout.{problemIn}
-use Rattle.ground.specs.Verdict.{verdictOf, answer_of}
-use Rattle.ground.proofs.AtomLaws.{table-size}
-use Rattle.ground.proofs.VerdictLaws.{limit-of}
-use Rattle.rewriting.specs.contracts.Ruled.{Ruled}
-use Rattle.rewriting.specs.Facts.{findIn}
-use Rattle.rewriting.specs.Rewrite.{rulesOver}
+use Rattle.search.specs.Session.{Session, first_session}
+use Rattle.store.proofs.Lent.{put_size}
+use Rattle.problem.specs.Problem.{limit_of}
+use Rattle.problem.specs.Layout.{problem_in}
+use Rattle.ground.specs.Verdict.{verdict_of, answer_of}
+use Rattle.ground.proofs.AtomLaws.{table_size}
+use Rattle.ground.proofs.VerdictLaws.{limit_of_lem}
+use Rattle.rewriting.specs.terms.Ruled.{Ruled}
+use Rattle.rewriting.specs.Facts.{find_in}
+use Rattle.rewriting.specs.Rewrite.{rules_over}
 use Rattle.session.specs.Record.{laid}
-use Rattle.magic.specs.Engine.{rulesOutcome, magicOutcome}
+use Rattle.magic.specs.Engine.{rules_outcome, magic_outcome}
 use Rattle.magic.proofs.EngineLaws.{ruled}
 use Rattle.magic_calls.proofs.fit.run.Statement.{statement}
 use Rattle.magic_calls.proofs.fit.run.Tie as tie
@@ -35,18 +35,18 @@ part : (s : tie.Start) → length (take 9227 s.args.work.now) ≡ 9227
 part s = length-take-le 9227 s.args.work.now (omega (arith, s.requires.1.2))
 
 whole : (d : tie.After-decide) → let s = begun d.before.before.before.before in length (d.decide.new.1.1.1.0 ++ drop 9227 s.args.work.now) ≡ 65536
-whole d = let s = begun d.before.before.before.before in put-size 9227 65536 (omega arith) s.args.work.now s.pre.1.2 d.decide.new.1.1.1.0 (d.decide.auto.1.1.1.0 ∙ part s)
+whole d = let s = begun d.before.before.before.before in put_size 9227 65536 (omega arith) s.args.work.now s.pre.1.2 d.decide.new.1.1.1.0 (d.decide.auto.1.1.1.0 ∙ part s)
 
 -- it walks by the rules written, under the table's limit
-same : (l : tie.After-limit-in) (X : Type 0) (f : List ℕ → ℕ → X) → let s = begun l in f (wrote l).write-rules.new.1.0 l.limit-in.result ≡ f (rulesOver s.args.table.now s.args.rules.now) (limitOf (problemIn s.args.table.now).limit)
-same l X f = ap₂ f (wrote l).write-rules.ensures.1 (l.limit-in.ensures ∙ limit-of (begun l).args.table.now)
+same : (l : tie.After-limit-in) (X : Type 0) (f : List ℕ → ℕ → X) → let s = begun l in f (wrote l).write-rules.new.1.0 l.limit-in.result ≡ f (rules_over s.args.table.now s.args.rules.now) (limit_of (problem_in s.args.table.now).limit)
+same l X f = ap₂ f (wrote l).write-rules.ensures.1 (l.limit-in.ensures ∙ limit_of_lem (begun l).args.table.now)
 
 pub run_spec : {M : Type 1} → statement M
 run_spec =
     tie.close
     (tie.spec
     (λ c κs. search rules)  -- write-rules-requires
-    (λ c κs. let s = c.before.before.before.before.before.before.before.before in table-size s.args.table.now s.requires.0)  -- limit-in-requires
+    (λ c κs. let s = c.before.before.before.before.before.before.before.before in table_size s.args.table.now s.requires.0)  -- limit-in-requires
     (λ c. search rules)  -- sub-decide
     (λ c. search rules)  -- part-decide-start
     (λ c. search rules)  -- part-decide-end
@@ -63,9 +63,9 @@ run_spec =
     let d = c.before.before.before.before.before.before.before.before in
     let l = d.before.before.before.before in
     let s = begun l in (
-      d.decide.ensures.0 ∙ ap verdictOf (same l Outcome rulesOutcome),
-      d.decide.ensures.1 ∙ ap laid (same l Session (λ bs. firstSession (findIn bs))),
+      d.decide.ensures.0 ∙ ap verdict_of (same l Outcome rules_outcome),
+      d.decide.ensures.1 ∙ ap laid (same l Session (λ bs. first_session (find_in bs))),
       (wrote l).write-rules.ensures.1,
-      d.decide.ensures.2 ∙ ap (λ (o : Outcome). answer_of o s.args.answer.now) (same l Outcome rulesOutcome),
+      d.decide.ensures.2 ∙ ap (λ (o : Outcome). answer_of o s.args.answer.now) (same l Outcome rules_outcome),
       c.before.before.zero.ensures ∙ ap (λ (m : ℕ). replicate m 0) (whole d),
     )))  -- returns

@@ -4,18 +4,18 @@ use mathlib.Core.Path.{◌≡◌, sym, ap, subst, ◌∙◌}
 use native.Mathlib.Omega.{arith}
 use lib.ListN.{length, length-replicate, length-set}
 use Rattle.search.specs.Machine.{Genuine}
-use Rattle.rewriting.specs.Facts.{findIn}
-use Rattle.walk.specs.contracts.Alternatives.{listed}
-use Rattle.walk.specs.contracts.Path.{Room, next_at, siteAt, pathIn}
-use Rattle.walk.specs.contracts.Left.{SplitHere, StepsLeft}
-use Rattle.walk.proofs.LeftLaws.{left-none, left-more, genuine-below, split-here, gone-on}
-use Rattle.magic_walk.specs.contracts.Place.{magicWalker}
-use Rattle.magic_walk.proofs.TiedLaws.{magic-tied}
+use Rattle.rewriting.specs.Facts.{find_in}
+use Rattle.walk.specs.terms.Alternatives.{listed}
+use Rattle.walk.specs.terms.Path.{Room, next_at, site_at, path_in}
+use Rattle.walk.specs.terms.Left.{SplitHere, StepsLeft}
+use Rattle.walk.proofs.LeftLaws.{left_none, left_more, genuine_below, split_here, gone_on}
+use Rattle.magic_walk.specs.terms.Place.{magic_walker}
+use Rattle.magic_walk.proofs.TiedLaws.{magic_tied}
 use Rattle.magic_resume.proofs.left.steps.Statement.{statement}
 use Rattle.magic_resume.proofs.left.steps.Tie as tie
 
 abbrev invariant-loop : tie.invariant-loop
-invariant-loop rules path depth atoms₀ nexts₀ i₀ atoms nexts i = StepsLeft (magicWalker rules) path i atoms nexts × (i ≤ depth) × (length atoms ≡ 1024) × (length nexts ≡ 1024)
+invariant-loop rules path depth atoms₀ nexts₀ i₀ atoms nexts i = StepsLeft (magic_walker rules) path i atoms nexts × (i ≤ depth) × (length atoms ≡ 1024) × (length nexts ≡ 1024)
 
 abbrev decreases-loop : tie.decreases-loop
 decreases-loop rules path depth atoms₀ nexts₀ i₀ atoms nexts i = depth - i
@@ -31,23 +31,23 @@ module _ (c : tie.In-loop invariant-loop decreases-loop) where
   fits : c.before.loop.i < 1024
   fits = omega (arith, c.loop-test.true, s.pre.1.0.0.deep)
 
-  room-here : Room s.args.path.now i
-  room-here = record { size = s.pre.1.0.0.size; deep = omega (arith, fits) }
+  room_here : Room s.args.path.now i
+  room_here = record { size = s.pre.1.0.0.size; deep = omega (arith, fits) }
 
-  named_here : (magicWalker s.args.rules.now).Named (siteAt (magicWalker s.args.rules.now) s.args.path.now i)
+  named_here : (magic_walker s.args.rules.now).Named (site_at (magic_walker s.args.rules.now) s.args.path.now i)
   named_here = s.pre.1.0.2 i c.loop-test.true
 
-  kept_on : Genuine (findIn s.args.rules.now) (pathIn (magicWalker s.args.rules.now) s.args.path.now (i + 1))
-  kept_on = genuine-below (magicWalker s.args.rules.now) s.args.path.now s.args.depth (i + 1) (omega (arith, c.loop-test.true)) s.pre.1.0.1
+  kept_on : Genuine (find_in s.args.rules.now) (path_in (magic_walker s.args.rules.now) s.args.path.now (i + 1))
+  kept_on = genuine_below (magic_walker s.args.rules.now) s.args.path.now s.args.depth (i + 1) (omega (arith, c.loop-test.true)) s.pre.1.0.1
 
-  here : SplitHere (magicWalker s.args.rules.now) s.args.path.now i
-  here = split-here (magicWalker s.args.rules.now) s.args.path.now (magic-tied s.args.rules.now s.pre.0) (λ bs g. g) i named_here kept_on
+  here : SplitHere (magic_walker s.args.rules.now) s.args.path.now i
+  here = split_here (magic_walker s.args.rules.now) s.args.path.now (magic_tied s.args.rules.now s.pre.0) (λ bs g. g) i named_here kept_on
 
-  some-taken : 0 < next_at s.args.path.now i
-  some-taken = gone-on (magicWalker s.args.rules.now) s.args.path.now (magic-tied s.args.rules.now s.pre.0) (λ bs g. g) i named_here kept_on
+  some_taken : 0 < next_at s.args.path.now i
+  some_taken = gone_on (magic_walker s.args.rules.now) s.args.path.now (magic_tied s.args.rules.now s.pre.0) (λ bs g. g) i named_here kept_on
 
-pub steps-spec : {M : Type 1} → statement M
-steps-spec =
+pub steps_spec : {M : Type 1} → statement M
+steps_spec =
     tie.close
     (tie.spec
     invariant-loop
@@ -55,14 +55,14 @@ steps-spec =
     (λ c.
     let s = c.before.before.before.before in
     let blank = s.requires.1.1 in (
-      left-none (magicWalker s.args.rules.now) s.args.path.now 1024 s.args.atoms.now s.args.nexts.now blank.0 blank.1,
+      left_none (magic_walker s.args.rules.now) s.args.path.now 1024 s.args.atoms.now s.args.nexts.now blank.0 blank.1,
       omega arith,
       ap length blank.0 ∙ length-replicate {A = ℕ} 1024 0,
       ap length blank.1 ∙ length-replicate {A = ℕ} 1024 0,
     ))  -- loop-holds
-    (λ c κs. let s = c.before.before.before.before.before.before in (s.requires.0, (room-here c, named_here c)))  -- alternatives-at-requires
-    (λ c κs. room-here c.before)  -- next-requires
-    (λ c κs. (c.before.alternatives-at.ensures.0, omega (arith, some-taken c.before.before, c.next.ensures)))  -- atom-before-requires
+    (λ c κs. let s = c.before.before.before.before.before.before in (s.requires.0, (room_here c, named_here c)))  -- alternatives-at-requires
+    (λ c κs. room_here c.before)  -- next-requires
+    (λ c κs. (c.before.alternatives-at.ensures.0, omega (arith, some_taken c.before.before, c.next.ensures)))  -- atom-before-requires
     (λ c. omega (arith, fits c.before.before.before))  -- mul-atoms
     (λ c. omega (arith, fits c.before.before.before, c.before.before.before.before.loop.invariant.2))  -- slice-write-atoms
     (λ c κs. c.before.before.alternatives-at.ensures.0)  -- taken-requires
@@ -76,7 +76,7 @@ steps-spec =
     let all = c.before.before.before.alternatives-at in
     let n = c.before.before.next in
     let a = c.before.atom-before in (
-      left-more (magicWalker s.args.rules.now) s.args.path.now l.i l.atoms l.nexts l.invariant.0 (here at) (omega (arith, fits at, l.invariant.2)) (omega (arith, fits at, l.invariant.3))
+      left_more (magic_walker s.args.rules.now) s.args.path.now l.i l.atoms l.nexts l.invariant.0 (here at) (omega (arith, fits at, l.invariant.2)) (omega (arith, fits at, l.invariant.3))
           (listed all.result) all.ensures.1 n.result n.ensures a.result c.taken.result a.ensures c.taken.ensures,
       omega (arith, at.loop-test.true),
       length-set l.atoms l.i a.result ∙ l.invariant.2,
@@ -88,4 +88,4 @@ steps-spec =
     let s = c.before.before.before.before.before.before in
     let l = c.before.loop in
     let done : l.i ≡ s.args.depth = omega (arith, l.invariant.1, c.loop-test.false) in
-    subst (λ (n : ℕ). StepsLeft (magicWalker s.args.rules.now) s.args.path.now n l.atoms l.nexts) done l.invariant.0))  -- returns
+    subst (λ (n : ℕ). StepsLeft (magic_walker s.args.rules.now) s.args.path.now n l.atoms l.nexts) done l.invariant.0))  -- returns

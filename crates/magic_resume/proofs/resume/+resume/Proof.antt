@@ -10,15 +10,15 @@ use borrow.Fn.Kinds.{In}
 use borrow.Fn.PlainCycle.{Measures, is, falls, and}
 use Rattle.ground.specs.Instance.{Instance}
 use Rattle.search.specs.Session.{place_of}
-use Rattle.walk.specs.contracts.Path.{deepestAt, Turned, siteAt, altsAt, pathIn}
-use Rattle.walk.specs.contracts.Place.{Reached}
-use Rattle.walk.specs.Numbers.{sessionOf}
-use Rattle.walk.specs.contracts.Resume.{is_taken, Resumes}
+use Rattle.walk.specs.terms.Path.{deepest_at, Turned, site_at, alts_at, path_in}
+use Rattle.walk.specs.terms.Place.{Reached}
+use Rattle.walk.specs.Numbers.{session_of}
+use Rattle.walk.specs.terms.Resume.{is_taken, Resumes}
 use Rattle.walk.specs.declared.answer.Found.TheVariants.{Split}
 use Rattle.walk.proofs.PathLaws.{turned}
-use Rattle.walk.proofs.PlaceLaws.{reached-as}
-use Rattle.walk.proofs.ResumeLaws.{taken-some, nowhere-entry, split-found, again-parted, again-next, again-deepest, again-path, again-passes, again-within, again_part, again-node, again-on, leaf-nowhere, resumes-nowhere, resumes-on, resumes-last}
-use Rattle.magic_walk.specs.contracts.Place.{magicWalker}
+use Rattle.walk.proofs.PlaceLaws.{reached_as}
+use Rattle.walk.proofs.ResumeLaws.{taken_some, nowhere_entry, split_found, again_parted, again_next, again_deepest, again_path, again_passes, again_within, again_part, again_node, again_on, leaf_nowhere, resumes_nowhere, resumes_on, resumes_last}
+use Rattle.magic_walk.specs.terms.Place.{magic_walker}
 use Rattle.magic_resume.proofs.resume.resume.Reads as resume
 use Rattle.magic_resume.proofs.resume.resume.Kinds as resume-kinds
 use Rattle.magic_resume.proofs.resume.+resume.Lts-resume as resume-lts
@@ -36,11 +36,11 @@ abbrev μ-resume : Measures 6 resume-kinds.ps ℕ
 μ-resume κs a = a.1.1.1.1.1.1.0 - a.1.1.1.1.1.1.1.0
 
 -- what it is given at the measure t, and what a call of it asks below t
-abbrev resume-at : ℕ → In 6 resume-kinds.ps
-resume-at t = and 6 resume-kinds.ps (is 6 resume-kinds.ps μ-resume t) resume.Pre
+abbrev resume_at : ℕ → In 6 resume-kinds.ps
+resume_at t = and 6 resume-kinds.ps (is 6 resume-kinds.ps μ-resume t) resume.Pre
 
-abbrev resume-below : ℕ → In 6 resume-kinds.ps
-resume-below t = and 6 resume-kinds.ps (falls 6 resume-kinds.ps ◌<◌ μ-resume t) resume.Pre
+abbrev resume_below : ℕ → In 6 resume-kinds.ps
+resume_below t = and 6 resume-kinds.ps (falls 6 resume-kinds.ps ◌<◌ μ-resume t) resume.Pre
 
 -- what the functions that it calls ask and say
 abbrev claims : ℕ → resume-lts.Claims
@@ -57,151 +57,151 @@ claims t = (
   mark-reads.Learnt,
   enter-reads.Asked,
   enter-reads.Learnt,
-  resume-below t,
+  resume_below t,
   resume.Post,
   work-off-reads.Asked,
   work-off-reads.Learnt,
 )
 
 -- what is told of the alternatives listed is told of the node's
-taken_here : (t : ℕ) (c : resume-lts.After-is-taken (claims t) (resume-at t) resume.Post)
+taken_here : (t : ℕ) (c : resume-lts.After-is-taken (claims t) (resume_at t) resume.Post)
     → (let s = c.before.before.before.before.before.before.before.before.before.before.before.before.before.before in
-    c.is-taken.result ≡ is_taken (altsAt (magicWalker s.args.rules.now) s.args.path.now s.args.depth) (get_or s.args.nexts.now s.args.depth 0) (get_or s.args.atoms.now s.args.depth 0))
+    c.is-taken.result ≡ is_taken (alts_at (magic_walker s.args.rules.now) s.args.path.now s.args.depth) (get_or s.args.nexts.now s.args.depth 0) (get_or s.args.atoms.now s.args.depth 0))
 taken_here t c =
     let s = c.before.before.before.before.before.before.before.before.before.before.before.before.before.before in
     c.is-taken.ensures ∙ ap (λ (ds : List ℕ). is_taken ds (get_or s.args.nexts.now s.args.depth 0) (get_or s.args.atoms.now s.args.depth 0)) c.before.alternatives-at.ensures.1
 
 -- the step entered again is one of the session's path, which is no longer than the figure that it brings
-deeper : (t : ℕ) (z : resume-lts.After-enter (claims t) (resume-at t) resume.Post) → (let s = z.before.before.before.before.before.before.before.before.before.before.before.before.before.before.before.before.before.before.before.before.before.before.before.before.before.before.before in s.args.depth < deepestAt s.args.path.now)
+deeper : (t : ℕ) (z : resume-lts.After-enter (claims t) (resume_at t) resume.Post) → (let s = z.before.before.before.before.before.before.before.before.before.before.before.before.before.before.before.before.before.before.before.before.before.before.before.before.before.before.before in s.args.depth < deepest_at s.args.path.now)
 deeper t z = let s = z.before.before.before.before.before.before.before.before.before.before.before.before.before.before.before.before.before.before.before.before.before.before.before.before.before.before.before in omega (arith, s.requires.1.1.1.1.1.0.0, s.requires.1.1.1.1.1.1.0, z.before.before.before.before.before.before.before.before.before.before.before.before.before.before.before.before.before.before.before.before.before.if1.false)
 
-same-figure : (t : ℕ) (z : resume-lts.After-enter (claims t) (resume-at t) resume.Post)
-    → (let s = z.before.before.before.before.before.before.before.before.before.before.before.before.before.before.before.before.before.before.before.before.before.before.before.before.before.before.before in deepestAt z.enter.new.1.1.1.0 ≡ deepestAt s.args.path.now)
-same-figure t z =
+same_figure : (t : ℕ) (z : resume-lts.After-enter (claims t) (resume_at t) resume.Post)
+    → (let s = z.before.before.before.before.before.before.before.before.before.before.before.before.before.before.before.before.before.before.before.before.before.before.before.before.before.before.before in deepest_at z.enter.new.1.1.1.0 ≡ deepest_at s.args.path.now)
+same_figure t z =
     let s = z.before.before.before.before.before.before.before.before.before.before.before.before.before.before.before.before.before.before.before.before.before.before.before.before.before.before.before in
-    let w = magicWalker s.args.rules.now in
+    let w = magic_walker s.args.rules.now in
     let g = z.before.before.before.before.before.before.before.before.before.before.before.before.before.before.before.before.before.before.before.found.given in
-    let at = reached-as w s.args.facts.now s.args.path.now s.args.depth s.args.done s.args.found (Split g.0.0) g.1 s.requires.1.1.1.0 in
+    let at = reached_as w s.args.facts.now s.args.path.now s.args.depth s.args.done s.args.found (Split g.0.0) g.1 s.requires.1.1.1.0 in
     let u = z.before.before.before.before.before.before.before.before.before.rewind in
     let j : ℕ = get_or s.args.nexts.now s.args.depth 0 in
     let turn : Turned s.args.path.now s.args.depth (j - 1) u.new.1.0 = subst (Turned s.args.path.now s.args.depth (j - 1)) (sym u.ensures.1) (turned s.args.path.now s.args.depth at.room (j - 1)) in
-    again-deepest w s.args.facts.now s.args.path.now s.args.depth s.args.done g.0.0 at u.new.0 u.ensures.0 j u.new.1.0 turn (u.auto.1.0 ∙ at.room.size) z.enter.result z.enter.new.1.1.0 z.enter.new.1.1.1.0 (z.enter.ensures.0 0) (deeper t z)
+    again_deepest w s.args.facts.now s.args.path.now s.args.depth s.args.done g.0.0 at u.new.0 u.ensures.0 j u.new.1.0 turn (u.auto.1.0 ∙ at.room.size) z.enter.result z.enter.new.1.1.0 z.enter.new.1.1.1.0 (z.enter.ensures.0 0) (deeper t z)
 
 -- what going on below says, of the session with the figure that is brought here
-told_below : (t : ℕ) (y : resume-lts.After-resume (claims t) (resume-at t) resume.Post)
+told_below : (t : ℕ) (y : resume-lts.After-resume (claims t) (resume_at t) resume.Post)
     → (let z = y.before.before.before.before.before.before.before in
     let s = z.before.before.before.before.before.before.before.before.before.before.before.before.before.before.before.before.before.before.before.before.before.before.before.before.before.before.before in
-    let w = magicWalker s.args.rules.now in
-    Resumes w (place_of w.find (sessionOf s.args.on.standing s.args.on.count s.args.atoms.now s.args.nexts.now s.args.steps s.args.on.next (deepestAt s.args.path.now))) z.enter.new.1.1.0 z.enter.new.1.1.1.0 (s.args.depth + 1) z.before.before.before.mark.result s.args.on.count s.args.on.limit y.resume.result y.resume.new.1.1.0 y.resume.new.1.1.1.0)
+    let w = magic_walker s.args.rules.now in
+    Resumes w (place_of w.find (session_of s.args.on.standing s.args.on.count s.args.atoms.now s.args.nexts.now s.args.steps s.args.on.next (deepest_at s.args.path.now))) z.enter.new.1.1.0 z.enter.new.1.1.1.0 (s.args.depth + 1) z.before.before.before.mark.result s.args.on.count s.args.on.limit y.resume.result y.resume.new.1.1.0 y.resume.new.1.1.1.0)
 told_below t y =
     let z = y.before.before.before.before.before.before.before in
     let s = z.before.before.before.before.before.before.before.before.before.before.before.before.before.before.before.before.before.before.before.before.before.before.before.before.before.before.before in
-    let w = magicWalker s.args.rules.now in
-    subst (λ (d : ℕ). Resumes w (place_of w.find (sessionOf s.args.on.standing s.args.on.count s.args.atoms.now s.args.nexts.now s.args.steps s.args.on.next d)) z.enter.new.1.1.0 z.enter.new.1.1.1.0 (s.args.depth + 1) z.before.before.before.mark.result s.args.on.count s.args.on.limit y.resume.result y.resume.new.1.1.0 y.resume.new.1.1.1.0)
-    (same-figure t z) y.resume.ensures
+    let w = magic_walker s.args.rules.now in
+    subst (λ (d : ℕ). Resumes w (place_of w.find (session_of s.args.on.standing s.args.on.count s.args.atoms.now s.args.nexts.now s.args.steps s.args.on.next d)) z.enter.new.1.1.0 z.enter.new.1.1.1.0 (s.args.depth + 1) z.before.before.before.mark.result s.args.on.count s.args.on.limit y.resume.result y.resume.new.1.1.0 y.resume.new.1.1.1.0)
+    (same_figure t z) y.resume.ensures
 
-pub +resume-spec : {M : Type 1} → statement M
-+resume-spec =
+pub +resume_spec : {M : Type 1} → statement M
++resume_spec =
     close μ-resume
     (λ bound.
-    resume-lts.spec (claims bound) (resume-at bound) resume.Post
+    resume-lts.spec (claims bound) (resume_at bound) resume.Post
     (λ c κs.
     let s = c.before.before.before.before.before.before.before.before in
-    let w = magicWalker s.args.rules.now in
+    let w = magic_walker s.args.rules.now in
     (s.requires.1.0, (s.requires.1.1.0, (s.requires.1.1.1.0, s.requires.1.1.1.1.1.1.1))))  -- stand-requires
     (λ c. search rules)  -- same-length
     (λ c. search rules)  -- same-length-2
     (λ c.
     let s = c.before.before.before.before.before.before.before.before.before.before.before.before.before in
-    let w = magicWalker s.args.rules.now in
+    let w = magic_walker s.args.rules.now in
     let y = c.before.before.before.before.stand in
-    resumes-last Instance w s.args.facts.now s.args.path.now s.args.depth s.args.done s.args.on.count s.args.on.limit s.args.atoms.now s.args.nexts.now s.args.on.standing s.args.steps s.args.on.next (deepestAt s.args.path.now) s.requires.1.1.1.1.0 c.before.before.before.before.before.before.before.if1.true y.result y.new.1.1.0 y.new.1.1.1.0 y.ensures)  -- returns
+    resumes_last Instance w s.args.facts.now s.args.path.now s.args.depth s.args.done s.args.on.count s.args.on.limit s.args.atoms.now s.args.nexts.now s.args.on.standing s.args.steps s.args.on.next (deepest_at s.args.path.now) s.requires.1.1.1.1.0 c.before.before.before.before.before.before.before.if1.true y.result y.new.1.1.0 y.new.1.1.1.0 y.ensures)  -- returns
     (λ c. search rules)  -- enum-known-found
     (λ c.
     let s = c.before.before.before.before.before.before.before in
-    let w = magicWalker s.args.rules.now in
-    leaf-nowhere w s.args.facts.now s.args.path.now s.args.depth s.args.done s.args.found s.requires.1.1.1.0 c.match.keys2 s.args.atoms.now s.args.nexts.now s.args.on.standing s.args.on.count s.args.steps s.args.on.next (deepestAt s.args.path.now) s.requires.1.1.1.1.0 (omega (arith, s.requires.1.1.1.1.1.0.0, c.before.if1.false)))  -- returns-2
+    let w = magic_walker s.args.rules.now in
+    leaf_nowhere w s.args.facts.now s.args.path.now s.args.depth s.args.done s.args.found s.requires.1.1.1.0 c.match.keys2 s.args.atoms.now s.args.nexts.now s.args.on.standing s.args.on.count s.args.steps s.args.on.next (deepest_at s.args.path.now) s.requires.1.1.1.1.0 (omega (arith, s.requires.1.1.1.1.1.0.0, c.before.if1.false)))  -- returns-2
     (λ c.
     let s = c.before.before.before.before.before.before.before.before.before in
-    let w = magicWalker s.args.rules.now in
+    let w = magic_walker s.args.rules.now in
     omega (arith, s.requires.1.1.1.0.room.deep))  -- mul-a
     (λ c.
     let s = c.before.before.before.before.before.before.before.before.before.before in
-    let w = magicWalker s.args.rules.now in
+    let w = magic_walker s.args.rules.now in
     omega (arith, s.requires.1.1.1.1.1.0.0, s.requires.1.1.1.1.1.0.1, c.before.before.before.before.if1.false))  -- shared-slice-read-a
     (λ c.
     let s = c.before.before.before.before.before.before.before.before.before.before in
-    let w = magicWalker s.args.rules.now in
+    let w = magic_walker s.args.rules.now in
     omega (arith, c.shared-slice-known4.given s.args.depth))  -- cast-a
     (λ c.
     let s = c.before.before.before.before.before.before.before.before.before.before.before in
-    let w = magicWalker s.args.rules.now in
+    let w = magic_walker s.args.rules.now in
     omega (arith, s.requires.1.1.1.1.1.0.0, s.requires.1.1.1.1.1.0.2, c.before.before.before.before.before.if1.false))  -- shared-slice-read-j
     (λ c κs.
     let s = c.before.before.before.before.before.before.before.before.before.before.before.before in
-    let w = magicWalker s.args.rules.now in
+    let w = magic_walker s.args.rules.now in
     let g = c.before.before.before.before.found.given in
-    let at = reached-as w s.args.facts.now s.args.path.now s.args.depth s.args.done s.args.found (Split g.0.0) g.1 s.requires.1.1.1.0 in
+    let at = reached_as w s.args.facts.now s.args.path.now s.args.depth s.args.done s.args.found (Split g.0.0) g.1 s.requires.1.1.1.0 in
     (s.requires.1.0, (at.room, at.ready.3.listed)))  -- alternatives-at-requires
     (λ c κs. c.alternatives-at.ensures.0)  -- is-taken-requires
     (λ c. search rules)  -- same-length-3
     (λ c.
     let s = c.before.before.before.before.before.before.before.before.before.before.before.before.before.before.before in
-    let w = magicWalker s.args.rules.now in
+    let w = magic_walker s.args.rules.now in
     let g = c.before.before.before.before.before.before.before.found.given in
-    let at = reached-as w s.args.facts.now s.args.path.now s.args.depth s.args.done s.args.found (Split g.0.0) g.1 s.requires.1.1.1.0 in
+    let at = reached_as w s.args.facts.now s.args.path.now s.args.depth s.args.done s.args.found (Split g.0.0) g.1 s.requires.1.1.1.0 in
     let b = c.before.is-taken in
-    nowhere-entry w.find s.args.atoms.now s.args.nexts.now s.args.on.standing s.args.on.count s.args.steps s.args.on.next (deepestAt s.args.path.now) s.args.depth (pathIn w s.args.path.now s.args.depth) s.requires.1.1.1.1.0 (omega (arith, s.requires.1.1.1.1.1.0.0, c.before.before.before.before.before.before.before.before.before.if1.false)) (w.instance (siteAt w s.args.path.now s.args.depth)) (altsAt w s.args.path.now s.args.depth) (split-found w s.args.facts.now s.args.path.now s.args.depth s.args.done g.0.0 at)
+    nowhere_entry w.find s.args.atoms.now s.args.nexts.now s.args.on.standing s.args.on.count s.args.steps s.args.on.next (deepest_at s.args.path.now) s.args.depth (path_in w s.args.path.now s.args.depth) s.requires.1.1.1.1.0 (omega (arith, s.requires.1.1.1.1.1.0.0, c.before.before.before.before.before.before.before.before.before.if1.false)) (w.instance (site_at w s.args.path.now s.args.depth)) (alts_at w s.args.path.now s.args.depth) (split_found w s.args.facts.now s.args.path.now s.args.depth s.args.done g.0.0 at)
     (sym (taken_here bound c.before) ∙ not-true b.result c.if2.true))  -- returns-3
     (λ c.
     let s = c.before.before.before.before.before.before.before.before.before.before.before.before.before.before.before.before.before in
-    let w = magicWalker s.args.rules.now in
+    let w = magic_walker s.args.rules.now in
     let g = c.before.before.before.before.before.before.before.before.before.found.given in
-    let at = reached-as w s.args.facts.now s.args.path.now s.args.depth s.args.done s.args.found (Split g.0.0) g.1 s.requires.1.1.1.0 in
+    let at = reached_as w s.args.facts.now s.args.path.now s.args.depth s.args.done s.args.found (Split g.0.0) g.1 s.requires.1.1.1.0 in
     let b = c.before.before.before.is-taken in
     let here = sym (taken_here bound c.before.before.before) ∙ not-false b.result c.before.before.if2.false in
-    omega (arith, taken-some (altsAt w s.args.path.now s.args.depth) (get_or s.args.nexts.now s.args.depth 0) (get_or s.args.atoms.now s.args.depth 0) here))  -- sub-rewind
+    omega (arith, taken_some (alts_at w s.args.path.now s.args.depth) (get_or s.args.nexts.now s.args.depth 0) (get_or s.args.atoms.now s.args.depth 0) here))  -- sub-rewind
     (λ c κs.
     let s = c.before.before.before.before.before.before.before.before.before.before.before.before.before.before.before.before.before in
-    let w = magicWalker s.args.rules.now in
+    let w = magic_walker s.args.rules.now in
     let g = c.before.before.before.before.before.before.before.before.before.found.given in
-    let at = reached-as w s.args.facts.now s.args.path.now s.args.depth s.args.done s.args.found (Split g.0.0) g.1 s.requires.1.1.1.0 in
+    let at = reached_as w s.args.facts.now s.args.path.now s.args.depth s.args.done s.args.found (Split g.0.0) g.1 s.requires.1.1.1.0 in
     ((at.store, omega arith), (at.room, at.ready.1)))  -- rewind-requires
     (λ c κs.
     let s = c.before.before.before.before.before.before.before.before.before.before.before.before.before.before.before.before.before.before.before.before.before.before.before in
-    let w = magicWalker s.args.rules.now in
+    let w = magic_walker s.args.rules.now in
     let g = c.before.before.before.before.before.before.before.before.before.before.before.before.before.before.before.found.given in
-    let at = reached-as w s.args.facts.now s.args.path.now s.args.depth s.args.done s.args.found (Split g.0.0) g.1 s.requires.1.1.1.0 in
+    let at = reached_as w s.args.facts.now s.args.path.now s.args.depth s.args.done s.args.found (Split g.0.0) g.1 s.requires.1.1.1.0 in
     let b = c.before.before.before.before.before.before.before.before.before.is-taken in
     let here = sym (taken_here bound c.before.before.before.before.before.before.before.before.before) ∙ not-false b.result c.before.before.before.before.before.before.before.before.if2.false in
     let u = c.before.before.before.before.before.rewind in
     let j : ℕ = get_or s.args.nexts.now s.args.depth 0 in
     let t : Turned s.args.path.now s.args.depth (j - 1) u.new.1.0 = subst (Turned s.args.path.now s.args.depth (j - 1)) (sym u.ensures.1) (turned s.args.path.now s.args.depth at.room (j - 1)) in
     let long : length u.new.1.0 ≡ 9227 = u.auto.1.0 ∙ at.room.size in
-    (again-parted w s.args.facts.now s.args.path.now s.args.depth s.args.done g.0.0 at u.new.0 u.ensures.0 j u.new.1.0 t long).room)  -- mark-requires
+    (again_parted w s.args.facts.now s.args.path.now s.args.depth s.args.done g.0.0 at u.new.0 u.ensures.0 j u.new.1.0 t long).room)  -- mark-requires
     (λ c κs.
     let s = c.before.before.before.before.before.before.before.before.before.before.before.before.before.before.before.before.before.before.before.before.before.before.before.before.before.before in
-    let w = magicWalker s.args.rules.now in
+    let w = magic_walker s.args.rules.now in
     let g = c.before.before.before.before.before.before.before.before.before.before.before.before.before.before.before.before.before.before.found.given in
-    let at = reached-as w s.args.facts.now s.args.path.now s.args.depth s.args.done s.args.found (Split g.0.0) g.1 s.requires.1.1.1.0 in
+    let at = reached_as w s.args.facts.now s.args.path.now s.args.depth s.args.done s.args.found (Split g.0.0) g.1 s.requires.1.1.1.0 in
     let b = c.before.before.before.before.before.before.before.before.before.before.before.before.is-taken in
     let here = sym (taken_here bound c.before.before.before.before.before.before.before.before.before.before.before.before) ∙ not-false b.result c.before.before.before.before.before.before.before.before.before.before.before.if2.false in
     let u = c.before.before.before.before.before.before.before.before.rewind in
     let j : ℕ = get_or s.args.nexts.now s.args.depth 0 in
     let t : Turned s.args.path.now s.args.depth (j - 1) u.new.1.0 = subst (Turned s.args.path.now s.args.depth (j - 1)) (sym u.ensures.1) (turned s.args.path.now s.args.depth at.room (j - 1)) in
     let long : length u.new.1.0 ≡ 9227 = u.auto.1.0 ∙ at.room.size in
-    (s.requires.1.0, (s.requires.1.1.0, (again-parted w s.args.facts.now s.args.path.now s.args.depth s.args.done g.0.0 at u.new.0 u.ensures.0 j u.new.1.0 t long, again-next w s.args.facts.now s.args.path.now s.args.depth s.args.done g.0.0 at u.new.0 u.ensures.0 j u.new.1.0 t long (get_or s.args.atoms.now s.args.depth 0) here))))  -- enter-requires
+    (s.requires.1.0, (s.requires.1.1.0, (again_parted w s.args.facts.now s.args.path.now s.args.depth s.args.done g.0.0 at u.new.0 u.ensures.0 j u.new.1.0 t long, again_next w s.args.facts.now s.args.path.now s.args.depth s.args.done g.0.0 at u.new.0 u.ensures.0 j u.new.1.0 t long (get_or s.args.atoms.now s.args.depth 0) here))))  -- enter-requires
     (λ c.
     let s = c.before.before.before.before.before.before.before.before.before.before.before.before.before.before.before.before.before.before.before.before.before.before.before.before.before.before.before.before.before.before.before.before.before in
-    let w = magicWalker s.args.rules.now in
+    let w = magic_walker s.args.rules.now in
     let g = c.before.before.before.before.before.before.before.before.before.before.before.before.before.before.before.before.before.before.before.before.before.before.before.before.before.found.given in
-    let at = reached-as w s.args.facts.now s.args.path.now s.args.depth s.args.done s.args.found (Split g.0.0) g.1 s.requires.1.1.1.0 in
+    let at = reached_as w s.args.facts.now s.args.path.now s.args.depth s.args.done s.args.found (Split g.0.0) g.1 s.requires.1.1.1.0 in
     omega (arith, at.room.deep))  -- add-resume
     (λ c κs.
     let s = c.before.before.before.before.before.before.before.before.before.before.before.before.before.before.before.before.before.before.before.before.before.before.before.before.before.before.before.before.before.before.before.before.before in
-    let w = magicWalker s.args.rules.now in
+    let w = magic_walker s.args.rules.now in
     let g = c.before.before.before.before.before.before.before.before.before.before.before.before.before.before.before.before.before.before.before.before.before.before.before.before.before.found.given in
-    let at = reached-as w s.args.facts.now s.args.path.now s.args.depth s.args.done s.args.found (Split g.0.0) g.1 s.requires.1.1.1.0 in
+    let at = reached_as w s.args.facts.now s.args.path.now s.args.depth s.args.done s.args.found (Split g.0.0) g.1 s.requires.1.1.1.0 in
     let b = c.before.before.before.before.before.before.before.before.before.before.before.before.before.before.before.before.before.before.before.is-taken in
     let here = sym (taken_here bound c.before.before.before.before.before.before.before.before.before.before.before.before.before.before.before.before.before.before.before) ∙ not-false b.result c.before.before.before.before.before.before.before.before.before.before.before.before.before.before.before.before.before.before.if2.false in
     let u = c.before.before.before.before.before.before.before.before.before.before.before.before.before.before.before.rewind in
@@ -221,8 +221,8 @@ pub +resume-spec : {M : Type 1} → statement M
           (
             subst (λ (i : ℕ). Reached w e.new.1.1.0 e.new.1.1.1.0 (s.args.depth + 1) i e.result) (sym m.ensures) (e.ensures.0 0).reached,
             (
-              again-path w s.args.facts.now s.args.path.now s.args.depth s.args.done g.0.0 at u.new.0 u.ensures.0 j u.new.1.0 t long e.result e.new.1.1.0 e.new.1.1.1.0 (e.ensures.0 0) s.args.atoms.now s.args.nexts.now refl s.requires.1.1.1.1.0 here,
-              ((omega (arith, more), s.requires.1.1.1.1.1.0.1, s.requires.1.1.1.1.1.0.2), (omega (arith, same-figure bound c.before.before.before.before.before.before, s.requires.1.1.1.1.1.1.0), s.requires.1.1.1.1.1.1.1)),
+              again_path w s.args.facts.now s.args.path.now s.args.depth s.args.done g.0.0 at u.new.0 u.ensures.0 j u.new.1.0 t long e.result e.new.1.1.0 e.new.1.1.1.0 (e.ensures.0 0) s.args.atoms.now s.args.nexts.now refl s.requires.1.1.1.1.0 here,
+              ((omega (arith, more), s.requires.1.1.1.1.1.0.1, s.requires.1.1.1.1.1.0.2), (omega (arith, same_figure bound c.before.before.before.before.before.before, s.requires.1.1.1.1.1.1.0), s.requires.1.1.1.1.1.1.1)),
             ),
           ),
         ),
@@ -234,9 +234,9 @@ pub +resume-spec : {M : Type 1} → statement M
     (λ c. search rules)  -- same-length-5
     (λ c.
     let s = c.before.before.before.before.before.before.before.before.before.before.before.before.before.before.before.before.before.before.before.before.before.before.before.before.before.before.before.before.before.before.before.before.before.before.before.before.before.before.before.before in
-    let w = magicWalker s.args.rules.now in
+    let w = magic_walker s.args.rules.now in
     let g = c.before.before.before.before.before.before.before.before.before.before.before.before.before.before.before.before.before.before.before.before.before.before.before.before.before.before.before.before.before.before.before.before.found.given in
-    let at = reached-as w s.args.facts.now s.args.path.now s.args.depth s.args.done s.args.found (Split g.0.0) g.1 s.requires.1.1.1.0 in
+    let at = reached_as w s.args.facts.now s.args.path.now s.args.depth s.args.done s.args.found (Split g.0.0) g.1 s.requires.1.1.1.0 in
     let b = c.before.before.before.before.before.before.before.before.before.before.before.before.before.before.before.before.before.before.before.before.before.before.before.before.before.before.is-taken in
     let here = sym (taken_here bound c.before.before.before.before.before.before.before.before.before.before.before.before.before.before.before.before.before.before.before.before.before.before.before.before.before.before) ∙ not-false b.result c.before.before.before.before.before.before.before.before.before.before.before.before.before.before.before.before.before.before.before.before.before.before.before.before.before.if2.false in
     let u = c.before.before.before.before.before.before.before.before.before.before.before.before.before.before.before.before.before.before.before.before.before.before.rewind in
@@ -246,16 +246,16 @@ pub +resume-spec : {M : Type 1} → statement M
     let m = c.before.before.before.before.before.before.before.before.before.before.before.before.before.before.before.before.mark in
     let e = c.before.before.before.before.before.before.before.before.before.before.before.before.before.enter in
     let q = c.before.before.before.before.before.before.resume in
-    let place = place_of w.find (sessionOf s.args.on.standing s.args.on.count s.args.atoms.now s.args.nexts.now s.args.steps s.args.on.next (deepestAt s.args.path.now)) in
-    resumes-nowhere w place e.new.1.1.0 e.new.1.1.1.0 (s.args.depth + 1) m.result s.args.on.count s.args.on.limit q.new.1.1.0 q.new.1.1.1.0 q.result c.before.match2.keys2 (told_below bound c.before.before.before.before.before.before))  -- returns-4
+    let place = place_of w.find (session_of s.args.on.standing s.args.on.count s.args.atoms.now s.args.nexts.now s.args.steps s.args.on.next (deepest_at s.args.path.now)) in
+    resumes_nowhere w place e.new.1.1.0 e.new.1.1.1.0 (s.args.depth + 1) m.result s.args.on.count s.args.on.limit q.new.1.1.0 q.new.1.1.1.0 q.result c.before.match2.keys2 (told_below bound c.before.before.before.before.before.before))  -- returns-4
     (λ c. search rules)  -- enum-known-walked
     (λ c. search rules)  -- same-length-6
     (λ c. search rules)  -- same-length-7
     (λ c.
     let s = c.before.before.before.before.before.before.before.before.before.before.before.before.before.before.before.before.before.before.before.before.before.before.before.before.before.before.before.before.before.before.before.before.before.before.before.before.before.before.before.before.before.before in
-    let w = magicWalker s.args.rules.now in
+    let w = magic_walker s.args.rules.now in
     let g = c.before.before.before.before.before.before.before.before.before.before.before.before.before.before.before.before.before.before.before.before.before.before.before.before.before.before.before.before.before.before.before.before.before.before.found.given in
-    let at = reached-as w s.args.facts.now s.args.path.now s.args.depth s.args.done s.args.found (Split g.0.0) g.1 s.requires.1.1.1.0 in
+    let at = reached_as w s.args.facts.now s.args.path.now s.args.depth s.args.done s.args.found (Split g.0.0) g.1 s.requires.1.1.1.0 in
     let b = c.before.before.before.before.before.before.before.before.before.before.before.before.before.before.before.before.before.before.before.before.before.before.before.before.before.before.before.before.is-taken in
     let here = sym (taken_here bound c.before.before.before.before.before.before.before.before.before.before.before.before.before.before.before.before.before.before.before.before.before.before.before.before.before.before.before.before) ∙ not-false b.result c.before.before.before.before.before.before.before.before.before.before.before.before.before.before.before.before.before.before.before.before.before.before.before.before.before.before.before.if2.false in
     let u = c.before.before.before.before.before.before.before.before.before.before.before.before.before.before.before.before.before.before.before.before.before.before.before.before.rewind in
@@ -265,15 +265,15 @@ pub +resume-spec : {M : Type 1} → statement M
     let m = c.before.before.before.before.before.before.before.before.before.before.before.before.before.before.before.before.before.before.mark in
     let e = c.before.before.before.before.before.before.before.before.before.before.before.before.before.before.before.enter in
     let q = c.before.before.before.before.before.before.before.before.resume in
-    let place = place_of w.find (sessionOf s.args.on.standing s.args.on.count s.args.atoms.now s.args.nexts.now s.args.steps s.args.on.next (deepestAt s.args.path.now)) in
+    let place = place_of w.find (session_of s.args.on.standing s.args.on.count s.args.atoms.now s.args.nexts.now s.args.steps s.args.on.next (deepest_at s.args.path.now)) in
     let h = c.before.before.below.given in
-    let below = resumes-on w place e.new.1.1.0 e.new.1.1.1.0 (s.args.depth + 1) m.result s.args.on.count s.args.on.limit q.new.1.1.0 q.new.1.1.1.0 q.result h.0.0 h.1 (told_below bound c.before.before.before.before.before.before.before.before) in
-    again-passes w s.args.facts.now s.args.path.now s.args.depth s.args.done g.0.0 at u.new.0 u.ensures.0 j u.new.1.0 t long e.result e.new.1.1.0 e.new.1.1.1.0 (e.ensures.0 0) place m.result s.args.on.count s.args.on.limit m.ensures h.0.0 q.new.1.1.0 q.new.1.1.1.0 below (deeper bound c.before.before.before.before.before.before.before.before.before.before.before.before.before.before.before) c.match3.keys2)  -- returns-5
+    let below = resumes_on w place e.new.1.1.0 e.new.1.1.1.0 (s.args.depth + 1) m.result s.args.on.count s.args.on.limit q.new.1.1.0 q.new.1.1.1.0 q.result h.0.0 h.1 (told_below bound c.before.before.before.before.before.before.before.before) in
+    again_passes w s.args.facts.now s.args.path.now s.args.depth s.args.done g.0.0 at u.new.0 u.ensures.0 j u.new.1.0 t long e.result e.new.1.1.0 e.new.1.1.1.0 (e.ensures.0 0) place m.result s.args.on.count s.args.on.limit m.ensures h.0.0 q.new.1.1.0 q.new.1.1.1.0 below (deeper bound c.before.before.before.before.before.before.before.before.before.before.before.before.before.before.before) c.match3.keys2)  -- returns-5
     (λ c κs.
     let s = c.before.before.before.before.before.before.before.before.before.before.before.before.before.before.before.before.before.before.before.before.before.before.before.before.before.before.before.before.before.before.before.before.before.before.before.before.before.before.before.before.before.before.before.before.before.before in
-    let w = magicWalker s.args.rules.now in
+    let w = magic_walker s.args.rules.now in
     let g = c.before.before.before.before.before.before.before.before.before.before.before.before.before.before.before.before.before.before.before.before.before.before.before.before.before.before.before.before.before.before.before.before.before.before.before.before.before.before.found.given in
-    let at = reached-as w s.args.facts.now s.args.path.now s.args.depth s.args.done s.args.found (Split g.0.0) g.1 s.requires.1.1.1.0 in
+    let at = reached_as w s.args.facts.now s.args.path.now s.args.depth s.args.done s.args.found (Split g.0.0) g.1 s.requires.1.1.1.0 in
     let b = c.before.before.before.before.before.before.before.before.before.before.before.before.before.before.before.before.before.before.before.before.before.before.before.before.before.before.before.before.before.before.before.before.is-taken in
     let here = sym (taken_here bound c.before.before.before.before.before.before.before.before.before.before.before.before.before.before.before.before.before.before.before.before.before.before.before.before.before.before.before.before.before.before.before.before) ∙ not-false b.result c.before.before.before.before.before.before.before.before.before.before.before.before.before.before.before.before.before.before.before.before.before.before.before.before.before.before.before.before.before.before.before.if2.false in
     let u = c.before.before.before.before.before.before.before.before.before.before.before.before.before.before.before.before.before.before.before.before.before.before.before.before.before.before.before.before.rewind in
@@ -283,18 +283,18 @@ pub +resume-spec : {M : Type 1} → statement M
     let m = c.before.before.before.before.before.before.before.before.before.before.before.before.before.before.before.before.before.before.before.before.before.before.mark in
     let e = c.before.before.before.before.before.before.before.before.before.before.before.before.before.before.before.before.before.before.before.enter in
     let q = c.before.before.before.before.before.before.before.before.before.before.before.before.resume in
-    let place = place_of w.find (sessionOf s.args.on.standing s.args.on.count s.args.atoms.now s.args.nexts.now s.args.steps s.args.on.next (deepestAt s.args.path.now)) in
+    let place = place_of w.find (session_of s.args.on.standing s.args.on.count s.args.atoms.now s.args.nexts.now s.args.steps s.args.on.next (deepest_at s.args.path.now)) in
     let h = c.before.before.before.before.before.before.below.given in
-    let below = resumes-on w place e.new.1.1.0 e.new.1.1.1.0 (s.args.depth + 1) m.result s.args.on.count s.args.on.limit q.new.1.1.0 q.new.1.1.1.0 q.result h.0.0 h.1 (told_below bound c.before.before.before.before.before.before.before.before.before.before.before.before) in
+    let below = resumes_on w place e.new.1.1.0 e.new.1.1.1.0 (s.args.depth + 1) m.result s.args.on.count s.args.on.limit q.new.1.1.0 q.new.1.1.1.0 q.result h.0.0 h.1 (told_below bound c.before.before.before.before.before.before.before.before.before.before.before.before) in
     let k = c.before.before.before.walked.given in
-    (s.requires.1.0, (s.requires.1.1.0, (again-node w s.args.facts.now s.args.path.now s.args.depth s.args.done g.0.0 at u.new.0 u.ensures.0 j u.new.1.0 t long e.result e.new.1.1.0 e.new.1.1.1.0 (e.ensures.0 0) place m.result s.args.on.count s.args.on.limit m.ensures h.0.0 q.new.1.1.0 q.new.1.1.1.0 below k.0.0 k.1 (q.auto.1.1.1.0 ∙ (e.ensures.0 0).reached.room.size), (again_part w s.args.facts.now s.args.path.now s.args.depth s.args.done g.0.0 at u.new.0 u.ensures.0 j u.new.1.0 t long e.result e.new.1.1.0 e.new.1.1.1.0 (e.ensures.0 0) place m.result s.args.on.count s.args.on.limit m.ensures h.0.0 q.new.1.1.0 q.new.1.1.1.0 below k.0.0 k.1 (q.auto.1.1.1.0 ∙ (e.ensures.0 0).reached.room.size), again-within w s.args.facts.now s.args.path.now s.args.depth s.args.done g.0.0 at u.new.0 u.ensures.0 j u.new.1.0 t long e.result e.new.1.1.0 e.new.1.1.1.0 (e.ensures.0 0) place m.result s.args.on.count s.args.on.limit m.ensures h.0.0 q.new.1.1.0 q.new.1.1.1.0 below k.0.0 k.1 (q.auto.1.1.1.0 ∙ (e.ensures.0 0).reached.room.size))))))  -- work-off-requires
+    (s.requires.1.0, (s.requires.1.1.0, (again_node w s.args.facts.now s.args.path.now s.args.depth s.args.done g.0.0 at u.new.0 u.ensures.0 j u.new.1.0 t long e.result e.new.1.1.0 e.new.1.1.1.0 (e.ensures.0 0) place m.result s.args.on.count s.args.on.limit m.ensures h.0.0 q.new.1.1.0 q.new.1.1.1.0 below k.0.0 k.1 (q.auto.1.1.1.0 ∙ (e.ensures.0 0).reached.room.size), (again_part w s.args.facts.now s.args.path.now s.args.depth s.args.done g.0.0 at u.new.0 u.ensures.0 j u.new.1.0 t long e.result e.new.1.1.0 e.new.1.1.1.0 (e.ensures.0 0) place m.result s.args.on.count s.args.on.limit m.ensures h.0.0 q.new.1.1.0 q.new.1.1.1.0 below k.0.0 k.1 (q.auto.1.1.1.0 ∙ (e.ensures.0 0).reached.room.size), again_within w s.args.facts.now s.args.path.now s.args.depth s.args.done g.0.0 at u.new.0 u.ensures.0 j u.new.1.0 t long e.result e.new.1.1.0 e.new.1.1.1.0 (e.ensures.0 0) place m.result s.args.on.count s.args.on.limit m.ensures h.0.0 q.new.1.1.0 q.new.1.1.1.0 below k.0.0 k.1 (q.auto.1.1.1.0 ∙ (e.ensures.0 0).reached.room.size))))))  -- work-off-requires
     (λ c. c.before.before.before.before.work-off.auto.1.1.0 ∙ c.before.before.before.before.before.before.before.before.before.before.before.before.before.before.before.before.before.resume.auto.1.1.0 ∙ c.before.before.before.before.before.before.before.before.before.before.before.before.before.before.before.before.before.before.before.before.before.before.before.before.enter.auto.1.1.0 ∙ c.before.before.before.before.before.before.before.before.before.before.before.before.before.before.before.before.before.before.before.before.before.before.before.before.before.before.before.before.before.before.before.before.before.rewind.auto.0)  -- same-length-8
     (λ c. c.before.before.before.before.work-off.auto.1.1.1.0 ∙ c.before.before.before.before.before.before.before.before.before.before.before.before.before.before.before.before.before.resume.auto.1.1.1.0 ∙ c.before.before.before.before.before.before.before.before.before.before.before.before.before.before.before.before.before.before.before.before.before.before.before.before.enter.auto.1.1.1.0 ∙ c.before.before.before.before.before.before.before.before.before.before.before.before.before.before.before.before.before.before.before.before.before.before.before.before.before.before.before.before.before.before.before.before.before.rewind.auto.1.0)  -- same-length-9
     (λ c.
     let s = c.before.before.before.before.before.before.before.before.before.before.before.before.before.before.before.before.before.before.before.before.before.before.before.before.before.before.before.before.before.before.before.before.before.before.before.before.before.before.before.before.before.before.before.before.before.before.before.before.before.before.before in
-    let w = magicWalker s.args.rules.now in
+    let w = magic_walker s.args.rules.now in
     let g = c.before.before.before.before.before.before.before.before.before.before.before.before.before.before.before.before.before.before.before.before.before.before.before.before.before.before.before.before.before.before.before.before.before.before.before.before.before.before.before.before.before.before.before.found.given in
-    let at = reached-as w s.args.facts.now s.args.path.now s.args.depth s.args.done s.args.found (Split g.0.0) g.1 s.requires.1.1.1.0 in
+    let at = reached_as w s.args.facts.now s.args.path.now s.args.depth s.args.done s.args.found (Split g.0.0) g.1 s.requires.1.1.1.0 in
     let b = c.before.before.before.before.before.before.before.before.before.before.before.before.before.before.before.before.before.before.before.before.before.before.before.before.before.before.before.before.before.before.before.before.before.before.before.before.before.is-taken in
     let here = sym (taken_here bound c.before.before.before.before.before.before.before.before.before.before.before.before.before.before.before.before.before.before.before.before.before.before.before.before.before.before.before.before.before.before.before.before.before.before.before.before.before) ∙ not-false b.result c.before.before.before.before.before.before.before.before.before.before.before.before.before.before.before.before.before.before.before.before.before.before.before.before.before.before.before.before.before.before.before.before.before.before.before.before.if2.false in
     let u = c.before.before.before.before.before.before.before.before.before.before.before.before.before.before.before.before.before.before.before.before.before.before.before.before.before.before.before.before.before.before.before.before.before.rewind in
@@ -304,9 +304,9 @@ pub +resume-spec : {M : Type 1} → statement M
     let m = c.before.before.before.before.before.before.before.before.before.before.before.before.before.before.before.before.before.before.before.before.before.before.before.before.before.before.before.mark in
     let e = c.before.before.before.before.before.before.before.before.before.before.before.before.before.before.before.before.before.before.before.before.before.before.before.before.enter in
     let q = c.before.before.before.before.before.before.before.before.before.before.before.before.before.before.before.before.before.resume in
-    let place = place_of w.find (sessionOf s.args.on.standing s.args.on.count s.args.atoms.now s.args.nexts.now s.args.steps s.args.on.next (deepestAt s.args.path.now)) in
+    let place = place_of w.find (session_of s.args.on.standing s.args.on.count s.args.atoms.now s.args.nexts.now s.args.steps s.args.on.next (deepest_at s.args.path.now)) in
     let h = c.before.before.before.before.before.before.before.before.before.before.before.below.given in
-    let below = resumes-on w place e.new.1.1.0 e.new.1.1.1.0 (s.args.depth + 1) m.result s.args.on.count s.args.on.limit q.new.1.1.0 q.new.1.1.1.0 q.result h.0.0 h.1 (told_below bound c.before.before.before.before.before.before.before.before.before.before.before.before.before.before.before.before.before) in
+    let below = resumes_on w place e.new.1.1.0 e.new.1.1.1.0 (s.args.depth + 1) m.result s.args.on.count s.args.on.limit q.new.1.1.0 q.new.1.1.1.0 q.result h.0.0 h.1 (told_below bound c.before.before.before.before.before.before.before.before.before.before.before.before.before.before.before.before.before) in
     let k = c.before.before.before.before.before.before.before.before.walked.given in
     let y = c.before.before.before.before.work-off in
-    again-on w s.args.facts.now s.args.path.now s.args.depth s.args.done g.0.0 at u.new.0 u.ensures.0 j u.new.1.0 t long e.result e.new.1.1.0 e.new.1.1.1.0 (e.ensures.0 0) place m.result s.args.on.count s.args.on.limit m.ensures h.0.0 q.new.1.1.0 q.new.1.1.1.0 below k.0.0 k.1 (q.auto.1.1.1.0 ∙ (e.ensures.0 0).reached.room.size) (deeper bound c.before.before.before.before.before.before.before.before.before.before.before.before.before.before.before.before.before.before.before.before.before.before.before.before) y.result y.new.1.1.0 y.new.1.1.1.0 y.ensures.0 y.ensures.1))  -- returns-6
+    again_on w s.args.facts.now s.args.path.now s.args.depth s.args.done g.0.0 at u.new.0 u.ensures.0 j u.new.1.0 t long e.result e.new.1.1.0 e.new.1.1.1.0 (e.ensures.0 0) place m.result s.args.on.count s.args.on.limit m.ensures h.0.0 q.new.1.1.0 q.new.1.1.1.0 below k.0.0 k.1 (q.auto.1.1.1.0 ∙ (e.ensures.0 0).reached.room.size) (deeper bound c.before.before.before.before.before.before.before.before.before.before.before.before.before.before.before.before.before.before.before.before.before.before.before.before) y.result y.new.1.1.0 y.new.1.1.1.0 y.ensures.0 y.ensures.1))  -- returns-6

@@ -2,8 +2,8 @@
 use Prim.Native.Nat.{◌<◌}
 use native.Mathlib.Omega.{arith}
 use borrow.Author.Rules.{rules}
-use Rattle.magic_rule.proofs.RuledLaws.{ruled-headed}
-use Rattle.magic_walk.proofs.AltLaws.{read-few, read-slots, read_next}
+use Rattle.magic_rule.proofs.RuledLaws.{ruled_headed}
+use Rattle.magic_walk.proofs.AltLaws.{read_few, read_slots, read_next}
 use Rattle.magic_walk.proofs.place.alternative_at.Statement.{statement}
 use Rattle.magic_walk.proofs.place.alternative_at.Tie as tie
 
@@ -14,10 +14,10 @@ begun c = c.before.before.before.before
 few : (c : tie.After-number) → c.number.result < 320
 few c =
     let s = begun c in
-    read-few s.args.rules.now s.pre.0 s.args.path.now s.args.depth s.pre.1.1 c.number.result c.number.ensures c.before.values.result c.before.values.ensures
+    read_few s.args.rules.now s.pre.0 s.args.path.now s.args.depth s.pre.1.1 c.number.result c.number.ensures c.before.values.result c.before.values.ensures
 
-pub alternative-at-spec : {M : Type 1} → statement M
-alternative-at-spec =
+pub alternative_at_spec : {M : Type 1} → statement M
+alternative_at_spec =
     tie.close
     (tie.spec
     (λ c κs. search rules)  -- values-requires
@@ -29,14 +29,14 @@ alternative-at-spec =
     (λ c.
     let k = c.before in
     let s = begun k in
-    omega (arith, (read-slots s.args.rules.now s.pre.0 s.args.path.now s.args.depth s.pre.1.1 k.number.result k.number.ensures k.before.values.result k.before.values.ensures).few))  -- cast-count
+    omega (arith, (read_slots s.args.rules.now s.pre.0 s.args.path.now s.args.depth s.pre.1.1 k.number.result k.number.ensures k.before.values.result k.before.values.ensures).few))  -- cast-count
     (λ c. omega (arith, few c.before))  -- add-branch-after
     (λ c. search rules)  -- slice-aggregate-branch-after
     (λ c κs.
     let k = c.before.before in
     let s = begun k in (
-      ruled-headed s.args.rules.now s.pre.0,
-      read-slots s.args.rules.now s.pre.0 s.args.path.now s.args.depth s.pre.1.1 k.number.result k.number.ensures k.before.values.result k.before.values.ensures,
+      ruled_headed s.args.rules.now s.pre.0,
+      read_slots s.args.rules.now s.pre.0 s.args.path.now s.args.depth s.pre.1.1 k.number.result k.number.ensures k.before.values.result k.before.values.ensures,
     ))  -- branch-after-requires
     (λ c.
     let k = c.before.before.before in

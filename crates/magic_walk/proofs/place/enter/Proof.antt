@@ -2,10 +2,10 @@
 use mathlib.Core.Path.{sym, subst, ◌∙◌}
 use native.Mathlib.Omega.{arith}
 use borrow.Author.Rules.{rules}
-use Rattle.store.specs.contracts.Store.{Store}
-use Rattle.walk.specs.contracts.Path.{Passed}
+use Rattle.store.specs.terms.Store.{Store}
+use Rattle.walk.specs.terms.Path.{Passed}
 use Rattle.magic_walk.proofs.SoundLaws.{sound}
-use Rattle.magic_walk.proofs.FreshLaws.{next_small, added-opening, added-room, added-fresh, added-made}
+use Rattle.magic_walk.proofs.FreshLaws.{next_small, added_opening, added_room, added_fresh, added_made}
 use Rattle.magic_walk.proofs.place.enter.Statement.{statement}
 use Rattle.magic_walk.proofs.place.enter.Tie as tie
 
@@ -50,11 +50,11 @@ enter_spec =
       (
         s.pre.1.0,
         (
-          added-room rules s.pre.0 s.args.facts.now s.args.path.now s.args.depth node s.pre.1.1.1.0 (own z).mark.result (own z).mark.ensures
+          added_room rules s.pre.0 s.args.facts.now s.args.path.now s.args.depth node s.pre.1.1.1.0 (own z).mark.result (own z).mark.ensures
               s.args.a s.pre.1.1.1.1 z.add.new.0 z.add.result z.add.ensures (went z).pass.new.0 (gone z) ((went z).pass.auto.0 ∙ node.room.size),
-          added-opening rules s.pre.0 s.args.facts.now s.args.path.now s.args.depth node s.pre.1.1.1.0 (own z).mark.result (own z).mark.ensures
+          added_opening rules s.pre.0 s.args.facts.now s.args.path.now s.args.depth node s.pre.1.1.1.0 (own z).mark.result (own z).mark.ensures
               s.args.a s.pre.1.1.1.1 z.add.new.0 z.add.result z.add.ensures z.before.before.before.before.before.before.split-place.result z.before.before.before.before.before.before.split-place.ensures,
-          added-fresh rules s.pre.0 s.args.facts.now s.args.path.now s.args.depth node s.pre.1.1.1.0 (own z).mark.result (own z).mark.ensures
+          added_fresh rules s.pre.0 s.args.facts.now s.args.path.now s.args.depth node s.pre.1.1.1.0 (own z).mark.result (own z).mark.ensures
               s.args.a s.pre.1.1.1.1 z.add.new.0 z.add.result z.add.ensures (went z).pass.new.0 (gone z),
         ),
       ),
@@ -68,7 +68,7 @@ enter_spec =
     let rules = s.args.rules.now in
     let node = s.pre.1.1.0 in (
       λ count.
-          added-made rules s.pre.0 s.args.facts.now s.args.path.now s.args.depth node s.pre.1.1.1.0 (own z).mark.result (own z).mark.ensures
+          added_made rules s.pre.0 s.args.facts.now s.args.path.now s.args.depth node s.pre.1.1.1.0 (own z).mark.result (own z).mark.ensures
           s.args.a s.pre.1.1.1.1 z.add.new.0 z.add.result z.add.ensures (went z).pass.new.0 (gone z)
           count f.find.result f.find.new.1.1.0 f.find.new.1.1.1.0 f.find.ensures.0,
       f.find.ensures.1,

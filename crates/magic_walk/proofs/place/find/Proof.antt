@@ -1,8 +1,8 @@
 -- `magic_walk::place::find` meets its contract.
 use mathlib.Core.Path.{◌∙◌}
 use borrow.Author.Rules.{rules}
-use Rattle.magic_rule.specs.contracts.Node.{SplitByRules, HeldSettled}
-use Rattle.magic_walk.proofs.FindLaws.{settled-as, split-few, node-closed, node-open, node-split}
+use Rattle.magic_rule.specs.terms.Node.{SplitByRules, HeldSettled}
+use Rattle.magic_walk.proofs.FindLaws.{settled_as, split_few, node_closed, node_open, node_split}
 use Rattle.magic_walk.proofs.place.find.Statement.{statement}
 use Rattle.magic_walk.proofs.place.find.Tie as tie
 
@@ -25,7 +25,7 @@ parted : (c : tie.After-node) →
 parted c =
     let z = shut c in
     let s = begun z in
-    settled-as s.args.rules.now s.args.facts.now s.args.n z.settle.result _ z.settle.last.1.1.0 c.node.given.1 (settled z)
+    settled_as s.args.rules.now s.args.facts.now s.args.n z.settle.result _ z.settle.last.1.1.0 c.node.given.1 (settled z)
 
 pub find_spec : {M : Type 1} → statement M
 find_spec =
@@ -37,16 +37,16 @@ find_spec =
     (λ c κs.
     let k = c.before.before in
     let s = begun (shut k) in
-    (s.pre.1.1.0, split-few s.args.rules.now s.pre.0 s.args.facts.now s.args.n _ _ _ _ _ _ (shut k).settle.new.1.1.0 (parted k)))  -- note-requires
+    (s.pre.1.1.0, split_few s.args.rules.now s.pre.0 s.args.facts.now s.args.n _ _ _ _ _ _ (shut k).settle.new.1.1.0 (parted k)))  -- note-requires
     (λ c. search rules)  -- same-length
     (λ c. search rules)  -- same-length-2
     (λ c.
     let o = c.before.before in
     let k = o.before.before.before in
     let s = begun (shut k) in (
-      node-split s.args.rules.now s.pre.0 s.args.facts.now s.args.path.now s.args.depth s.args.n s.args.done s.args.from s.pre.1.1.0 s.pre.1.1.1
+      node_split s.args.rules.now s.pre.0 s.args.facts.now s.args.path.now s.args.depth s.args.n s.args.done s.args.from s.pre.1.1.0 s.pre.1.1.1
           (shut k).settle.new.1.1.0 s.pre.1.1.2 _ _ _ _ _ _ (parted k) o.note.new.0 (o.note.auto.0 ∙ s.pre.1.1.0.size) o.note.ensures,
-      o.note.ensures.mark-is,
+      o.note.ensures.mark_is,
     ))  -- returns
     (λ c. search rules)  -- enum-known-node-2
     (λ c. search rules)  -- same-length-3
@@ -54,8 +54,8 @@ find_spec =
     let g = c.before.node2.given in
     let z = c.before.before.before.before.before in
     let s = begun z in (
-      node-closed s.args.rules.now s.pre.0 s.args.facts.now s.args.path.now s.args.depth s.args.n s.args.done s.args.from s.pre.1.1.0 s.pre.1.1.1
-          z.settle.new.1.1.0 s.pre.1.1.2 g.0.0 (settled-as s.args.rules.now s.args.facts.now s.args.n z.settle.result _ z.settle.new.1.1.0 g.1 (settled z)),
+      node_closed s.args.rules.now s.pre.0 s.args.facts.now s.args.path.now s.args.depth s.args.n s.args.done s.args.from s.pre.1.1.0 s.pre.1.1.1
+          z.settle.new.1.1.0 s.pre.1.1.2 g.0.0 (settled_as s.args.rules.now s.args.facts.now s.args.n z.settle.result _ z.settle.new.1.1.0 g.1 (settled z)),
       tt,
     ))  -- returns-2
     (λ c. search rules)  -- enum-known-node-3
@@ -64,7 +64,7 @@ find_spec =
     let g = c.before.node3.given in
     let z = c.before.before.before.before.before in
     let s = begun z in (
-      node-open s.args.rules.now s.pre.0 s.args.facts.now s.args.path.now s.args.depth s.args.n s.args.done s.args.from s.pre.1.1.0 s.pre.1.1.1
-          z.settle.new.1.1.0 s.pre.1.1.2 g.0.0 (settled-as s.args.rules.now s.args.facts.now s.args.n z.settle.result _ z.settle.new.1.1.0 g.1 (settled z)),
+      node_open s.args.rules.now s.pre.0 s.args.facts.now s.args.path.now s.args.depth s.args.n s.args.done s.args.from s.pre.1.1.0 s.pre.1.1.1
+          z.settle.new.1.1.0 s.pre.1.1.2 g.0.0 (settled_as s.args.rules.now s.args.facts.now s.args.n z.settle.result _ z.settle.new.1.1.0 g.1 (settled z)),
       tt,
     )))  -- returns-3

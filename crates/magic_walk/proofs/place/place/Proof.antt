@@ -3,8 +3,8 @@ use borrow.Author.Rules.{rules}
 use Rattle.magic_walk.proofs.place.place.Statement.{statement}
 use Rattle.magic_walk.proofs.place.place.Tie as tie
 
-pub place-spec : {M : Type 1} → statement M
-place-spec =
+pub place_spec : {M : Type 1} → statement M
+place_spec =
     tie.close
     (tie.spec
     (λ c κs. let s = c.before.before.before.before.before in (s.requires.0, (s.requires.1.0, (s.requires.1.1.0, s.requires.1.1.1.0))))  -- enter-requires

@@ -1,6 +1,6 @@
 -- `offer::add` meets its contract.
 use borrow.Author.Rules.{rules}
-use Rattle.offering.proofs.OfferLaws.{add-fault, add-room, add_done}
+use Rattle.offering.proofs.OfferLaws.{add_fault, add_room, add_done}
 use Rattle.offering.proofs.offer.add.Statement.{statement}
 use Rattle.offering.proofs.offer.add.Tie as tie
 
@@ -16,9 +16,9 @@ add_spec =
     (λ c κs.
     let s = c.before.before.before.before.before.before.before.before.before.before in
     let judged = c.before.before.before.before.before.judge-next.ensures in
-    (s.requires, (add-room _ _ s.requires _ judged.judged _ c.before.before.enum_told.given.1, judged.size)))  -- append-requires
+    (s.requires, (add_room _ _ s.requires _ judged.judged _ c.before.before.enum_told.given.1, judged.size)))  -- append-requires
     (λ c. search rules)  -- same-length
-    (λ c. let s = c.before.before.before.before.before.before.before.before.before in add-fault _ _ s.requires _ c.before.before.before.before.judge-next.ensures.judged _ c.before.judged.given.1)  -- returns
+    (λ c. let s = c.before.before.before.before.before.before.before.before.before in add_fault _ _ s.requires _ c.before.before.before.before.judge-next.ensures.judged _ c.before.judged.given.1)  -- returns
     (λ c. search rules)  -- same-length-2
     (λ c.
     let s = c.before.before.before.before.before.before.before.before.before.before.before.before.before in

@@ -5,21 +5,21 @@ use native.Mathlib.Omega.{arith}
 use borrow.Author.Rules.{rules}
 use borrow.Author.Tests.{lt-ltb, le-ltb}
 use lib.ListN.{length}
-use Rattle.ground.proofs.AtomLaws.{table-size, clause-room}
-use Rattle.parting.specs.contracts.Labels.{leadAt}
-use Rattle.parting.proofs.LabelLaws.{lead-small}
+use Rattle.ground.proofs.AtomLaws.{table_size, clause_room}
+use Rattle.parting.specs.terms.Labels.{lead_at}
+use Rattle.parting.proofs.LabelLaws.{lead_small}
 use Rattle.parting.proofs.labels.lead.Statement.{statement}
 use Rattle.parting.proofs.labels.lead.Tie as tie
 
 room : (s : tie.Start) → (s.args.k < 64) × (length s.args.table.now ≡ 4096)
-room s = (clause-room s.args.table.now s.requires.0 s.args.k s.requires.1, table-size s.args.table.now s.requires.0)
+room s = (clause_room s.args.table.now s.requires.0 s.args.k s.requires.1, table_size s.args.table.now s.requires.0)
 
 -- what is given is the first predicate, so it is small
-small : (s : tie.Start) (r : ℕ) → r ≡ leadAt s.args.table.now s.args.k → (r ≡ leadAt s.args.table.now s.args.k) × (r < 33)
-small s r e = (e, subst (λ (x : ℕ). x < 33) (sym e) (lead-small s.args.table.now s.requires.0 s.args.k s.requires.1))
+small : (s : tie.Start) (r : ℕ) → r ≡ lead_at s.args.table.now s.args.k → (r ≡ lead_at s.args.table.now s.args.k) × (r < 33)
+small s r e = (e, subst (λ (x : ℕ). x < 33) (sym e) (lead_small s.args.table.now s.requires.0 s.args.k s.requires.1))
 
-pub lead-spec : {M : Type 1} → statement M
-lead-spec =
+pub lead_spec : {M : Type 1} → statement M
+lead_spec =
     tie.close
     (tie.spec
     (λ c. search rules)  -- mul-at

@@ -5,7 +5,7 @@ use mathlib.Core.Path.{◌≡◌, refl, sym, ap, ◌∙◌}
 use native.Mathlib.Omega.{arith}
 use lib.ListN.{length, set, length-set}
 use Rattle.lists.specs.Tabulate.{tabulate}
-use Rattle.parting.proofs.LoopLaws.{filled, filled_more, filled-all}
+use Rattle.parting.proofs.LoopLaws.{filled, filled_more, filled_all}
 use Rattle.parting.proofs.labels.number.Statement.{statement}
 use Rattle.parting.proofs.labels.number.Tie as tie
 
@@ -15,8 +15,8 @@ invariant-loop labels₀ p₀ labels p = (p ≤ 33) × (labels ≡ filled (λ a.
 abbrev decreases-loop : tie.decreases-loop
 decreases-loop labels₀ p₀ labels p = 33 - p
 
-pub number-spec : {M : Type 1} → statement M
-number-spec =
+pub number_spec : {M : Type 1} → statement M
+number_spec =
     tie.close
     (tie.spec
     invariant-loop
@@ -38,4 +38,4 @@ number-spec =
     let l = c.before.loop in
     let s = c.before.before in
     let e : l.p ≡ length s.args.labels.now = omega arith in
-    l.invariant.1 ∙ filled-all (λ a. a) s.args.labels.now l.p e ∙ ap (tabulate (λ a. a)) s.requires))  -- returns
+    l.invariant.1 ∙ filled_all (λ a. a) s.args.labels.now l.p e ∙ ap (tabulate (λ a. a)) s.requires))  -- returns

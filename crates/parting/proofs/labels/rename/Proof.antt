@@ -4,8 +4,8 @@ use mathlib.Core.List.{List}
 use mathlib.Core.Path.{◌≡◌, refl, sym, ap, ◌∙◌}
 use native.Mathlib.Omega.{arith}
 use lib.ListN.{length, get_or, set, length-set}
-use Rattle.parting.specs.contracts.Labels.{renamed}
-use Rattle.parting.proofs.LoopLaws.{filled, filled-read, filled_more, filled-all, tabulate-mapped}
+use Rattle.parting.specs.terms.Labels.{renamed}
+use Rattle.parting.proofs.LoopLaws.{filled, filled_read, filled_more, filled_all, tabulate_mapped}
 use Rattle.parting.proofs.labels.rename.Statement.{statement}
 use Rattle.parting.proofs.labels.rename.Tie as tie
 
@@ -18,8 +18,8 @@ invariant-loop labels₀ from to i₀ labels i = (i ≤ length labels₀) × (la
 abbrev decreases-loop : tie.decreases-loop
 decreases-loop labels₀ from to i₀ labels i = length labels₀ - i
 
-pub rename-spec : {M : Type 1} → statement M
-rename-spec =
+pub rename_spec : {M : Type 1} → statement M
+rename_spec =
     tie.close
     (tie.spec
     invariant-loop
@@ -36,7 +36,7 @@ rename-spec =
     let d : List ℕ = a.labels.now in
     let f : ℕ → ℕ = rule d a.from a.to in
     let here : l.i < length d = omega arith in
-    let same : get_or l.labels l.i 0 ≡ get_or d l.i 0 = ap (λ (r : List ℕ). get_or r l.i 0) l.invariant.1 ∙ filled-read f d l.i here in
+    let same : get_or l.labels l.i 0 ≡ get_or d l.i 0 = ap (λ (r : List ℕ). get_or r l.i 0) l.invariant.1 ∙ filled_read f d l.i here in
     let said : c.renamed.result ≡ f l.i = c.renamed.ensures ∙ ap (renamed a.from a.to) same in (
       omega arith,
       ap (λ (x : ℕ). set l.labels l.i x) said ∙ ap (λ (r : List ℕ). set r l.i (f l.i)) l.invariant.1 ∙ filled_more f d l.i here,
@@ -48,4 +48,4 @@ rename-spec =
     let a = c.before.before.before.args in
     let d : List ℕ = a.labels.now in
     let e : l.i ≡ length d = omega arith in
-    l.invariant.1 ∙ filled-all (rule d a.from a.to) d l.i e ∙ tabulate-mapped (renamed a.from a.to) d))  -- returns
+    l.invariant.1 ∙ filled_all (rule d a.from a.to) d l.i e ∙ tabulate_mapped (renamed a.from a.to) d))  -- returns

@@ -7,16 +7,16 @@ use borrow.Author.Rules.{rules}
 use borrow.Author.Tests.{lt-ltb, le-ltb}
 use lib.Dec.{eqb}
 use lib.ListN.{length, get_or}
-use Rattle.parting.specs.contracts.Labels.{labelsIn}
-use Rattle.parting.proofs.LabelLaws.{labels-known}
+use Rattle.parting.specs.terms.Labels.{labels_in}
+use Rattle.parting.proofs.LabelLaws.{labels_known}
 use Rattle.parting.proofs.part.belongs.Statement.{statement}
 use Rattle.parting.proofs.part.belongs.Tie as tie
 
 size : (s : tie.Start) → length s.args.labels.now ≡ 33
-size s = ap length s.requires.1.0 ∙ (labels-known s.args.table.now s.requires.0).size
+size s = ap length s.requires.1.0 ∙ (labels_known s.args.table.now s.requires.0).size
 
-pub belongs-spec : {M : Type 1} → statement M
-belongs-spec =
+pub belongs_spec : {M : Type 1} → statement M
+belongs_spec =
     tie.close
     (tie.spec
     (λ c κs. search rules)  -- lead-requires

@@ -5,8 +5,8 @@ use borrow.Author.Tests.{eq-eqb, ne_eqb}
 use Rattle.parting.proofs.part.chosen.Statement.{statement}
 use Rattle.parting.proofs.part.chosen.Tie as tie
 
-pub chosen-spec : {M : Type 1} → statement M
-chosen-spec =
+pub chosen_spec : {M : Type 1} → statement M
+chosen_spec =
     tie.close
     (tie.spec
     (λ c. let a = c.before.args in ap (λ (b : Bool). cond b a.new a.old) (sym (eq-eqb a.mark a.x c.if1.true)))  -- returns

@@ -6,14 +6,14 @@ use native.Mathlib.Omega.{arith}
 use borrow.Author.Rules.{rules}
 use lib.ListN.{length, take, drop, set, replicate, length-replicate}
 use lib.Seq.{length-take-le}
-use Rattle.problem.specs.Layout.{layout, problemIn}
-use Rattle.ground.proofs.AtomLaws.{table-size}
-use Rattle.parting.proofs.GatherLaws.{head-laid}
+use Rattle.problem.specs.Layout.{layout, problem_in}
+use Rattle.ground.proofs.AtomLaws.{table_size}
+use Rattle.parting.proofs.GatherLaws.{head_laid}
 use Rattle.parting.proofs.part.head.Statement.{statement}
 use Rattle.parting.proofs.part.head.Tie as tie
 
 long : (s : tie.Start) → (length s.args.own.now ≡ 4096) × (length (take 144 s.args.table.now) ≡ 144)
-long s = (ap length s.requires.1 ∙ length-replicate {A = ℕ} 4096 0, length-take-le 144 s.args.table.now (omega (arith, table-size s.args.table.now s.requires.0)))
+long s = (ap length s.requires.1 ∙ length-replicate {A = ℕ} 4096 0, length-take-le 144 s.args.table.now (omega (arith, table_size s.args.table.now s.requires.0)))
 
 pub head_spec : {M : Type 1} → statement M
 head_spec =
@@ -29,4 +29,4 @@ head_spec =
     let own : List ℕ = s.args.own.now in
     ap (λ (l : List ℕ). set l 2 0) (c.before.before.copy.ensures ∙ ap (λ (n : ℕ). take 144 tb ++ drop n own) (long s).1)
     ∙ ap (λ (l : List ℕ). set (take 144 l ++ drop 144 own) 2 0) (sym s.requires.0.laid)
-    ∙ head-laid (problemIn tb) s.requires.0.fits own s.requires.1))  -- returns
+    ∙ head_laid (problem_in tb) s.requires.0.fits own s.requires.1))  -- returns

@@ -8,19 +8,19 @@ use borrow.Author.Rules.{rules}
 use lib.Dec.{eqb}
 use lib.ListN.{length, get_or, set, length-set}
 use Rattle.lists.specs.Tabulate.{tabulate}
-use Rattle.parting.specs.contracts.Tally.{joinedAs}
-use Rattle.parting.proofs.LoopLaws.{filled, filled-read, filled_more, filled-all}
+use Rattle.parting.specs.terms.Tally.{joined_as}
+use Rattle.parting.proofs.LoopLaws.{filled, filled_read, filled_more, filled_all}
 use Rattle.parting.proofs.part.join.Statement.{statement}
 use Rattle.parting.proofs.part.join.Tie as tie
 
 abbrev invariant-loop : tie.invariant-loop
-invariant-loop marks x bits joined₀ a₀ joined a = (a ≤ 1024) × (joined ≡ filled (joinedAs marks x bits joined₀) joined₀ a) × (length joined ≡ 1024)
+invariant-loop marks x bits joined₀ a₀ joined a = (a ≤ 1024) × (joined ≡ filled (joined_as marks x bits joined₀) joined₀ a) × (length joined ≡ 1024)
 
 abbrev decreases-loop : tie.decreases-loop
 decreases-loop marks x bits joined₀ a₀ joined a = 1024 - a
 
-pub join-spec : {M : Type 1} → statement M
-join-spec =
+pub join_spec : {M : Type 1} → statement M
+join_spec =
     tie.close
     (tie.spec
     invariant-loop
@@ -37,9 +37,9 @@ join-spec =
     let s = c.before.before.before.before.before.before.before.before.before in
     let l = c.before.before.before.before.before.loop in
     let d : List ℕ = s.args.joined.now in
-    let f : ℕ → ℕ = joinedAs s.args.marks.now s.args.x s.args.bits.now d in
+    let f : ℕ → ℕ = joined_as s.args.marks.now s.args.x s.args.bits.now d in
     let here : l.a < length d = omega (arith, s.requires.2, c.before.before.before.before.loop-test.true) in
-    let same : get_or l.joined l.a 0 ≡ get_or d l.a 0 = ap (λ (r : List ℕ). get_or r l.a 0) l.invariant.1 ∙ filled-read f d l.a here in
+    let same : get_or l.joined l.a 0 ≡ get_or d l.a 0 = ap (λ (r : List ℕ). get_or r l.a 0) l.invariant.1 ∙ filled_read f d l.a here in
     let said : c.chosen.result ≡ f l.a = c.chosen.ensures ∙ ap (λ (y : ℕ). cond (eqb (get_or s.args.marks.now l.a 0) s.args.x) (get_or s.args.bits.now l.a 0) y) same in (
       omega (arith, c.before.before.before.before.loop-test.true),
       ap (λ (y : ℕ). set l.joined l.a y) said ∙ ap (λ (r : List ℕ). set r l.a (f l.a)) l.invariant.1 ∙ filled_more f d l.a here,
@@ -50,6 +50,6 @@ join-spec =
     let s = c.before.before.before.before.before in
     let l = c.before.loop in
     let d : List ℕ = s.args.joined.now in
-    let f : ℕ → ℕ = joinedAs s.args.marks.now s.args.x s.args.bits.now d in
+    let f : ℕ → ℕ = joined_as s.args.marks.now s.args.x s.args.bits.now d in
     let e : l.a ≡ length d = omega (arith, s.requires.2, l.invariant.0, c.loop-test.false) in
-    l.invariant.1 ∙ filled-all f d l.a e ∙ ap (tabulate f) s.requires.2))  -- returns
+    l.invariant.1 ∙ filled_all f d l.a e ∙ ap (tabulate f) s.requires.2))  -- returns

@@ -3,8 +3,8 @@ use borrow.Author.Tests.{eq-eqb, ne_eqb}
 use Rattle.parting.proofs.parts.said.Statement.{statement}
 use Rattle.parting.proofs.parts.said.Tie as tie
 
-pub said-spec : {M : Type 1} → statement M
-said-spec =
+pub said_spec : {M : Type 1} → statement M
+said_spec =
     tie.close
     (tie.spec
     (λ c. rw (eq-eqb _ 0 c.if1.true))  -- returns

@@ -7,13 +7,13 @@ use borrow.Author.Rules.{rules}
 use lib.ListN.{length, replicate, length-replicate}
 use Rattle.lists.specs.Tabulate.{tabulate}
 use Rattle.problem.specs.Problem.{Problem}
-use Rattle.problem.specs.Layout.{problemIn}
+use Rattle.problem.specs.Layout.{problem_in}
 use Rattle.problem.specs.Table.{Lawful}
-use Rattle.ground.specs.Verdict.{verdictOf, answer_of}
+use Rattle.ground.specs.Verdict.{verdict_of, answer_of}
 use Rattle.parting.specs.Runs.{run_by}
-use Rattle.parting.specs.contracts.Gathered.{gathered}
-use Rattle.parting.specs.contracts.Tally.{joinedAs}
-use Rattle.parting.proofs.GatherLaws.{own-lawful, own-problem}
+use Rattle.parting.specs.terms.Gathered.{gathered}
+use Rattle.parting.specs.terms.Tally.{joined_as}
+use Rattle.parting.proofs.GatherLaws.{own_lawful, own_problem}
 use Rattle.parting.proofs.turns.run_part.Statement.{statement}
 use Rattle.parting.proofs.turns.run_part.Tie as tie
 
@@ -24,15 +24,15 @@ begun g = g.before.before.before.before.before.before.before
 lawful : (g : tie.After-gather) → Lawful g.gather.new.0
 lawful g =
     let s = begun g in
-    own-lawful s.args.table.now s.pre.0 s.args.x _ (length (problemIn s.args.table.now).clauses) g.gather.ensures (omega arith)
+    own_lawful s.args.table.now s.pre.0 s.args.x _ (length (problem_in s.args.table.now).clauses) g.gather.ensures (omega arith)
 
-part : (g : tie.After-gather) → let s = begun g in problemIn g.gather.new.0 ≡ gathered s.args.table.now s.args.x
+part : (g : tie.After-gather) → let s = begun g in problem_in g.gather.new.0 ≡ gathered s.args.table.now s.args.x
 part g =
     let s = begun g in
-    own-problem s.args.table.now s.pre.0 s.args.x _ (length (problemIn s.args.table.now).clauses) g.gather.ensures (omega arith)
+    own_problem s.args.table.now s.pre.0 s.args.x _ (length (problem_in s.args.table.now).clauses) g.gather.ensures (omega arith)
 
-pub run-part-spec : {M : Type 1} → statement M
-run-part-spec =
+pub run_part_spec : {M : Type 1} → statement M
+run_part_spec =
     tie.close
     (tie.spec
     (λ c. search rules)  -- slice-aggregate-gather
@@ -48,9 +48,9 @@ run-part-spec =
     let s = c.before.before.before.before.before.before.before.before.before.before.before.before.before.before.before.before.before.before.before.before in
     let u = c.before.before.before.before.before.before.before.before.run in
     let same = part c.before.before.before.before.before.before.before.before.before.before.before.before.before in (
-      u.ensures.0 ∙ ap (λ (q : Problem). verdictOf (run_by s.args.magic q)) same,
+      u.ensures.0 ∙ ap (λ (q : Problem). verdict_of (run_by s.args.magic q)) same,
       c.before.before.join.ensures
-          ∙ ap (λ (bits : List ℕ). tabulate (joinedAs s.args.marks.now s.args.x bits s.args.joined.now) 1024)
+          ∙ ap (λ (bits : List ℕ). tabulate (joined_as s.args.marks.now s.args.x bits s.args.joined.now) 1024)
           (u.ensures.1 ∙ ap (λ (q : Problem). answer_of (run_by s.args.magic q) (replicate 1024 0)) same),
       u.ensures.2,
     )))  -- returns

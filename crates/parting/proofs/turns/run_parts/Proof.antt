@@ -6,8 +6,8 @@ use lib.ListN.{length, replicate}
 use Rattle.parting.proofs.turns.run_parts.Statement.{statement}
 use Rattle.parting.proofs.turns.run_parts.Tie as tie
 
-pub run-parts-spec : {M : Type 1} → statement M
-run-parts-spec =
+pub run_parts_spec : {M : Type 1} → statement M
+run_parts_spec =
     tie.close
     (tie.spec
     (λ c. search rules)  -- slice-aggregate-label

@@ -5,9 +5,9 @@ use borrow.Author.Rules.{rules}
 use lib.Dec.{ltb}
 use lib.ListN.{length, take}
 use lib.Seq.{length-take-le}
-use Rattle.problem.proofs.Theorems.{valid-table}
-use Rattle.writing.specs.contracts.Lent.{refusalOf}
-use Rattle.parting.proofs.CallLaws.{RelevancyLent, relevancy-refused, relevancy-lent, relevancy-parts}
+use Rattle.problem.proofs.Theorems.{valid_table}
+use Rattle.writing.specs.terms.Lent.{refusal_of}
+use Rattle.parting.proofs.CallLaws.{RelevancyLent, relevancy_refused, relevancy_lent, relevancy_parts}
 use Rattle.parts_calls.proofs.by_relevancy.parts_relevancy.Statement.{statement}
 use Rattle.parts_calls.proofs.by_relevancy.parts_relevancy.Tie as tie
 
@@ -15,30 +15,30 @@ abbrev begun : tie.After-refusal → tie.Start
 begun c = c.before.before.before.before.before
 
 -- the number that it is refused by, or 0
-lent : (c : tie.After-refusal) → (let a = (begun c).args in c.refusal.result ≡ refusalOf a.table.now (ltb (length a.answer.now) 1024 || ltb (length a.work.now) 65536))
-lent c = let a = (begun c).args in c.refusal.ensures ∙ ap (refusalOf a.table.now) c.before.too_small.ensures
+lent : (c : tie.After-refusal) → (let a = (begun c).args in c.refusal.result ≡ refusal_of a.table.now (ltb (length a.answer.now) 1024 || ltb (length a.work.now) 65536))
+lent c = let a = (begun c).args in c.refusal.ensures ∙ ap (refusal_of a.table.now) c.before.too_small.ensures
 
 -- all is taken
 good : (c : tie.Else1) → (let a = (begun c.before).args in RelevancyLent a.table.now a.answer.now a.work.now)
-good c = let a = (begun c.before).args in relevancy-lent a.table.now a.answer.now a.work.now a.count.now c.before.refusal.result (lent c.before) c.if1.false
+good c = let a = (begun c.before).args in relevancy_lent a.table.now a.answer.now a.work.now a.count.now c.before.refusal.result (lent c.before) c.if1.false
 
-pub parts-relevancy-spec : {M : Type 1} → statement M
-parts-relevancy-spec =
+pub parts_relevancy_spec : {M : Type 1} → statement M
+parts_relevancy_spec =
     tie.close
     (tie.spec
     (λ c κs. search rules)  -- too-small-requires
     (λ c κs. search rules)  -- refusal-requires
-    (λ c. let a = c.before.before.before.before.before.before.args in relevancy-refused a.table.now a.answer.now a.work.now a.count.now c.before.refusal.result (lent c.before) c.if1.true)  -- returns
-    (λ c. sym (length-take-le 4096 c.before.before.before.before.before.before.before.args.table.now (good c.before).table-long))  -- slice-aggregate-fit-parts
-    (λ c. (good c.before.before).work-long)  -- slice-relend-prefix-fit-parts
-    (λ c. sym (length-take-le 65536 c.before.before.before.before.before.before.before.before.before.args.work.now (good c.before.before.before).work-long))  -- slice-aggregate-fit-parts-2
+    (λ c. let a = c.before.before.before.before.before.before.args in relevancy_refused a.table.now a.answer.now a.work.now a.count.now c.before.refusal.result (lent c.before) c.if1.true)  -- returns
+    (λ c. sym (length-take-le 4096 c.before.before.before.before.before.before.before.args.table.now (good c.before).table_long))  -- slice-aggregate-fit-parts
+    (λ c. (good c.before.before).work_long)  -- slice-relend-prefix-fit-parts
+    (λ c. sym (length-take-le 65536 c.before.before.before.before.before.before.before.before.before.args.work.now (good c.before.before.before).work_long))  -- slice-aggregate-fit-parts-2
     (λ c κs.
     let a = c.before.before.before.before.before.before.before.before.before.args in
     let t = good c.before.before.before in
-    (valid-table (take 4096 a.table.now) t.valid, (t.answer-long, length-take-le 65536 a.work.now t.work-long)))  -- fit-parts-requires
+    (valid_table (take 4096 a.table.now) t.valid, (t.answer_long, length-take-le 65536 a.work.now t.work_long)))  -- fit-parts-requires
     (λ c. search rules)  -- same-length
     (λ c. search rules)  -- same-length-2
     (λ c.
     let a = c.before.before.before.before.before.before.before.before.before.before.before.before.before.before.args in
     let u = c.before.before.before.before.Fit-Parts in
-    relevancy-parts a.table.now a.answer.now a.work.now a.count.now c.before.before.before.before.before.before.before.before.before.refusal.result (lent c.before.before.before.before.before.before.before.before.before) c.before.before.before.before.before.before.before.before.if1.false u.result.parting u.result.count _ _ u.ensures))  -- returns-2
+    relevancy_parts a.table.now a.answer.now a.work.now a.count.now c.before.before.before.before.before.before.before.before.before.refusal.result (lent c.before.before.before.before.before.before.before.before.before) c.before.before.before.before.before.before.before.before.if1.false u.result.parting u.result.count _ _ u.ensures))  -- returns-2

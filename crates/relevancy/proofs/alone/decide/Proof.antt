@@ -3,21 +3,21 @@ use Prim.Native.Nat.{ℕ}
 use mathlib.Core.Path.{subst, ◌∙◌}
 use borrow.Author.Rules.{rules}
 use lib.ListN.{length-replicate}
-use Rattle.ground.proofs.AtomLaws.{table-size}
-use Rattle.ground.proofs.VerdictLaws.{limit-of}
-use Rattle.session.specs.contracts.End.{Replied}
-use Rattle.relevancy_walk.specs.contracts.Place.{relevancyWalker}
-use Rattle.relevancy.proofs.EngineLaws.{no-facts}
+use Rattle.ground.proofs.AtomLaws.{table_size}
+use Rattle.ground.proofs.VerdictLaws.{limit_of_lem}
+use Rattle.session.specs.terms.End.{Replied}
+use Rattle.relevancy_walk.specs.terms.Place.{relevancy_walker}
+use Rattle.relevancy.proofs.EngineLaws.{no_facts}
 use Rattle.relevancy.proofs.alone.decide.Statement.{statement}
 use Rattle.relevancy.proofs.alone.decide.Tie as tie
 
-pub decide-spec : {M : Type 1} → statement M
-decide-spec =
+pub decide_spec : {M : Type 1} → statement M
+decide_spec =
     tie.close
     (tie.spec
-    (λ c κs. let s = c.before.before.before in table-size s.args.table.now s.requires.0)  -- limit-in-requires
+    (λ c κs. let s = c.before.before.before in table_size s.args.table.now s.requires.0)  -- limit-in-requires
     (λ c. search rules)  -- slice-aggregate-walk-whole
-    (λ c κs. let s = c.before.before.before.before.before.before in (s.requires.0, (no-facts, s.requires.1.1)))  -- walk-whole-requires
+    (λ c κs. let s = c.before.before.before.before.before.before in (s.requires.0, (no_facts, s.requires.1.1)))  -- walk-whole-requires
     (λ c. search rules)  -- slice-aggregate-reply
     (λ c κs.
     let s = c.before.before.before.before.before.before.before.before.before.before.before.before.before in
@@ -28,4 +28,4 @@ decide-spec =
     (λ c.
     let a = c.before.before.before.before.before.before.before.before.before.before.before.before.before.before.before.before.args in
     let r = c.before.before.reply in
-    subst (λ (n : ℕ). Replied (relevancyWalker a.table.now) n a.answer.now r.result r.new.1.1.1.0) (c.before.before.before.before.before.before.before.before.before.before.before.before.limit-in.ensures ∙ limit-of a.table.now) r.ensures))  -- returns
+    subst (λ (n : ℕ). Replied (relevancy_walker a.table.now) n a.answer.now r.result r.new.1.1.1.0) (c.before.before.before.before.before.before.before.before.before.before.before.before.limit-in.ensures ∙ limit_of_lem a.table.now) r.ensures))  -- returns

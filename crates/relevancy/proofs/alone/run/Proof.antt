@@ -5,8 +5,8 @@ use native.Mathlib.Omega.{arith}
 use lib.ListN.{length, take, replicate}
 use lib.Seq.{length-take-le}
 use borrow.Author.Rules.{rules}
-use Rattle.store.proofs.Lent.{put-size}
-use Rattle.relevancy.proofs.EngineLaws.{run-replied}
+use Rattle.store.proofs.Lent.{put_size}
+use Rattle.relevancy.proofs.EngineLaws.{run_replied}
 use Rattle.relevancy.proofs.alone.run.Statement.{statement}
 use Rattle.relevancy.proofs.alone.run.Tie as tie
 
@@ -28,6 +28,6 @@ run_spec =
     (λ c.
     let s = c.before.before.before.before.before.before.before.before.before.before.before.before.before.before in
     let d = c.before.before.before.before.before.before.before.before.decide in
-    let told = run-replied s.args.table.now s.args.answer.now d.result d.new.1.0 d.ensures in
-    let size = put-size 9227 65536 (omega arith) s.args.work.now s.requires.1.1 d.new.1.1.0 (d.auto.1.1.0 ∙ part s) in
+    let told = run_replied s.args.table.now s.args.answer.now d.result d.new.1.0 d.ensures in
+    let size = put_size 9227 65536 (omega arith) s.args.work.now s.requires.1.1 d.new.1.1.0 (d.auto.1.1.0 ∙ part s) in
     (told.0, told.1, told.2, c.before.before.zero.ensures ∙ ap (λ (m : ℕ). replicate m 0) size)))  -- returns

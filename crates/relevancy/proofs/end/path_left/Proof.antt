@@ -5,13 +5,13 @@ use native.Mathlib.Omega.{arith}
 use borrow.Author.Rules.{rules}
 use lib.ListN.{replicate, length-replicate}
 use Rattle.session.specs.declared.end.Left.{Left}
-use Rattle.session.proofs.EndLaws.{open-path, due-path, left_open, left-due, left-shut}
-use Rattle.relevancy_walk.specs.contracts.Place.{relevancyWalker}
+use Rattle.session.proofs.EndLaws.{open_path, due_path, left_open, left_due, left_shut}
+use Rattle.relevancy_walk.specs.terms.Place.{relevancy_walker}
 use Rattle.relevancy.proofs.end.path_left.Statement.{statement}
 use Rattle.relevancy.proofs.end.path_left.Tie as tie
 
-pub path-left-spec : {M : Type 1} → statement M
-path-left-spec =
+pub path_left_spec : {M : Type 1} → statement M
+path_left_spec =
     tie.close
     (tie.spec
     (λ c κs. let s = c.before.before in s.requires.1.0)  -- deepest-requires
@@ -24,17 +24,17 @@ path-left-spec =
     let a = s.args in
     let run = s.requires.1.1.1 in
     let g = c.before.before.before.walked.given in
-    (s.requires.0, (open-path (relevancyWalker a.table.now) run.1.0 a.walked g.0.0 g.0.1.0 g.1 run.0 a.path.now run.1.1, (refl, refl))))  -- steps-requires
+    (s.requires.0, (open_path (relevancy_walker a.table.now) run.1.0 a.walked g.0.0 g.0.1.0 g.1 run.0 a.path.now run.1.1, (refl, refl))))  -- steps-requires
     (λ c.
     let s = c.before.before.before.before.before.before.before.before.before.before.before in
     let a = s.args in
-    let w = relevancyWalker a.table.now in
+    let w = relevancy_walker a.table.now in
     let run = s.requires.1.1.1 in
     let g = c.before.before.before.before.before.before.walked.given in
     let st = c.before.before.steps in
     let o = c.before.before.before.before.before.before.before.before.deepest in
     let x : Left = record { next = 0; atoms = st.new.1.1.1.0; nexts = st.new.1.1.1.1.0; deepest = o.result } in
-    let at = open-path w run.1.0 a.walked g.0.0 g.0.1.0 g.1 run.0 a.path.now run.1.1 in
+    let at = open_path w run.1.0 a.walked g.0.0 g.0.1.0 g.1 run.0 a.path.now run.1.1 in
     left_open w a.walked a.path.now x o.ensures g.0.1.0 at.0.deep (st.auto.1.1.1.0 ∙ length-replicate {A = ℕ} 1024 0) (st.auto.1.1.1.1.0 ∙ length-replicate {A = ℕ} 1024 0) st.ensures
     g.0.0 g.1 refl)  -- returns
     (λ c. search rules)  -- enum-known-walked-2
@@ -45,24 +45,24 @@ path-left-spec =
     let a = s.args in
     let run = s.requires.1.1.1 in
     let g = c.before.before.before.walked2.given in
-    (s.requires.0, (due-path (relevancyWalker a.table.now) run.1.0 a.walked g.0.0 g.1 run.0 a.path.now run.1.1, (refl, refl))))  -- steps-requires-2
+    (s.requires.0, (due_path (relevancy_walker a.table.now) run.1.0 a.walked g.0.0 g.1 run.0 a.path.now run.1.1, (refl, refl))))  -- steps-requires-2
     (λ c κs.
     let s = c.before.before.before.before.before.before.before.before.before.before.before in
     let a = s.args in
     let run = s.requires.1.1.1 in
     let g = c.before.before.before.before.before.before.walked2.given in
-    (due-path (relevancyWalker a.table.now) run.1.0 a.walked g.0.0 g.1 run.0 a.path.now run.1.1).0)  -- next-requires
+    (due_path (relevancy_walker a.table.now) run.1.0 a.walked g.0.0 g.1 run.0 a.path.now run.1.1).0)  -- next-requires
     (λ c.
     let s = c.before.before.before.before.before.before.before.before.before.before.before.before in
     let a = s.args in
-    let w = relevancyWalker a.table.now in
+    let w = relevancy_walker a.table.now in
     let run = s.requires.1.1.1 in
     let g = c.before.before.before.before.before.before.before.walked2.given in
     let st = c.before.before.before.steps2 in
     let o = c.before.before.before.before.before.before.before.before.before.deepest in
     let x : Left = record { next = c.next.result; atoms = st.new.1.1.1.0; nexts = st.new.1.1.1.1.0; deepest = o.result } in
-    let at = due-path w run.1.0 a.walked g.0.0 g.1 run.0 a.path.now run.1.1 in
-    left-due w a.walked a.path.now x o.ensures g.0.0 at.0.deep (st.auto.1.1.1.0 ∙ length-replicate {A = ℕ} 1024 0) (st.auto.1.1.1.1.0 ∙ length-replicate {A = ℕ} 1024 0) st.ensures
+    let at = due_path w run.1.0 a.walked g.0.0 g.1 run.0 a.path.now run.1.1 in
+    left_due w a.walked a.path.now x o.ensures g.0.0 at.0.deep (st.auto.1.1.1.0 ∙ length-replicate {A = ℕ} 1024 0) (st.auto.1.1.1.1.0 ∙ length-replicate {A = ℕ} 1024 0) st.ensures
     g.1 c.next.ensures)  -- returns-2
     (λ c. search rules)  -- enum-told
     (λ c.
@@ -70,4 +70,4 @@ path-left-spec =
     let a = s.args in
     let o = c.before.before.deepest in
     let x : Left = record { next = a.used; atoms = replicate 1024 0; nexts = replicate 1024 0; deepest = o.result } in
-    left-shut (relevancyWalker a.table.now) a.walked a.path.now x o.ensures c.before.match.keys3 refl refl s.requires.1.1.0))  -- returns-3
+    left_shut (relevancy_walker a.table.now) a.walked a.path.now x o.ensures c.before.match.keys3 refl refl s.requires.1.1.0))  -- returns-3

@@ -3,15 +3,15 @@ use Prim.Native.Nat.{ℕ}
 use mathlib.Core.Path.{◌≡◌, refl, subst, ◌∙◌}
 use native.Mathlib.Omega.{arith}
 use borrow.Author.Rules.{rules}
-use Rattle.walk.specs.contracts.Walker.{fromRoot}
-use Rattle.walk.specs.contracts.Walk.{Walks}
-use Rattle.relevancy_walk.specs.contracts.Place.{relevancyWalker}
-use Rattle.relevancy.proofs.EngineLaws.{root-flags}
+use Rattle.walk.specs.terms.Walker.{from_root}
+use Rattle.walk.specs.terms.Walk.{Walks}
+use Rattle.relevancy_walk.specs.terms.Place.{relevancy_walker}
+use Rattle.relevancy.proofs.EngineLaws.{root_flags}
 use Rattle.relevancy.proofs.whole.walk_whole.Statement.{statement}
 use Rattle.relevancy.proofs.whole.walk_whole.Tie as tie
 
-pub walk-whole-spec : {M : Type 1} → statement M
-walk-whole-spec =
+pub walk_whole_spec : {M : Type 1} → statement M
+walk_whole_spec =
     tie.close
     (tie.spec
     (λ c. search rules)  -- slice-aggregate-slots
@@ -27,14 +27,14 @@ walk-whole-spec =
     (λ c κs.
     let s = c.before.before.before.before.before.before.before.before.before.before.before.before.before.before.before.before.before.before.before.before.before.before.before.before.before.before in
     let b = c.before.before.before.before.before.before.before.before.root in
-    (s.requires.0, ((b.auto.1.1.1.0 ∙ s.requires.1.0.room, root-flags s.args.table.now s.requires.0 _ b.new.1.1.1.0 b.new.1.1.1.1.0 b.ensures.0), refl)))  -- build-requires
+    (s.requires.0, ((b.auto.1.1.1.0 ∙ s.requires.1.0.room, root_flags s.args.table.now s.requires.0 _ b.new.1.1.1.0 b.new.1.1.1.1.0 b.ensures.0), refl)))  -- build-requires
     (λ c κs. let s = c.before.before.before.before.before.before.before.before.before.before.before.before.before.before.before.before.before.before.before.before.before.before.before.before.before.before.before.before.before.before.before.before.before in (s.requires.0, ((c.before.before.before.before.before.before.before.before.before.before.before.before.before.before.before.before.before.before.before.before.before.before.before.before.before.before.before.before.slots.ensures, c.before.before.before.before.before.before.before.before.before.before.before.before.before.before.before.before.before.before.before.before.before.before.before.before.before.slots2.ensures, c.before.before.before.before.before.before.build.ensures), c.before.before.before.before.before.before.before.before.before.before.before.before.before.before.before.root.ensures.0)))  -- from-root-requires
     (λ c. c.before.before.before.before.from-root.auto.1.1.1.1.0 ∙ c.before.before.before.before.before.before.before.before.before.before.before.before.before.before.before.before.before.before.before.before.root.auto.1.1.1.0)  -- same-length
     (λ c. c.before.before.before.before.from-root.auto.1.1.1.1.1.0 ∙ c.before.before.before.before.before.before.before.before.before.before.before.before.before.before.before.before.before.before.before.before.root.auto.1.1.1.1.0 ∙ c.before.before.before.before.before.before.before.before.before.before.before.before.before.before.before.before.before.before.before.before.before.before.before.before.before.before.before.bring.auto.0)  -- same-length-2
     (λ c.
     let s = c.before.before.before.before.before.before.before.before.before.before.before.before.before.before.before.before.before.before.before.before.before.before.before.before.before.before.before.before.before.before.before.before.before.before.before.before.before.before in
-    let w = relevancyWalker s.args.table.now in
+    let w = relevancy_walker s.args.table.now in
     let f = c.before.before.before.before.from-root in (
       c.before.before.before.before.before.before.before.before.before.before.before.before.before.before.root-alternatives.ensures,
-      subst (λ (d : ℕ). Walks w (fromRoot w d s.args.limit) f.result f.new.1.1.1.1.0 f.new.1.1.1.1.1.0) (c.before.before.before.before.before.before.before.before.before.before.before.before.before.before.before.before.before.before.before.before.root.ensures.1 ∙ c.before.before.before.before.before.before.before.before.before.before.before.before.before.before.before.before.before.before.before.before.before.before.before.before.before.before.before.bring.ensures.0) f.ensures,
+      subst (λ (d : ℕ). Walks w (from_root w d s.args.limit) f.result f.new.1.1.1.1.0 f.new.1.1.1.1.1.0) (c.before.before.before.before.before.before.before.before.before.before.before.before.before.before.before.before.before.before.before.before.root.ensures.1 ∙ c.before.before.before.before.before.before.before.before.before.before.before.before.before.before.before.before.before.before.before.before.before.before.before.before.before.before.before.bring.ensures.0) f.ensures,
     )))  -- returns

@@ -5,7 +5,7 @@ use native.Mathlib.Omega.{arith}
 use lib.ListN.{length, take, replicate}
 use lib.Seq.{length-take-le}
 use borrow.Author.Rules.{rules}
-use Rattle.store.proofs.Lent.{put-size}
+use Rattle.store.proofs.Lent.{put_size}
 use Rattle.relevancy_calls.proofs.fit.run.Statement.{statement}
 use Rattle.relevancy_calls.proofs.fit.run.Tie as tie
 
@@ -28,5 +28,5 @@ run_spec =
     let s = c.before.before.before.before.before.before.before.before.before.before.before.before.before.before in
     let d = c.before.before.before.before.before.before.before.before.decide in
     let z = c.before.before.zero in
-    let size = put-size 9227 65536 (omega arith) s.args.work.now s.requires.1.1 d.new.1.1.0 (d.auto.1.1.0 ∙ part s) in
+    let size = put_size 9227 65536 (omega arith) s.args.work.now s.requires.1.1 d.new.1.1.0 (d.auto.1.1.0 ∙ part s) in
     (d.ensures.0, d.ensures.1, d.ensures.2, z.ensures ∙ ap (λ (m : ℕ). replicate m 0) size)))  -- returns

@@ -6,16 +6,16 @@ use native.Mathlib.Omega.{arith}
 use borrow.Author.Rules.{rules}
 use borrow.Author.Tests.{not-true, not-false}
 use lib.ListN.{length, get_or}
-use Rattle.problem.specs.Layout.{problemIn}
-use Rattle.ground.specs.Instance.{clauseOf}
-use Rattle.kernel.specs.contracts.Matching.{fullBox, rank, volume}
-use Rattle.kernel.specs.contracts.Row.{Boxed, RowFirst, RowNext}
-use Rattle.ground.proofs.AtomLaws.{alts-count}
-use Rattle.ground.proofs.Turns.{ClauseKnown, clause-known, clause-listed}
-use Rattle.relevancy_rule.specs.contracts.Instances.{clauseBox}
-use Rattle.relevancy_rule.specs.contracts.Choose.{Splitting}
-use Rattle.relevancy_rule.proofs.ChooseLaws.{choose-horn}
-use Rattle.relevancy_rule.proofs.RowLaws.{RowsTried, choose-nowhere, clause-boxed, rows_start, rows-here, rows_on, rows_end, rows-fall}
+use Rattle.problem.specs.Layout.{problem_in}
+use Rattle.ground.specs.Instance.{clause_of}
+use Rattle.kernel.specs.terms.Matching.{full_box, rank, volume}
+use Rattle.kernel.specs.terms.Row.{Boxed, RowFirst, RowNext}
+use Rattle.ground.proofs.AtomLaws.{alts_count}
+use Rattle.ground.proofs.Turns.{ClauseKnown, clause_known, clause_listed}
+use Rattle.relevancy_rule.specs.terms.Instances.{clause_box}
+use Rattle.relevancy_rule.specs.terms.Choose.{Splitting}
+use Rattle.relevancy_rule.proofs.ChooseLaws.{choose_horn}
+use Rattle.relevancy_rule.proofs.RowLaws.{RowsTried, choose_nowhere, clause_boxed, rows_start, rows_here, rows_on, rows_end, rows_fall}
 use Rattle.relevancy_node.proofs.choose.choose_of.Statement.{statement}
 use Rattle.relevancy_node.proofs.choose.choose_of.Tie as tie
 
@@ -26,33 +26,33 @@ abbrev decreases-loop : tie.decreases-loop
 decreases-loop table k r at bounds z steps values₀ values = volume bounds - rank bounds values
 
 -- clause k is one of the table's
-listed : (s : tie.Start invariant-loop decreases-loop) → s.args.k < length (problemIn s.args.table.now).clauses
-listed s = clause-listed s.args.table.now s.requires.0 s.args.k s.requires.1.0
+listed : (s : tie.Start invariant-loop decreases-loop) → s.args.k < length (problem_in s.args.table.now).clauses
+listed s = clause_listed s.args.table.now s.requires.0 s.args.k s.requires.1.0
 
 known : (s : tie.Start invariant-loop decreases-loop) → ClauseKnown s.args.table.now s.args.k
-known s = clause-known s.args.table.now s.requires.0 s.args.k (listed s)
+known s = clause_known s.args.table.now s.requires.0 s.args.k (listed s)
 
 -- it has two alternatives or more
 several : (e : tie.Else1 invariant-loop decreases-loop) → (let s = e.before.before.before.before in Splitting s.args.table.now s.args.k)
 several e =
     let s = e.before.before.before.before in
-    record { known = listed s; several = omega (arith, alts-count s.args.table.now s.requires.0 s.args.k (listed s), e.if1.false) }
+    record { known = listed s; several = omega (arith, alts_count s.args.table.now s.requires.0 s.args.k (listed s), e.if1.false) }
 
 -- how many instances it has
 counted : (p : tie.After-pair invariant-loop decreases-loop) → (
     let s = p.before.before.before.before.before.before.before in
-    p.pair.result ≡ (problemIn s.args.table.now).constants ^ (clauseOf (problemIn s.args.table.now) s.args.k).vars)
+    p.pair.result ≡ (problem_in s.args.table.now).constants ^ (clause_of (problem_in s.args.table.now) s.args.k).vars)
 counted p = let s = p.before.before.before.before.before.before.before in p.pair.ensures ∙ (known s).instances
 
 -- there is one
-boxed : (e : tie.Else2 invariant-loop decreases-loop) → (let s = e.before.before.before.before.before.before.before.before in Boxed (clauseBox s.args.table.now s.args.k))
+boxed : (e : tie.Else2 invariant-loop decreases-loop) → (let s = e.before.before.before.before.before.before.before.before in Boxed (clause_box s.args.table.now s.args.k))
 boxed e =
     let s = e.before.before.before.before.before.before.before.before in
-    clause-boxed s.args.table.now s.requires.0 s.args.r.now s.args.k (several e.before.before.before.before) (λ none. e.if2.false (counted e.before ∙ none))
+    clause_boxed s.args.table.now s.requires.0 s.args.r.now s.args.k (several e.before.before.before.before) (λ none. e.if2.false (counted e.before ∙ none))
 
 -- the box of all its values
-made : (f : tie.After-full-box invariant-loop decreases-loop) → (let s = f.before.before.before.before.before.before.before.before.before.before.before.before in f.full-box.new.1.1.0 ≡ clauseBox s.args.table.now s.args.k)
-made f = let s = f.before.before.before.before.before.before.before.before.before.before.before.before in f.full-box.ensures ∙ ap (fullBox (get_or s.args.table.now 0 0)) (known s).variables
+made : (f : tie.After-full-box invariant-loop decreases-loop) → (let s = f.before.before.before.before.before.before.before.before.before.before.before.before in f.full-box.new.1.1.0 ≡ clause_box s.args.table.now s.args.k)
+made f = let s = f.before.before.before.before.before.before.before.before.before.before.before.before in f.full-box.ensures ∙ ap (full_box (get_or s.args.table.now 0 0)) (known s).variables
 
 -- none of the row can be split: the values are as they were
 kept : (e : tie.Else3 invariant-loop decreases-loop) → e.before.before.choose-row.new.1.1.1.1.1.0 ≡ e.before.before.before.before.before.loop.values
@@ -65,8 +65,8 @@ next c =
     subst (λ (v : List ℕ). RowNext c.before.before.before.before.before.before.before.before.before.before.before.before.full-box.new.1.1.0 c.before.before.before.before.before.before.before.before.before.before.last-free.result v c.next_row.result c.next_row.new.1.1.0)
     (kept c.before.before.before) c.next_row.ensures
 
-pub choose-of-spec : {M : Type 1} → statement M
-choose-of-spec =
+pub choose_of_spec : {M : Type 1} → statement M
+choose_of_spec =
     tie.close
     (tie.spec
     invariant-loop
@@ -77,7 +77,7 @@ choose-of-spec =
     (λ c. let k = known c.before.before.before in omega (arith, k.size, k.few))  -- shared-slice-read-if1
     (λ c.
     let s = c.before.before.before.before in
-    sym (choose-horn s.args.table.now s.args.r.now s.args.k (omega (arith, alts-count s.args.table.now s.requires.0 s.args.k (listed s), c.if1.true))))  -- returns
+    sym (choose_horn s.args.table.now s.args.r.now s.args.k (omega (arith, alts_count s.args.table.now s.requires.0 s.args.k (listed s), c.if1.true))))  -- returns
     (λ c. omega arith)  -- add-pair
     (λ c. let k = known c.before.before.before.before.before in omega (arith, k.size, k.few))  -- shared-slice-read-pair
     (λ c. omega arith)  -- add-pair-2
@@ -85,7 +85,7 @@ choose-of-spec =
     (λ c κs. tt)  -- pair-requires
     (λ c.
     let s = c.before.before.before.before.before.before.before.before in
-    sym (choose-nowhere s.args.table.now s.requires.0 s.args.r.now s.args.k (several c.before.before.before.before) (sym (counted c.before) ∙ c.if2.true)))  -- returns-2
+    sym (choose_nowhere s.args.table.now s.requires.0 s.args.r.now s.args.k (several c.before.before.before.before) (sym (counted c.before) ∙ c.if2.true)))  -- returns-2
     (λ c. let k = known c.before.before.before.before.before.before.before.before.before in omega (arith, k.size))  -- shared-slice-read-full-box
     (λ c. omega arith)  -- add-full-box
     (λ c. let k = known c.before.before.before.before.before.before.before.before.before.before in omega (arith, k.size, k.few))  -- shared-slice-read-full-box-2
@@ -107,7 +107,7 @@ choose-of-spec =
     (λ c. search rules)  -- array-read-t40
     (λ c.
     let s = c.before.before.before.before.before.before.before.before.before.before.before.before.before.before.before.before.before.before.before.before.before in
-    sym (rows-here s.args.table.now s.requires.0 s.args.r.now s.args.k (several c.before.before.before.before.before.before.before.before.before.before.before.before.before.before.before.before.before) c.before.before.before.before.before.loop.invariant (c.before.before.choose-row.ensures.here c.if3.true)))  -- returns-3
+    sym (rows_here s.args.table.now s.requires.0 s.args.r.now s.args.k (several c.before.before.before.before.before.before.before.before.before.before.before.before.before.before.before.before.before) c.before.before.before.before.before.loop.invariant (c.before.before.choose-row.ensures.here c.if3.true)))  -- returns-3
     (λ c. sym (ap length (made c.before.before.before.before.before.before.before.before.before.before)))  -- slice-aggregate-next-row
     (λ c. sym (ap length (kept c.before.before) ∙ c.before.before.before.before.before.before.before.loop.invariant.row.begins.inside.four))  -- slice-aggregate-next-row-2
     (λ c κs.
@@ -122,7 +122,7 @@ choose-of-spec =
     let s = c.before.before.before.before.before.before.before.before.before.before.before.before.before.before.before.before.before.before.before.before.before.before.before.before.before.before in
     let x = c.before.before.before.before.before.before.before.choose-row in
     let n = c.before.before in
-    rows-fall s.args.table.now s.requires.0 s.args.r.now s.args.k (several c.before.before.before.before.before.before.before.before.before.before.before.before.before.before.before.before.before.before.before.before.before.before) c.before.before.before.before.before.before.before.before.before.before.loop.invariant (x.ensures.none c.before.before.before.before.before.if3.false) (next n) (not-false n.next_row.result c.if4.false))  -- loop-less
+    rows_fall s.args.table.now s.requires.0 s.args.r.now s.args.k (several c.before.before.before.before.before.before.before.before.before.before.before.before.before.before.before.before.before.before.before.before.before.before) c.before.before.before.before.before.before.before.before.before.before.loop.invariant (x.ensures.none c.before.before.before.before.before.if3.false) (next n) (not-false n.next_row.result c.if4.false))  -- loop-less
     (λ c.
     let s = c.before.before.before.before.before.before.before.before.before.before.before.before.before.before.before.before.before.before.before.before.before.before.before.before.before.before in
     let x = c.before.before.before.before.before.before.before.choose-row in

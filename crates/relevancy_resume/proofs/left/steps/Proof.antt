@@ -3,20 +3,20 @@ use Prim.Native.Nat.{ℕ, ◌+◌, ◌-◌, ◌≤◌, ◌<◌}
 use mathlib.Core.Path.{◌≡◌, sym, ap, subst, ◌∙◌}
 use native.Mathlib.Omega.{arith}
 use lib.ListN.{length, length-replicate, length-set}
-use Rattle.search.specs.Relevancy.{findR}
+use Rattle.search.specs.Relevancy.{find_r}
 use Rattle.search.specs.Machine.{Genuine}
-use Rattle.ground.specs.Instance.{groundIn}
-use Rattle.walk.specs.contracts.Alternatives.{listed}
-use Rattle.walk.specs.contracts.Path.{Room, next_at, siteAt, pathIn}
-use Rattle.walk.specs.contracts.Left.{SplitHere, StepsLeft}
-use Rattle.walk.proofs.LeftLaws.{left-none, left-more, genuine-below, split-here, gone-on}
-use Rattle.relevancy_walk.specs.contracts.Place.{relevancyWalker}
+use Rattle.ground.specs.Instance.{ground_in}
+use Rattle.walk.specs.terms.Alternatives.{listed}
+use Rattle.walk.specs.terms.Path.{Room, next_at, site_at, path_in}
+use Rattle.walk.specs.terms.Left.{SplitHere, StepsLeft}
+use Rattle.walk.proofs.LeftLaws.{left_none, left_more, genuine_below, split_here, gone_on}
+use Rattle.relevancy_walk.specs.terms.Place.{relevancy_walker}
 use Rattle.relevancy_walk.proofs.TiedLaws.{tied}
 use Rattle.relevancy_resume.proofs.left.steps.Statement.{statement}
 use Rattle.relevancy_resume.proofs.left.steps.Tie as tie
 
 abbrev invariant-loop : tie.invariant-loop
-invariant-loop table path depth atoms₀ nexts₀ i₀ atoms nexts i = StepsLeft (relevancyWalker table) path i atoms nexts × (i ≤ depth) × (length atoms ≡ 1024) × (length nexts ≡ 1024)
+invariant-loop table path depth atoms₀ nexts₀ i₀ atoms nexts i = StepsLeft (relevancy_walker table) path i atoms nexts × (i ≤ depth) × (length atoms ≡ 1024) × (length nexts ≡ 1024)
 
 abbrev decreases-loop : tie.decreases-loop
 decreases-loop table path depth atoms₀ nexts₀ i₀ atoms nexts i = depth - i
@@ -32,23 +32,23 @@ module _ (c : tie.In-loop invariant-loop decreases-loop) where
   fits : c.before.loop.i < 1024
   fits = omega (arith, c.loop-test.true, s.pre.1.0.0.deep)
 
-  room-here : Room s.args.path.now i
-  room-here = record { size = s.pre.1.0.0.size; deep = omega (arith, fits) }
+  room_here : Room s.args.path.now i
+  room_here = record { size = s.pre.1.0.0.size; deep = omega (arith, fits) }
 
-  named_here : (relevancyWalker s.args.table.now).Named (siteAt (relevancyWalker s.args.table.now) s.args.path.now i)
+  named_here : (relevancy_walker s.args.table.now).Named (site_at (relevancy_walker s.args.table.now) s.args.path.now i)
   named_here = s.pre.1.0.2 i c.loop-test.true
 
-  kept_on : Genuine (findR (groundIn s.args.table.now)) (pathIn (relevancyWalker s.args.table.now) s.args.path.now (i + 1))
-  kept_on = genuine-below (relevancyWalker s.args.table.now) s.args.path.now s.args.depth (i + 1) (omega (arith, c.loop-test.true)) s.pre.1.0.1
+  kept_on : Genuine (find_r (ground_in s.args.table.now)) (path_in (relevancy_walker s.args.table.now) s.args.path.now (i + 1))
+  kept_on = genuine_below (relevancy_walker s.args.table.now) s.args.path.now s.args.depth (i + 1) (omega (arith, c.loop-test.true)) s.pre.1.0.1
 
-  here : SplitHere (relevancyWalker s.args.table.now) s.args.path.now i
-  here = split-here (relevancyWalker s.args.table.now) s.args.path.now (tied s.args.table.now) (λ bs g. g) i named_here kept_on
+  here : SplitHere (relevancy_walker s.args.table.now) s.args.path.now i
+  here = split_here (relevancy_walker s.args.table.now) s.args.path.now (tied s.args.table.now) (λ bs g. g) i named_here kept_on
 
-  some-taken : 0 < next_at s.args.path.now i
-  some-taken = gone-on (relevancyWalker s.args.table.now) s.args.path.now (tied s.args.table.now) (λ bs g. g) i named_here kept_on
+  some_taken : 0 < next_at s.args.path.now i
+  some_taken = gone_on (relevancy_walker s.args.table.now) s.args.path.now (tied s.args.table.now) (λ bs g. g) i named_here kept_on
 
-pub steps-spec : {M : Type 1} → statement M
-steps-spec =
+pub steps_spec : {M : Type 1} → statement M
+steps_spec =
     tie.close
     (tie.spec
     invariant-loop
@@ -56,14 +56,14 @@ steps-spec =
     (λ c.
     let s = c.before.before.before.before in
     let blank = s.requires.1.1 in (
-      left-none (relevancyWalker s.args.table.now) s.args.path.now 1024 s.args.atoms.now s.args.nexts.now blank.0 blank.1,
+      left_none (relevancy_walker s.args.table.now) s.args.path.now 1024 s.args.atoms.now s.args.nexts.now blank.0 blank.1,
       omega arith,
       ap length blank.0 ∙ length-replicate {A = ℕ} 1024 0,
       ap length blank.1 ∙ length-replicate {A = ℕ} 1024 0,
     ))  -- loop-holds
-    (λ c κs. let s = c.before.before.before.before.before.before in (s.requires.0, (room-here c, named_here c)))  -- alternatives-at-requires
-    (λ c κs. room-here c.before)  -- next-requires
-    (λ c κs. (c.before.alternatives-at.ensures.0, omega (arith, some-taken c.before.before, c.next.ensures)))  -- atom-before-requires
+    (λ c κs. let s = c.before.before.before.before.before.before in (s.requires.0, (room_here c, named_here c)))  -- alternatives-at-requires
+    (λ c κs. room_here c.before)  -- next-requires
+    (λ c κs. (c.before.alternatives-at.ensures.0, omega (arith, some_taken c.before.before, c.next.ensures)))  -- atom-before-requires
     (λ c. omega (arith, fits c.before.before.before))  -- mul-atoms
     (λ c. omega (arith, fits c.before.before.before, c.before.before.before.before.loop.invariant.2))  -- slice-write-atoms
     (λ c κs. c.before.before.alternatives-at.ensures.0)  -- taken-requires
@@ -77,7 +77,7 @@ steps-spec =
     let all = c.before.before.before.alternatives-at in
     let n = c.before.before.next in
     let a = c.before.atom-before in (
-      left-more (relevancyWalker s.args.table.now) s.args.path.now l.i l.atoms l.nexts l.invariant.0 (here at) (omega (arith, fits at, l.invariant.2)) (omega (arith, fits at, l.invariant.3))
+      left_more (relevancy_walker s.args.table.now) s.args.path.now l.i l.atoms l.nexts l.invariant.0 (here at) (omega (arith, fits at, l.invariant.2)) (omega (arith, fits at, l.invariant.3))
           (listed all.result) all.ensures.1 n.result n.ensures a.result c.taken.result a.ensures c.taken.ensures,
       omega (arith, at.loop-test.true),
       length-set l.atoms l.i a.result ∙ l.invariant.2,
@@ -89,4 +89,4 @@ steps-spec =
     let s = c.before.before.before.before.before.before in
     let l = c.before.loop in
     let done : l.i ≡ s.args.depth = omega (arith, l.invariant.1, c.loop-test.false) in
-    subst (λ (n : ℕ). StepsLeft (relevancyWalker s.args.table.now) s.args.path.now n l.atoms l.nexts) done l.invariant.0))  -- returns
+    subst (λ (n : ℕ). StepsLeft (relevancy_walker s.args.table.now) s.args.path.now n l.atoms l.nexts) done l.invariant.0))  -- returns

@@ -2,28 +2,28 @@
 use native.Mathlib.Omega.{arith}
 use borrow.Author.Rules.{rules}
 use Rattle.search.specs.Session.{place_of}
-use Rattle.walk.specs.Numbers.{sessionOf}
-use Rattle.walk.specs.contracts.Path.{deepestAt}
-use Rattle.walk.proofs.ResumeLaws.{root-so-far, goes_on}
-use Rattle.relevancy_walk.specs.contracts.Place.{relevancyWalker}
+use Rattle.walk.specs.Numbers.{session_of}
+use Rattle.walk.specs.terms.Path.{deepest_at}
+use Rattle.walk.proofs.ResumeLaws.{root_so_far, goes_on}
+use Rattle.relevancy_walk.specs.terms.Place.{relevancy_walker}
 use Rattle.relevancy_resume.proofs.resume.go_on.Statement.{statement}
 use Rattle.relevancy_resume.proofs.resume.go_on.Tie as tie
 
-pub go-on-spec : {M : Type 1} → statement M
-go-on-spec =
+pub go_on_spec : {M : Type 1} → statement M
+go_on_spec =
     tie.close
     (tie.spec
     (λ c κs.
     let s = c.before.before.before.before.before.before.before in
     let a = s.args in
     let sizes = s.requires.1.1.1.0 in
-    let so_far = root-so-far (relevancyWalker a.table.now) a.path.now a.atoms.now a.nexts.now in
+    let so_far = root_so_far (relevancy_walker a.table.now) a.path.now a.atoms.now a.nexts.now in
     (s.requires.0, (s.requires.1.0, (s.requires.1.1.0.reached, (so_far, ((omega arith, sizes.0, sizes.1), s.requires.1.1.1.1))))))  -- resume-requires
     (λ c. search rules)  -- same-length
     (λ c. search rules)  -- same-length-2
     (λ c.
     let a = c.before.before.before.before.before.before.before.before.before.before.before.before.args in
-    let w = relevancyWalker a.table.now in
+    let w = relevancy_walker a.table.now in
     let q = c.before.before.before.before.resume in
-    let place = place_of w.find (sessionOf a.on.standing a.on.count a.atoms.now a.nexts.now a.steps a.on.next (deepestAt a.path.now)) in
+    let place = place_of w.find (session_of a.on.standing a.on.count a.atoms.now a.nexts.now a.steps a.on.next (deepest_at a.path.now)) in
     goes_on w place a.on.count a.on.limit a.facts.now a.path.now 0 q.result q.new.1.1.1.1.0 q.new.1.1.1.1.1.0 q.ensures))  -- returns

@@ -2,14 +2,14 @@
 use Prim.Native.Nat.{ℕ}
 use mathlib.Core.Path.{subst}
 use borrow.Author.Rules.{rules}
-use Rattle.ground.specs.contracts.Branching.{NextOf}
-use Rattle.walk.specs.contracts.Path.{altsAt}
-use Rattle.relevancy_walk.specs.contracts.Place.{relevancyWalker}
+use Rattle.ground.specs.terms.Branching.{NextOf}
+use Rattle.walk.specs.terms.Path.{alts_at}
+use Rattle.relevancy_walk.specs.terms.Place.{relevancy_walker}
 use Rattle.relevancy_walk.proofs.place.alternative.Statement.{statement}
 use Rattle.relevancy_walk.proofs.place.alternative.Tie as tie
 
-pub alternative-spec : {M : Type 1} → statement M
-alternative-spec =
+pub alternative_spec : {M : Type 1} → statement M
+alternative_spec =
     tie.close
     (tie.spec
     (λ c κs. search rules)  -- next-requires
@@ -17,4 +17,4 @@ alternative-spec =
     (λ c.
     let s = c.before.before.before.before in
     let b = c.alternative-at in
-    subst (λ (j : ℕ). NextOf (altsAt (relevancyWalker s.args.table.now) s.args.path.now s.args.depth) j b.result) c.before.next.ensures b.ensures))  -- returns
+    subst (λ (j : ℕ). NextOf (alts_at (relevancy_walker s.args.table.now) s.args.path.now s.args.depth) j b.result) c.before.next.ensures b.ensures))  -- returns

@@ -1,19 +1,19 @@
 -- `relevancy_walk::place::alternative_at` meets its contract.
 use native.Mathlib.Omega.{arith}
 use borrow.Author.Rules.{rules}
-use Rattle.ground.proofs.AtomLaws.{lawful-headed}
+use Rattle.ground.proofs.AtomLaws.{lawful_headed}
 use Rattle.ground.proofs.Turns.{ClauseKnown}
-use Rattle.walk.specs.contracts.Path.{number_at}
-use Rattle.relevancy_walk.proofs.AltLaws.{site-clause, slots-numbered, slots_next}
+use Rattle.walk.specs.terms.Path.{number_at}
+use Rattle.relevancy_walk.proofs.AltLaws.{site_clause, slots_numbered, slots_next}
 use Rattle.relevancy_walk.proofs.place.alternative_at.Statement.{statement}
 use Rattle.relevancy_walk.proofs.place.alternative_at.Tie as tie
 
 -- the clause that the node is split by is in the table
 clause : (s : tie.Start) → ClauseKnown s.args.table.now (number_at s.args.path.now s.args.depth)
-clause s = site-clause s.args.table.now s.requires.0 s.args.path.now s.args.depth s.requires.1.1
+clause s = site_clause s.args.table.now s.requires.0 s.args.path.now s.args.depth s.requires.1.1
 
-pub alternative-at-spec : {M : Type 1} → statement M
-alternative-at-spec =
+pub alternative_at_spec : {M : Type 1} → statement M
+alternative_at_spec =
     tie.close
     (tie.spec
     (λ c κs. search rules)  -- values-requires
@@ -26,14 +26,14 @@ alternative-at-spec =
     let s = c.before.before.before.before.before in
     let k = c.before.number in
     let v = c.before.before.values in
-    omega (arith, (slots-numbered s.args.table.now s.requires.0 s.args.path.now s.args.depth s.requires.1.1 k.result v.result k.ensures v.ensures).few))  -- cast-count
+    omega (arith, (slots_numbered s.args.table.now s.requires.0 s.args.path.now s.args.depth s.requires.1.1 k.result v.result k.ensures v.ensures).few))  -- cast-count
     (λ c. omega (arith, (clause c.before.before.before.before.before).few, c.before.number.ensures))  -- add-branch-after
     (λ c. search rules)  -- slice-aggregate-branch-after
     (λ c κs.
     let s = c.before.before.before.before.before.before in
     let k = c.before.before.number in
     let v = c.before.before.before.values in
-    (lawful-headed s.args.table.now s.requires.0, slots-numbered s.args.table.now s.requires.0 s.args.path.now s.args.depth s.requires.1.1 k.result v.result k.ensures v.ensures))  -- branch-after-requires
+    (lawful_headed s.args.table.now s.requires.0, slots_numbered s.args.table.now s.requires.0 s.args.path.now s.args.depth s.requires.1.1 k.result v.result k.ensures v.ensures))  -- branch-after-requires
     (λ c.
     let s = c.before.before.before.before.before.before.before in
     let k = c.before.before.before.number in

@@ -5,14 +5,14 @@ use mathlib.Core.Path.{◌≡◌, sym, subst, ◌∙◌}
 use native.Mathlib.Omega.{arith}
 use lib.ListN.{get_or}
 use borrow.Author.Rules.{rules}
-use Rattle.store.specs.contracts.Store.{Store, Added}
-use Rattle.relevancy_rule.specs.contracts.Node.{TrueOpening}
-use Rattle.walk.specs.contracts.Path.{next_at, markAt, siteAt, altsAt}
-use Rattle.walk.proofs.PlaceLaws.{place-made}
-use Rattle.relevancy_walk.specs.contracts.Place.{relevancyWalker, TrueFresh}
+use Rattle.store.specs.terms.Store.{Store, Added}
+use Rattle.relevancy_rule.specs.terms.Node.{TrueOpening}
+use Rattle.walk.specs.terms.Path.{next_at, mark_at, site_at, alts_at}
+use Rattle.walk.proofs.PlaceLaws.{place_made}
+use Rattle.relevancy_walk.specs.terms.Place.{relevancy_walker, TrueFresh}
 use Rattle.relevancy_walk.proofs.SoundLaws.{sound}
-use Rattle.relevancy_walk.proofs.FreshLaws.{next_small, entered-marked, entered-fresh}
-use Rattle.relevancy_walk.proofs.FindLaws.{own-few, node-told}
+use Rattle.relevancy_walk.proofs.FreshLaws.{next_small, entered_marked, entered_fresh}
+use Rattle.relevancy_walk.proofs.FindLaws.{own_few, node-Told}
 use Rattle.relevancy_walk.proofs.place.enter.Statement.{statement}
 use Rattle.relevancy_walk.proofs.place.enter.Tie as tie
 
@@ -27,27 +27,27 @@ abbrev went : tie.After-add → tie.After-pass
 went c = c.before.before.before.before
 
 -- what was added
-put_in : (s : tie.Start) (own a : ℕ) → own ≡ markAt s.args.path.now s.args.depth
-    → a ≡ get_or (altsAt (relevancyWalker s.args.table.now) s.args.path.now s.args.depth) (next_at s.args.path.now s.args.depth) 0
+put_in : (s : tie.Start) (own a : ℕ) → own ≡ mark_at s.args.path.now s.args.depth
+    → a ≡ get_or (alts_at (relevancy_walker s.args.table.now) s.args.path.now s.args.depth) (next_at s.args.path.now s.args.depth) 0
     → (left : List ℕ) (n : ℕ) → Added 2050 s.args.facts.now own a left n
-    → Added 2050 s.args.facts.now (markAt s.args.path.now s.args.depth)
-    (get_or (altsAt (relevancyWalker s.args.table.now) s.args.path.now s.args.depth) (next_at s.args.path.now s.args.depth) 0) left n
+    → Added 2050 s.args.facts.now (mark_at s.args.path.now s.args.depth)
+    (get_or (alts_at (relevancy_walker s.args.table.now) s.args.path.now s.args.depth) (next_at s.args.path.now s.args.depth) 0) left n
 put_in s own a eo ea left n h =
-    subst (λ (x : ℕ). Added 2050 s.args.facts.now (markAt s.args.path.now s.args.depth) x left n) ea (subst (λ (x : ℕ). Added 2050 s.args.facts.now x a left n) eo h)
+    subst (λ (x : ℕ). Added 2050 s.args.facts.now (mark_at s.args.path.now s.args.depth) x left n) ea (subst (λ (x : ℕ). Added 2050 s.args.facts.now x a left n) eo h)
 
 put : (c : tie.After-add) → (
     let a = (begun c).args in
-    Added 2050 a.facts.now (markAt a.path.now a.depth) (get_or (altsAt (relevancyWalker a.table.now) a.path.now a.depth) (next_at a.path.now a.depth) 0) c.add.new.0 c.add.result)
+    Added 2050 a.facts.now (mark_at a.path.now a.depth) (get_or (alts_at (relevancy_walker a.table.now) a.path.now a.depth) (next_at a.path.now a.depth) 0) c.add.new.0 c.add.result)
 put c = let s = begun c in put_in s (read c).mark.result s.args.a (read c).mark.ensures s.pre.1.1.1.1 c.add.new.0 c.add.result c.add.ensures
 
 -- the node just entered
 fresh : (c : tie.After-add) → (
     let a = (begun c).args in
-    TrueFresh a.table.now c.add.new.0 (went c).pass.new.0 (a.depth + 1) c.add.result (markAt a.path.now a.depth))
+    TrueFresh a.table.now c.add.new.0 (went c).pass.new.0 (a.depth + 1) c.add.result (mark_at a.path.now a.depth))
 fresh c =
     let s = begun c in
     let p = (went c).pass in
-    entered-fresh s.args.table.now s.pre.0 s.args.facts.now s.args.path.now s.args.depth s.pre.1.1.0 s.pre.1.1.1.0
+    entered_fresh s.args.table.now s.pre.0 s.args.facts.now s.args.path.now s.args.depth s.pre.1.1.0 s.pre.1.1.1.0
     c.add.new.0 c.add.result (put c) p.last.0 (p.kept.0 ∙ s.pre.1.1.0.room.size) p.ensures
 
 pub enter_spec : {M : Type 1} → statement M
@@ -57,8 +57,8 @@ enter_spec =
     (λ c κs. let s = c.before.before.before.before in s.requires.1.1.0.room)  -- mark-requires
     (λ c κs.
     let s = c.before.before.before.before.before.before in
-    let w = relevancyWalker s.args.table.now in
-    (s.requires.1.1.0.room, omega (arith, (sound s.args.table.now s.requires.0).four (siteAt w s.args.path.now s.args.depth) s.requires.1.1.0.at_split.listed, s.requires.1.1.1.0)))  -- pass-requires
+    let w = relevancy_walker s.args.table.now in
+    (s.requires.1.1.0.room, omega (arith, (sound s.args.table.now s.requires.0).four (site_at w s.args.path.now s.args.depth) s.requires.1.1.0.at_split.listed, s.requires.1.1.1.0)))  -- pass-requires
     (λ c κs.
     let s = c.before.before.before.before.before.before.before.before.before.before in
     let o = c.before.before.before.before.before.mark in (
@@ -73,7 +73,7 @@ enter_spec =
         s.requires.1.0,
         (
           subst (TrueOpening s.args.table.now d.add.new.0 d.add.result) (sym c.before.before.before.before.before.before.before.before.before.mark.ensures) (fresh d).opening,
-          entered-marked s.args.table.now s.requires.0 s.args.facts.now s.args.path.now s.args.depth s.requires.1.1.0 s.requires.1.1.1.0 d.add.new.0 d.add.result (put d),
+          entered_marked s.args.table.now s.requires.0 s.args.facts.now s.args.path.now s.args.depth s.requires.1.1.0 s.requires.1.1.1.0 d.add.new.0 d.add.result (put d),
         ),
       ),
     ))  -- settle-requires
@@ -83,7 +83,7 @@ enter_spec =
     let d = c.before.before.before.before.before.before.before in
     let z = c.before.before.before.settle in (
       (fresh d).room,
-      own-few s.args.table.now s.requires.0 d.add.new.0 c.before.before.before.before.before.before.before.before.before.before.before.pass.new.0 (s.args.depth + 1) d.add.result (markAt s.args.path.now s.args.depth) (fresh d) z.new.1.1.1.1.0 z.result z.ensures,
+      own_few s.args.table.now s.requires.0 d.add.new.0 c.before.before.before.before.before.before.before.before.before.before.before.pass.new.0 (s.args.depth + 1) d.add.result (mark_at s.args.path.now s.args.depth) (fresh d) z.new.1.1.1.1.0 z.result z.ensures,
     ))  -- tell-requires
     (λ c. search rules)  -- same-length
     (λ c. search rules)  -- same-length-2
@@ -94,7 +94,7 @@ enter_spec =
     let z = c.before.before.before.before.before.before.settle in
     let t = c.before.before.tell in
     λ count.
-    place-made (relevancyWalker s.args.table.now) s.args.facts.now s.args.path.now s.args.depth count s.requires.1.1.1.0 d.add.result d.add.new.0 p.new.0 p.ensures
+    place_made (relevancy_walker s.args.table.now) s.args.facts.now s.args.path.now s.args.depth count s.requires.1.1.1.0 d.add.result d.add.new.0 p.new.0 p.ensures
     (put d).grows (put d).kept t.result z.new.1.1.1.1.0 t.new.0
-    (node-told s.args.table.now s.requires.0 d.add.new.0 p.new.0 (s.args.depth + 1) d.add.result (markAt s.args.path.now s.args.depth) (fresh d) z.new.1.1.1.1.0 z.result z.ensures
+    (node-Told s.args.table.now s.requires.0 d.add.new.0 p.new.0 (s.args.depth + 1) d.add.result (mark_at s.args.path.now s.args.depth) (fresh d) z.new.1.1.1.1.0 z.result z.ensures
     t.result t.new.0 (t.auto.0 ∙ (fresh d).room.size) t.ensures)))  -- returns

@@ -4,12 +4,12 @@ use native.Mathlib.Omega.{arith}
 use borrow.Author.Rules.{rules}
 use Rattle.relevancy_rule.specs.declared.answer.Node.{Node}
 use Rattle.walk.specs.declared.answer.Found.TheVariants.{Closed, Open, Split}
-use Rattle.relevancy_walk.specs.contracts.Place.{OwnFew, NodeTold}
+use Rattle.relevancy_walk.specs.terms.Place.{OwnFew, NodeTold}
 use Rattle.relevancy_walk.proofs.place.tell.Statement.{statement}
 use Rattle.relevancy_walk.proofs.place.tell.Tie as tie
 
-pub tell-spec : {M : Type 1} → statement M
-tell-spec =
+pub tell_spec : {M : Type 1} → statement M
+tell_spec =
     tie.close
     (tie.spec
     (λ c. search rules)  -- enum-known-node

@@ -5,10 +5,10 @@ use mathlib.Core.Path.{◌≡◌, sym, ap}
 use native.Mathlib.Omega.{arith}
 use borrow.Author.Rules.{rules}
 use lib.ListN.{length, take, get_or}
-use Rattle.problem.specs.Digit.{hexLine}
-use Rattle.writing.proofs.WriteLaws.{put_as, put-most}
+use Rattle.problem.specs.Digit.{hex_line}
+use Rattle.writing.proofs.WriteLaws.{put_as, put_most}
 use Rattle.kernel.proofs.MatchLaws.{PredicateKnown}
-use Rattle.report.proofs.ReportLaws.{decoded-known, frame-size, atom-frame}
+use Rattle.report.proofs.ReportLaws.{decoded_known, frame_size, atom_frame}
 use Rattle.report.proofs.line.put_atom.Statement.{statement}
 use Rattle.report.proofs.line.put_atom.Tie as tie
 
@@ -17,7 +17,7 @@ known : (c : tie.After-shared-slice-known2) → PredicateKnown c.before.before.b
 known c =
     let d = c.before.before.decode in
     let s = c.before.before.before.before.before.before in
-    decoded-known s.args.table.now s.requires.0 s.args.a d.result d.new.1.1.0 d.ensures
+    decoded_known s.args.table.now s.requires.0 s.args.a d.result d.new.1.1.0 d.ensures
 
 -- how long its frame is
 size : (c : tie.After-shared-slice-known2)
@@ -28,10 +28,10 @@ size : (c : tie.After-shared-slice-known2)
 size c =
     let d = c.before.before.decode in
     let s = c.before.before.before.before.before.before in
-    frame-size s.args.table.now s.requires.0 s.args.a d.result d.new.1.1.0 d.ensures
+    frame_size s.args.table.now s.requires.0 s.args.a d.result d.new.1.1.0 d.ensures
 
-pub put-atom-spec : {M : Type 1} → statement M
-put-atom-spec =
+pub put_atom_spec : {M : Type 1} → statement M
+put_atom_spec =
     tie.close
     (tie.spec
     (λ c. search rules)  -- slice-aggregate-decode
@@ -57,5 +57,5 @@ put-atom-spec =
     let d = k.before.before.decode in
     let s = k.before.before.before.before.before.before in
     put_as
-    (put-most put.put-frame.ensures (omega (arith, size k, (known k).arity, (known k).few)))
-    (ap hexLine (atom-frame s.args.table.now s.requires.0 s.args.a d.result d.new.1.1.0 d.ensures))))  -- returns
+    (put_most put.put-frame.ensures (omega (arith, size k, (known k).arity, (known k).few)))
+    (ap hex_line (atom_frame s.args.table.now s.requires.0 s.args.a d.result d.new.1.1.0 d.ensures))))  -- returns

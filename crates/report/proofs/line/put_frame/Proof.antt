@@ -5,10 +5,10 @@ use mathlib.Core.Path.{◌≡◌, refl, ap, ◌∙◌}
 use native.Mathlib.Omega.{arith}
 use lib.ListN.{length, get_or}
 use Rattle.lists.specs.Tabulate.{tabulate}
-use Rattle.lists.proofs.Bytes.{tabulate-of}
-use Rattle.problem.specs.Digit.{hexByte}
-use Rattle.writing.specs.contracts.Printed.{Put}
-use Rattle.writing.proofs.WriteLaws.{put_as, put-line, puts_none, puts-more, puts-done}
+use Rattle.lists.proofs.Bytes.{tabulate_of}
+use Rattle.problem.specs.Digit.{hex_byte}
+use Rattle.writing.specs.terms.Printed.{Put}
+use Rattle.writing.proofs.WriteLaws.{put_as, put_line, puts_none, puts_more, puts_done}
 use Rattle.report.proofs.line.put_frame.Statement.{statement}
 use Rattle.report.proofs.line.put_frame.Tie as tie
 
@@ -17,20 +17,20 @@ byte_at frame i = get_or frame i 0
 
 abbrev invariant-loop : tie.invariant-loop
 invariant-loop frame out₀ at next₀ i₀ out next i =
-    (i ≤ length frame) × Put out₀ at (flat_map hexByte (tabulate (byte_at frame) i)) (2 * i) next out × (length out ≡ length out₀)
+    (i ≤ length frame) × Put out₀ at (flat_map hex_byte (tabulate (byte_at frame) i)) (2 * i) next out × (length out ≡ length out₀)
 
 abbrev decreases-loop : tie.decreases-loop
 decreases-loop frame out₀ at next₀ i₀ out next i = length frame - i
 
-pub put-frame-spec : {M : Type 1} → statement M
-put-frame-spec =
+pub put_frame_spec : {M : Type 1} → statement M
+put_frame_spec =
     tie.close
     (tie.spec
     invariant-loop
     decreases-loop
     (λ c.
     let s = c.before.before.args in
-    (omega arith, puts_none hexByte (byte_at s.frame.now) 2 s.out.now s.at, refl))  -- loop-holds
+    (omega arith, puts_none hex_byte (byte_at s.frame.now) 2 s.out.now s.at, refl))  -- loop-holds
     (λ c. omega arith)  -- shared-slice-read-put-byte
     (λ c κs. omega (arith, c.before.before.before.loop.invariant.1.next))  -- put-byte-requires
     (λ c. omega arith)  -- add-i
@@ -39,7 +39,7 @@ put-frame-spec =
     let put = c.before.before in
     let l = put.before.before.before.before.loop in
     let s = put.before.before.before.before.before.before.before.args in
-    (omega arith, puts-more hexByte (byte_at s.frame.now) 2 l.i l.invariant.1 (omega arith) put.put_byte.ensures, put.put_byte.auto.0 ∙ l.invariant.2))  -- loop-again
+    (omega arith, puts_more hex_byte (byte_at s.frame.now) 2 l.i l.invariant.1 (omega arith) put.put_byte.ensures, put.put_byte.auto.0 ∙ l.invariant.2))  -- loop-again
     (λ c κs. omega (arith, c.before.before.loop.invariant.1.few))  -- put-end-requires
     (λ c. c.before.before.put-end.auto.0 ∙ c.before.before.before.before.before.loop.invariant.2)  -- same-length
     (λ c.
@@ -47,9 +47,9 @@ put-frame-spec =
     let l = put.before.before.before.loop in
     let s = put.before.before.before.before.before.before.args in
     let frame : List ℕ = s.frame.now in
-    put-line frame
+    put_line frame
     (put_as
-    (puts-done hexByte (byte_at frame) 2 l.i (length frame) (2 * length frame) l.invariant.1 (omega arith) (omega arith))
-    (ap (flat_map hexByte) (tabulate-of (byte_at frame) 0 frame (length frame) refl (λ i h. refl))))
+    (puts_done hex_byte (byte_at frame) 2 l.i (length frame) (2 * length frame) l.invariant.1 (omega arith) (omega arith))
+    (ap (flat_map hex_byte) (tabulate_of (byte_at frame) 0 frame (length frame) refl (λ i h. refl))))
     (omega arith)
     put.put-end.ensures))  -- returns

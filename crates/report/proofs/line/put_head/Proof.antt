@@ -6,13 +6,13 @@ use native.Mathlib.Omega.{arith}
 use borrow.Author.Rules.{rules}
 use borrow.Author.Tests.{eq-eqb, ne_eqb}
 use Rattle.lists.proofs.Digits.{four_bytes}
-use Rattle.problem.specs.Digit.{hexLine}
-use Rattle.writing.proofs.WriteLaws.{put_as, put-most}
+use Rattle.problem.specs.Digit.{hex_line}
+use Rattle.writing.proofs.WriteLaws.{put_as, put_most}
 use Rattle.report.proofs.line.put_head.Statement.{statement}
 use Rattle.report.proofs.line.put_head.Tie as tie
 
-pub put-head-spec : {M : Type 1} → statement M
-put-head-spec =
+pub put_head_spec : {M : Type 1} → statement M
+put_head_spec =
     tie.close
     (tie.spec
     (λ c. search rules)  -- cast-c
@@ -24,7 +24,7 @@ put-head-spec =
     let f = c.before.before in
     let e = f.before.before.before in
     let s = e.before.before.args in
-    put_as (put-most f.put-frame.ensures (omega arith)) (rw (ne_eqb s.refusal 0 e.if1.true)))  -- returns
+    put_as (put_most f.put-frame.ensures (omega arith)) (rw (ne_eqb s.refusal 0 e.if1.true)))  -- returns
     (λ c. search rules)  -- cast-a
     (λ c. search rules)  -- cast-b
     (λ c. search rules)  -- slice-aggregate-put-frame-2
@@ -35,4 +35,4 @@ put-head-spec =
     let e = f.before.before.before in
     let s = e.before.before.args in
     put_as f.put-frame2.ensures
-    (rw (eq-eqb s.refusal 0 e.if1.false) (ap (λ (bs : List ℕ). hexLine (129 ∷ s.number ∷ bs)) (sym (four_bytes s.value))))))  -- returns-2
+    (rw (eq-eqb s.refusal 0 e.if1.false) (ap (λ (bs : List ℕ). hex_line (129 ∷ s.number ∷ bs)) (sym (four_bytes s.value))))))  -- returns-2

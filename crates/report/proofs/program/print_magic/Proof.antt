@@ -6,7 +6,7 @@ use native.Mathlib.Omega.{arith}
 use borrow.Author.Rules.{rules}
 use lib.ListN.{replicate, length-replicate}
 use Rattle.ground.specs.Walks.{magic}
-use Rattle.report.proofs.PrintLaws.{ReadInto, refusal-printed, text-taken, taken-lawful, magic-printed, put-out}
+use Rattle.report.proofs.PrintLaws.{ReadInto, refusal_printed, text_taken, taken_lawful, magic-printed, Put-Out}
 use Rattle.report.proofs.program.print_magic.Statement.{statement}
 use Rattle.report.proofs.program.print_magic.Tie as tie
 
@@ -14,12 +14,12 @@ use Rattle.report.proofs.program.print_magic.Tie as tie
 taken : (e : tie.After-enum-told) → ReadInto e.before.before.before.before.before.before.args.text.now e.before.before.before.read.new.1.0
 taken e =
     let read = e.before.before.before.read in
-    text-taken e.before.before.before.before.before.before.args.text.now (replicate 4096 0) (length-replicate {A = ℕ} 4096 0) read.new.1.0
+    text_taken e.before.before.before.before.before.before.args.text.now (replicate 4096 0) (length-replicate {A = ℕ} 4096 0) read.new.1.0
     (sym e.enum_told.given.1 ∙ read.ensures.0)
     read.ensures.1
 
-pub print-magic-spec : {M : Type 1} → statement M
-print-magic-spec =
+pub print_magic_spec : {M : Type 1} → statement M
+print_magic_spec =
     tie.close
     (tie.spec
     (λ c. search rules)  -- slice-aggregate-read
@@ -38,19 +38,19 @@ print-magic-spec =
     (λ c κs.
     let fit = c.before.before.before.before.before.before in
     let e = fit.before.before.before.before.before in
-    (taken-lawful e.before.before.before.before.before.before.args.text.now e.before.before.before.read.new.1.0 (taken e), (search rules, search rules)))  -- put-verdict-requires
+    (taken_lawful e.before.before.before.before.before.before.args.text.now e.before.before.before.read.new.1.0 (taken e), (search rules, search rules)))  -- put-verdict-requires
     (λ c.
     let r = c.before.before.before in
     let read = r.before.before.before in
     let x : List ℕ = read.before.before.before.args.text.now in
-    put-out
+    Put-Out
     c.put-head.ensures
-    (refusal-printed x (replicate 4096 0) (length-replicate {A = ℕ} 4096 0) magic _ _ (sym r.reading.given.1 ∙ read.read.ensures.0)))  -- returns
+    (refusal_printed x (replicate 4096 0) (length-replicate {A = ℕ} 4096 0) magic _ _ (sym r.reading.given.1 ∙ read.read.ensures.0)))  -- returns
     (λ c.
     let fit = c.before.before.before.before.before.before.before in
     let e = fit.before.before.before.before.before in
     let tb : List ℕ = e.before.before.before.read.new.1.0 in
-    put-out
+    Put-Out
     c.put-verdict.ensures
     (magic-printed e.before.before.before.before.before.before.args.text.now tb (taken e) (replicate 16384 0) (replicate 1024 0) (replicate 65536 0) fit.fit.new.1.1.0 fit.fit.result.verdict
     (omega (arith, length-replicate {A = ℕ} 16384 0))

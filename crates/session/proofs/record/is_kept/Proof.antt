@@ -4,8 +4,8 @@ use borrow.Author.Tests.{lt-leb, le-leb}
 use Rattle.session.proofs.record.is_kept.Statement.{statement}
 use Rattle.session.proofs.record.is_kept.Tie as tie
 
-pub is-kept-spec : {M : Type 1} → statement M
-is-kept-spec =
+pub is_kept_spec : {M : Type 1} → statement M
+is_kept_spec =
     tie.close
     (tie.spec
     (λ c. let a = c.before.args in rw (lt-leb a.verdict 2 (omega arith)))  -- returns

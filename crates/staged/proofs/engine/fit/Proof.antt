@@ -5,18 +5,18 @@ use borrow.Author.Rules.{rules}
 use lib.Dec.{ltb}
 use lib.ListN.{length, take}
 use lib.Seq.{length-take-le}
-use Rattle.problem.proofs.Theorems.{valid-table}
-use Rattle.writing.specs.contracts.Lent.{refusalOf}
+use Rattle.problem.proofs.Theorems.{valid_table}
+use Rattle.writing.specs.terms.Lent.{refusal_of}
 use Rattle.relevancy.proofs.EngineLaws.{AllTaken, unrefused}
-use Rattle.staged.proofs.EngineLaws.{fit_refused, fit-runs}
+use Rattle.staged.proofs.EngineLaws.{fit_refused, fit_runs}
 use Rattle.staged.proofs.engine.fit.Statement.{statement}
 use Rattle.staged.proofs.engine.fit.Tie as tie
 
 -- the number that it is refused by, or 0
 lent : (c : tie.After-refusal) → (
     let a = c.before.before.before.before.before.args in
-    c.refusal.result ≡ refusalOf a.table.now (ltb (length a.answer.now) 1024 || ltb (length a.work.now) 65536))
-lent c = let a = c.before.before.before.before.before.args in c.refusal.ensures ∙ ap (refusalOf a.table.now) c.before.too_small.ensures
+    c.refusal.result ≡ refusal_of a.table.now (ltb (length a.answer.now) 1024 || ltb (length a.work.now) 65536))
+lent c = let a = c.before.before.before.before.before.args in c.refusal.ensures ∙ ap (refusal_of a.table.now) c.before.too_small.ensures
 
 -- all is taken
 good : (c : tie.Else1) → (let a = c.before.before.before.before.before.before.args in AllTaken a.table.now a.answer.now a.work.now)
@@ -34,16 +34,16 @@ fit_spec =
     let a = c.before.before.before.before.before.before.args in
     let e = c.before in
     fit_refused a.table.now a.answer.now a.work.now e.refusal.result (lent e) c.if1.true)  -- returns
-    (λ c. sym (length-take-le 4096 c.before.before.before.before.before.before.before.args.table.now (good c.before).table-long))  -- slice-aggregate-run
-    (λ c. (good c.before.before).work-long)  -- slice-relend-prefix-run
-    (λ c. sym (length-take-le 65536 c.before.before.before.before.before.before.before.before.before.args.work.now (good c.before.before.before).work-long))  -- slice-aggregate-run-2
+    (λ c. sym (length-take-le 4096 c.before.before.before.before.before.before.before.args.table.now (good c.before).table_long))  -- slice-aggregate-run
+    (λ c. (good c.before.before).work_long)  -- slice-relend-prefix-run
+    (λ c. sym (length-take-le 65536 c.before.before.before.before.before.before.before.before.before.args.work.now (good c.before.before.before).work_long))  -- slice-aggregate-run-2
     (λ c κs.
     let a = c.before.before.before.before.before.before.before.before.before.args in
     let t = good c.before.before.before in
-    (valid-table (take 4096 a.table.now) t.valid, (t.answer-long, length-take-le 65536 a.work.now t.work-long)))  -- run-requires
+    (valid_table (take 4096 a.table.now) t.valid, (t.answer_long, length-take-le 65536 a.work.now t.work_long)))  -- run-requires
     (λ c. search rules)  -- same-length
     (λ c. search rules)  -- same-length-2
     (λ c.
     let a = c.before.before.before.before.before.before.before.before.before.before.before.before.before.before.args in
     let u = c.before.before.before.before.run in
-    fit-runs a.table.now a.answer.now a.work.now (good c.before.before.before.before.before.before.before.before) u.result u.new.1.0 u.new.1.1.0 u.ensures))  -- returns-2
+    fit_runs a.table.now a.answer.now a.work.now (good c.before.before.before.before.before.before.before.before) u.result u.new.1.0 u.new.1.1.0 u.ensures))  -- returns-2

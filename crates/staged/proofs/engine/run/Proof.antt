@@ -5,7 +5,7 @@ use native.Mathlib.Omega.{arith}
 use lib.ListN.{length, take, replicate}
 use lib.Seq.{length-take-le}
 use borrow.Author.Rules.{rules}
-use Rattle.store.proofs.Lent.{put-size}
+use Rattle.store.proofs.Lent.{put_size}
 use Rattle.staged.proofs.engine.run.Statement.{statement}
 use Rattle.staged.proofs.engine.run.Tie as tie
 
@@ -27,5 +27,5 @@ run_spec =
     (λ c.
     let s = c.before.before.before.before.before.before.before.before.before.before.before.before.before.before in
     let d = c.before.before.before.before.before.before.before.before.decide in
-    let size = put-size 6150 65536 (omega arith) s.args.work.now s.requires.1.1 d.new.1.1.0 (d.auto.1.1.0 ∙ part s) in
+    let size = put_size 6150 65536 (omega arith) s.args.work.now s.requires.1.1 d.new.1.1.0 (d.auto.1.1.0 ∙ part s) in
     (d.ensures.0, d.ensures.1, c.before.before.zero.ensures ∙ ap (λ (m : ℕ). replicate m 0) size)))  -- returns

@@ -2,15 +2,15 @@
 use mathlib.Core.Path.{refl}
 use native.Mathlib.Omega.{arith}
 use borrow.Author.Rules.{rules}
-use Rattle.walk.specs.contracts.Walker.{fromRoot}
-use Rattle.walk.specs.contracts.Path.{deepestAt}
-use Rattle.walk.proofs.WalkLaws.{start-visiting, root-walks}
-use Rattle.staged_walk.specs.contracts.Place.{stagedWalker}
+use Rattle.walk.specs.terms.Walker.{from_root}
+use Rattle.walk.specs.terms.Path.{deepest_at}
+use Rattle.walk.proofs.WalkLaws.{start_visiting, root_walks}
+use Rattle.staged_walk.specs.terms.Place.{staged_walker}
 use Rattle.staged_walk.proofs.trail.from_root.Statement.{statement}
 use Rattle.staged_walk.proofs.trail.from_root.Tie as tie
 
-pub from-root-spec : {M : Type 1} → statement M
-from-root-spec =
+pub from_root_spec : {M : Type 1} → statement M
+from_root_spec =
     tie.close
     (tie.spec
     (λ c κs.
@@ -22,7 +22,7 @@ from-root-spec =
     let s = c.before.before.before.before.before.before.before.before.before.before.before in
     let a = s.args in
     let v = c.before.before.before.before.visit in
-    let w = stagedWalker a.table.now in
-    let r = fromRoot w (deepestAt a.path.now) a.limit in
-    root-walks w r a.facts.now a.path.now 0 0 v.result v.new.1.1.1.1.0 v.new.1.1.1.1.1.0 v.ensures.0
-    (v.ensures.1 r refl (start-visiting w a.limit a.facts.now a.path.now a.found s.requires.1.1))))  -- returns
+    let w = staged_walker a.table.now in
+    let r = from_root w (deepest_at a.path.now) a.limit in
+    root_walks w r a.facts.now a.path.now 0 0 v.result v.new.1.1.1.1.0 v.new.1.1.1.1.1.0 v.ensures.0
+    (v.ensures.1 r refl (start_visiting w a.limit a.facts.now a.path.now a.found s.requires.1.1))))  -- returns

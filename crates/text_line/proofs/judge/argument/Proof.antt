@@ -2,13 +2,13 @@
 use mathlib.Core.Path.{◌∙◌}
 use borrow.Author.Rules.{rules}
 use borrow.Author.Tests.{lt-ltb, le-ltb, le-leb, lt-leb}
-use Rattle.problem.specs.Judge.{judgeArg}
+use Rattle.problem.specs.Judge.{judge_arg}
 use Rattle.text_line.proofs.judge.argument.Statement.{statement}
 use Rattle.text_line.proofs.judge.argument.Tie as tie
 
-pub argument-spec : {M : Type 1} → statement M
-unfolding judgeArg
-argument-spec =
+pub argument_spec : {M : Type 1} → statement M
+unfolding judge_arg
+argument_spec =
     tie.close
     (tie.spec
     (λ c κs. search rules)  -- variable-requires

@@ -8,8 +8,8 @@ use borrow.Author.Tests.{lt-ltb, le-ltb, le-leb, lt-leb, eq-eqb, ne_eqb}
 use lib.Dec.{eqb, ltb, leb}
 use Rattle.problem.specs.declared.judge.Judged.TheVariants.{Fault, Found}
 use Rattle.problem.specs.Line.{frame_at}
-use Rattle.problem.specs.Judge.{judgeArity}
-use Rattle.problem.proofs.Lines.{line-size, frame-length}
+use Rattle.problem.specs.Judge.{judge_arity}
+use Rattle.problem.proofs.Lines.{line_size, frame_length}
 use Rattle.text_line.proofs.judge.arity_line.Statement.{statement}
 use Rattle.text_line.proofs.judge.arity_line.Tie as tie
 
@@ -17,9 +17,9 @@ use Rattle.text_line.proofs.judge.arity_line.Tie as tie
 read : (c : tie.After-frame-byte2) → (
     let s = c.before.before.before.before.before.args in
     let a = c.frame-byte2.result in
-    judgeArity s.c s.atoms (frame_at s.text.now s.at s.n)
+    judge_arity s.c s.atoms (frame_at s.text.now s.at s.n)
     ≡ cond (ltb a 4) (cond (eqb s.n 2) (cond (leb (s.atoms + s.c ^ a) 1024) (Found a) (Fault 9)) (Fault 3)) (Fault 5))
-unfolding judgeArity
+unfolding judge_arity
 read c =
     let v = c.before.before in
     let s = v.before.before.before.args in
@@ -27,7 +27,7 @@ read c =
     rw (
       ← kind.ensures,
       eq-eqb kind.result 2 v.match.keys1,
-      frame-length s.text.now s.at s.n,
+      frame_length s.text.now s.at s.n,
       lt-ltb 1 s.n c.before.if1.false,
       ← c.frame-byte2.ensures,
     )
@@ -37,17 +37,17 @@ whole : (c : tie.Else3) → (
     let v = c.before.before in
     let s = v.before.before.before.before.before.args in
     let a = v.frame-byte2.result in
-    judgeArity s.c s.atoms (frame_at s.text.now s.at s.n) ≡ cond (leb (s.atoms + s.c ^ a) 1024) (Found a) (Fault 9))
+    judge_arity s.c s.atoms (frame_at s.text.now s.at s.n) ≡ cond (leb (s.atoms + s.c ^ a) 1024) (Found a) (Fault 9))
 whole c =
     let v = c.before.before in
     rw (read v, lt-ltb v.frame-byte2.result 4 (omega arith), eq-eqb v.before.before.before.before.before.args.n 2 c.if3.false)
 
-pub arity-line-spec : {M : Type 1} → statement M
-unfolding judgeArity
-arity-line-spec =
+pub arity_line_spec : {M : Type 1} → statement M
+unfolding judge_arity
+arity_line_spec =
     tie.close
     (tie.spec
-    (λ c κs. let s = c.before in (s.requires.1.0, (line-size s.args.text.now s.args.at s.args.n s.requires.1.0).0))  -- frame-byte-requires
+    (λ c κs. let s = c.before in (s.requires.1.0, (line_size s.args.text.now s.args.at s.args.n s.requires.1.0).0))  -- frame-byte-requires
     (λ c. let kind = c.before.frame_byte in rw (← kind.ensures, ne_eqb kind.result 2 c.match.rest.1))  -- returns
     (λ c.
     let s = c.before.before.before.before.args in
@@ -55,7 +55,7 @@ arity-line-spec =
     rw (
       ← kind.ensures,
       eq-eqb kind.result 2 c.before.match.keys1,
-      frame-length s.text.now s.at s.n,
+      frame_length s.text.now s.at s.n,
       le-ltb 1 s.n c.if1.true,
     ))  -- returns-2
     (λ c κs. search rules)  -- frame-byte-requires-2

@@ -8,8 +8,8 @@ use lib.Dec.{eqb, ltb}
 use lib.ListN.{get_or}
 use Rattle.problem.specs.declared.judge.Heading.TheVariants.{Wrong}
 use Rattle.problem.specs.Line.{frame_at}
-use Rattle.problem.specs.Judge.{judgeSizes, judgeHeading}
-use Rattle.problem.proofs.Lines.{line-size, frame-length}
+use Rattle.problem.specs.Judge.{judge_sizes, judge_heading}
+use Rattle.problem.proofs.Lines.{line_size, frame_length}
 use Rattle.text_line.proofs.judge.first_line.Statement.{statement}
 use Rattle.text_line.proofs.judge.first_line.Tie as tie
 
@@ -17,11 +17,11 @@ use Rattle.text_line.proofs.judge.first_line.Tie as tie
 read : (c : tie.After-frame-byte2) → (
     let s = c.before.before.before.before.before.args in
     let f = frame_at s.text.now s.at s.n in
-    judgeHeading f
+    judge_heading f
     ≡ cond (eqb c.frame-byte2.result 1)
-    (cond (ltb 2 s.n) (cond (ltb (get_or f 2 0) 33) (judgeSizes (get_or f 2 0) f) (Wrong 5)) (Wrong 3))
+    (cond (ltb 2 s.n) (cond (ltb (get_or f 2 0) 33) (judge_sizes (get_or f 2 0) f) (Wrong 5)) (Wrong 3))
     (Wrong 4))
-unfolding judgeHeading
+unfolding judge_heading
 read c =
     let v = c.before.before in
     let s = v.before.before.before.args in
@@ -29,7 +29,7 @@ read c =
     rw (
       ← kind.ensures,
       eq-eqb kind.result 1 v.match.keys1,
-      frame-length s.text.now s.at s.n,
+      frame_length s.text.now s.at s.n,
       lt-ltb 1 s.n c.before.if1.false,
       ← c.frame-byte2.ensures,
     )
@@ -39,18 +39,18 @@ constants : (c : tie.After-frame-byte3) → (
     let s = c.before.before.before.before.before.before.before.before.args in
     let f = frame_at s.text.now s.at s.n in
     let k = c.frame-byte3.result in
-    judgeHeading f ≡ cond (ltb k 33) (judgeSizes k f) (Wrong 5))
+    judge_heading f ≡ cond (ltb k 33) (judge_sizes k f) (Wrong 5))
 constants c =
     let v = c.before.before.before in
     let s = v.before.before.before.before.before.args in
     rw (read v, eq-eqb v.frame-byte2.result 1 c.before.before.if2.false, lt-ltb 2 s.n c.before.if3.false, ← c.frame-byte3.ensures)
 
-pub first-line-spec : {M : Type 1} → statement M
-unfolding judgeHeading
-first-line-spec =
+pub first_line_spec : {M : Type 1} → statement M
+unfolding judge_heading
+first_line_spec =
     tie.close
     (tie.spec
-    (λ c κs. let s = c.before in (s.requires, (line-size s.args.text.now s.args.at s.args.n s.requires).0))  -- frame-byte-requires
+    (λ c κs. let s = c.before in (s.requires, (line_size s.args.text.now s.args.at s.args.n s.requires).0))  -- frame-byte-requires
     (λ c. let kind = c.before.frame_byte in rw (← kind.ensures, ne_eqb kind.result 1 c.match.rest.1))  -- returns
     (λ c.
     let s = c.before.before.before.before.args in
@@ -58,7 +58,7 @@ first-line-spec =
     rw (
       ← kind.ensures,
       eq-eqb kind.result 1 c.before.match.keys1,
-      frame-length s.text.now s.at s.n,
+      frame_length s.text.now s.at s.n,
       le-ltb 1 s.n c.if1.true,
     ))  -- returns-2
     (λ c κs. search rules)  -- frame-byte-requires-2

@@ -6,27 +6,27 @@ use borrow.Author.Tests.{lt-ltb, le-ltb, eq-eqb, ne_eqb}
 use lib.Dec.{eqb}
 use Rattle.problem.specs.declared.judge.Judged.TheVariants.{Fault, Found}
 use Rattle.problem.specs.Line.{frame_at}
-use Rattle.problem.specs.Parse.{judgeClosing}
-use Rattle.problem.proofs.Lines.{frame-length}
+use Rattle.problem.specs.Parse.{judge_closing}
+use Rattle.problem.proofs.Lines.{frame_length}
 use Rattle.text_line.proofs.judge.last_line.Statement.{statement}
 use Rattle.text_line.proofs.judge.last_line.Tie as tie
 
 -- with the number of clause lines read
 read : (c : tie.After-frame-byte) → (
     let s = c.before.before.before.args in
-    judgeClosing s.count (frame_at s.text.now s.at s.n)
+    judge_closing s.count (frame_at s.text.now s.at s.n)
     ≡ cond (eqb c.frame_byte.result s.count) (cond (eqb s.n 2) (Found 0) (Fault 3)) (Fault 5))
-unfolding judgeClosing
+unfolding judge_closing
 read c =
     let s = c.before.before.before.args in
-    rw (frame-length s.text.now s.at s.n, lt-ltb 1 s.n c.before.if1.false, ← c.frame_byte.ensures)
+    rw (frame_length s.text.now s.at s.n, lt-ltb 1 s.n c.before.if1.false, ← c.frame_byte.ensures)
 
-pub last-line-spec : {M : Type 1} → statement M
-unfolding judgeClosing
-last-line-spec =
+pub last_line_spec : {M : Type 1} → statement M
+unfolding judge_closing
+last_line_spec =
     tie.close
     (tie.spec
-    (λ c. let s = c.before.before.args in rw (frame-length s.text.now s.at s.n, le-ltb 1 s.n c.if1.true))  -- returns
+    (λ c. let s = c.before.before.args in rw (frame_length s.text.now s.at s.n, le-ltb 1 s.n c.if1.true))  -- returns
     (λ c κs. search rules)  -- frame-byte-requires
     (λ c.
     let v = c.before in

@@ -2,13 +2,13 @@
 use native.Mathlib.Numerals.{add-one}
 use borrow.Author.Rules.{rules}
 use borrow.Author.Tests.{lt-ltb, le-ltb, eq-eqb, ne_eqb}
-use Rattle.problem.specs.Judge.{judgeVariable}
+use Rattle.problem.specs.Judge.{judge_variable}
 use Rattle.text_line.proofs.judge.variable.Statement.{statement}
 use Rattle.text_line.proofs.judge.variable.Tie as tie
 
-pub variable-spec : {M : Type 1} → statement M
-unfolding judgeVariable
-variable-spec =
+pub variable_spec : {M : Type 1} → statement M
+unfolding judge_variable
+variable_spec =
     tie.close
     (tie.spec
     (λ c. let s = c.before.args in rw (lt-ltb s.x s.v c.if1.true))  -- returns

@@ -5,29 +5,29 @@ use native.Mathlib.Numerals.{add-one}
 use native.Mathlib.Omega.{arith}
 use borrow.Author.Rules.{rules}
 use lib.ListN.{length, get_or}
-use Rattle.lists.proofs.Digits.{horner-two}
-use Rattle.problem.specs.Digit.{digitOf}
+use Rattle.lists.proofs.Digits.{horner_two}
+use Rattle.problem.specs.Digit.{digit_of}
 use Rattle.problem.specs.Line.{byte_at}
-use Rattle.problem.proofs.Digits.{digit-small}
-use Rattle.problem.proofs.Lines.{line-room, line-digits, frame_byte}
+use Rattle.problem.proofs.Digits.{digit_small}
+use Rattle.problem.proofs.Lines.{line_room, line_digits, frame_byte}
 use Rattle.text_line.proofs.line.frame_byte.Statement.{statement}
 use Rattle.text_line.proofs.line.frame_byte.Tie as tie
 
 room : (c : tie.Start) → c.args.at + 2 * c.args.n < length c.args.text.now
-room c = (line-room c.args.text.now c.args.at c.args.n c.requires.0).0
+room c = (line_room c.args.text.now c.args.at c.args.n c.requires.0).0
 
 -- the two bytes are digits
-high : (s : tie.Start) → digitOf (get_or s.args.text.now (s.args.at + 2 * s.args.j) 0) < 16
-high s = digit-small _ (line-digits s.args.text.now s.args.at s.args.n s.requires.0 (2 * s.args.j) (omega (arith, s.requires.1)))
+high : (s : tie.Start) → digit_of (get_or s.args.text.now (s.args.at + 2 * s.args.j) 0) < 16
+high s = digit_small _ (line_digits s.args.text.now s.args.at s.args.n s.requires.0 (2 * s.args.j) (omega (arith, s.requires.1)))
 
-low : (s : tie.Start) → digitOf (get_or s.args.text.now (s.args.at + 2 * s.args.j + 1) 0) < 16
+low : (s : tie.Start) → digit_of (get_or s.args.text.now (s.args.at + 2 * s.args.j + 1) 0) < 16
 low s =
     let place : s.args.at + (2 * s.args.j + 1) ≡ s.args.at + 2 * s.args.j + 1 = omega arith in
-    rw place at (digit-small _ (line-digits s.args.text.now s.args.at s.args.n s.requires.0 (2 * s.args.j + 1) (omega (arith, s.requires.1))))
+    rw place at (digit_small _ (line_digits s.args.text.now s.args.at s.args.n s.requires.0 (2 * s.args.j + 1) (omega (arith, s.requires.1))))
 
-pub frame-byte-spec : {M : Type 1} → statement M
+pub frame_byte_spec : {M : Type 1} → statement M
 unfolding byte_at
-frame-byte-spec =
+frame_byte_spec =
     tie.close
     (tie.spec
     (λ c. omega (arith, room c.before))  -- mul-i
@@ -42,4 +42,4 @@ frame-byte-spec =
     (λ c.
     let s = c.before.before.before.before.before in
     rw (frame_byte s.args.text.now s.args.at s.args.n s.args.j s.requires.1, c.before.before.known.ensures, c.known2.ensures, add-one)
-    (sym (horner-two 16 _ _))))  -- returns
+    (sym (horner_two 16 _ _))))  -- returns

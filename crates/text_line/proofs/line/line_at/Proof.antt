@@ -9,7 +9,7 @@ use lib.ListN.{get_or, get_or-eq_default}
 use lib.Dec.{eqb}
 use Rattle.problem.specs.declared.line.Line.TheVariants.{Bad, Holds}
 use Rattle.problem.specs.Line.{line_at, line_of}
-use Rattle.problem.proofs.Lines.{line-past, line-counted}
+use Rattle.problem.proofs.Lines.{line_past, line_counted}
 use Rattle.text_line.proofs.line.line_at.Statement.{statement}
 use Rattle.text_line.proofs.line.line_at.Tie as tie
 
@@ -19,7 +19,7 @@ counted : (c : tie.After-run-of) → (
     line_at s.text.now s.at ≡ line_of s.text.now s.at c.run_of.result)
 counted c =
     let s = c.before.before.before.args in
-    line-counted s.text.now s.at c.run_of.result c.before.if1.false c.run_of.ensures.0
+    line_counted s.text.now s.at c.run_of.result c.before.if1.false c.run_of.ensures.0
 
 -- and as many as a line may have, so that only the byte after them is left to test
 paired : (c : tie.Else4) → (
@@ -32,11 +32,11 @@ paired c =
     let d = v.run_of.result in
     rw (counted v, lt-ltb 0 d (omega arith), lt-ltb d 71 (omega arith), eq-eqb (d % 2) 0 c.if4.false)
 
-pub line-at-spec : {M : Type 1} → statement M
-line-at-spec =
+pub line_at_spec : {M : Type 1} → statement M
+line_at_spec =
     tie.close
     (tie.spec
-    (λ c. sym (line-past c.before.before.args.text.now c.before.before.args.at c.if1.true))  -- returns
+    (λ c. sym (line_past c.before.before.args.text.now c.before.before.args.at c.if1.true))  -- returns
     (λ c κs. search rules)  -- run-of-requires
     (λ c. search rules)  -- add-end
     (λ c. rw (counted c.before, c.if2.true))  -- returns-2

@@ -6,7 +6,7 @@ use native.Mathlib.Omega.{arith}
 use borrow.Author.Rules.{rules}
 use lib.ListN.{length}
 use Rattle.problem.specs.Line.{run}
-use Rattle.problem.proofs.Lines.{run_more, run-stops, run_past, run-full}
+use Rattle.problem.proofs.Lines.{run_more, run_stops, run_past, run_full}
 use Rattle.text_line.proofs.line.run_of.Statement.{statement}
 use Rattle.text_line.proofs.line.run_of.Tie as tie
 
@@ -16,8 +16,8 @@ invariant-loop text at d₀ d = (run text at 71 ≡ d + run text (at + d) (71 - 
 abbrev decreases-loop : tie.decreases-loop
 decreases-loop text at d₀ d = 71 - d
 
-pub run-of-spec : {M : Type 1} → statement M
-run-of-spec =
+pub run_of_spec : {M : Type 1} → statement M
+run_of_spec =
     tie.close
     (tie.spec
     invariant-loop
@@ -33,7 +33,7 @@ run-of-spec =
     (λ c.
     let l = c.before.before.before.before.before.loop in
     let s = c.before.before.before.before.before.before.before.args in
-    (run-stops s.text.now s.at 71 l.d l.invariant.0 (omega arith), omega arith, omega arith))  -- returns-2
+    (run_stops s.text.now s.at 71 l.d l.invariant.0 (omega arith), omega arith, omega arith))  -- returns-2
     (λ c. omega arith)  -- add-d
     (λ c. omega arith)  -- loop-less
     (λ c.
@@ -43,4 +43,4 @@ run-of-spec =
     (λ c.
     let l = c.before.loop in
     let s = c.before.before.before.args in
-    (run-full s.text.now s.at 71 l.d l.invariant.0 (omega arith), omega arith, omega arith)))  -- returns-3
+    (run_full s.text.now s.at 71 l.d l.invariant.0 (omega arith), omega arith, omega arith)))  -- returns-3

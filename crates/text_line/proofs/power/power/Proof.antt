@@ -11,18 +11,18 @@ use Rattle.lists.proofs.Theorems.{theorems}
 use Rattle.text_line.proofs.power.power.Statement.{statement}
 use Rattle.text_line.proofs.power.power.Tie as tie
 
-looked-up : (xs : List ℕ) (c k : ℕ) → xs ≡ powers → (c ≤ 32) × (k ≤ 4) → (get_or xs (5 * c + k) 0 ≡ c ^ k) × (get_or xs (5 * c + k) 0 ≤ 1048576)
-looked-up xs c k e h =
-    let r : get_or xs (5 * c + k) 0 ≡ c ^ k = ap (λ (ys : List ℕ). get_or ys (5 * c + k) 0) e ∙ theorems.powers-rule c k h.0 h.1 in
+looked_up : (xs : List ℕ) (c k : ℕ) → xs ≡ powers → (c ≤ 32) × (k ≤ 4) → (get_or xs (5 * c + k) 0 ≡ c ^ k) × (get_or xs (5 * c + k) 0 ≤ 1048576)
+looked_up xs c k e h =
+    let r : get_or xs (5 * c + k) 0 ≡ c ^ k = ap (λ (ys : List ℕ). get_or ys (5 * c + k) 0) e ∙ theorems.powers_rule c k h.0 h.1 in
     (r, subst (λ (n : ℕ). n ≤ 1048576) (sym r) (power_le {d = 32} {n = 4} (omega arith) h.0 h.1))
 
-pub power-spec : {M : Type 1} → statement M
-power-spec =
+pub power_spec : {M : Type 1} → statement M
+power_spec =
     tie.close
     (tie.spec
     (λ c. search rules)  -- mul-i
     (λ c. search rules)  -- add-i
     (λ c. search rules)  -- mul-result
     (λ c. search rules)  -- element-copy-out-result
-    (λ c. let s = c.before in omega (arith, (looked-up s.args.powers.now s.args.c s.args.k s.requires.0 s.requires.1).1))  -- cast-result
-    (λ c. let s = c.before in looked-up s.args.powers.now s.args.c s.args.k s.requires.0 s.requires.1))  -- returns
+    (λ c. let s = c.before in omega (arith, (looked_up s.args.powers.now s.args.c s.args.k s.requires.0 s.requires.1).1))  -- cast-result
+    (λ c. let s = c.before in looked_up s.args.powers.now s.args.c s.args.k s.requires.0 s.requires.1))  -- returns

@@ -8,5 +8,5 @@ returns : tie.Need-returns
 unfolding flat_map
 returns c = refl
 
-pub powers-spec : {M : Type 1} → statement M
-powers-spec = tie.close (tie.spec returns)
+pub powers_spec : {M : Type 1} → statement M
+powers_spec = tie.close (tie.spec returns)

@@ -4,8 +4,8 @@ use Rattle.walk.proofs.PathLaws.{brought}
 use Rattle.walk.proofs.node.bring.Statement.{statement}
 use Rattle.walk.proofs.node.bring.Tie as tie
 
-pub bring-spec : {M : Type 1} → statement M
-bring-spec =
+pub bring_spec : {M : Type 1} → statement M
+bring_spec =
     tie.close
     (tie.spec
     (λ c. search rules)  -- cast-path

@@ -6,8 +6,8 @@ use Rattle.walk.proofs.PathLaws.{noted}
 use Rattle.walk.proofs.node.note.Statement.{statement}
 use Rattle.walk.proofs.node.note.Tie as tie
 
-pub note-spec : {M : Type 1} → statement M
-note-spec =
+pub note_spec : {M : Type 1} → statement M
+note_spec =
     tie.close
     (tie.spec
     (λ c. search rules)  -- mul-at

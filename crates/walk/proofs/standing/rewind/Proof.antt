@@ -3,12 +3,12 @@ use Prim.Native.Nat.{ℕ}
 use mathlib.Core.Path.{subst}
 use native.Mathlib.Omega.{arith}
 use borrow.Author.Rules.{rules}
-use Rattle.store.specs.contracts.Store.{Undone}
+use Rattle.store.specs.terms.Store.{Undone}
 use Rattle.walk.proofs.standing.rewind.Statement.{statement}
 use Rattle.walk.proofs.standing.rewind.Tie as tie
 
-pub rewind-spec : {M : Type 1} → statement M
-rewind-spec =
+pub rewind_spec : {M : Type 1} → statement M
+rewind_spec =
     tie.close
     (tie.spec
     (λ c κs. search rules)  -- mark-requires

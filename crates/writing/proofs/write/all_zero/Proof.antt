@@ -7,8 +7,8 @@ use mathlib.Core.Path.{◌≡◌, refl, sym, ◌∙◌}
 use native.Mathlib.Omega.{arith}
 use lib.ListN.{length, drop, replicate, length-replicate}
 use Rattle.lists.specs.Bytes.{same_list}
-use Rattle.lists.proofs.Bytes.{zeros-at}
-use Rattle.lists.proofs.Loops.{same_more, same_differs, same-done}
+use Rattle.lists.proofs.Bytes.{zeros_at}
+use Rattle.lists.proofs.Loops.{same_more, same_differs, same_done}
 use Rattle.writing.proofs.write.all_zero.Statement.{statement}
 use Rattle.writing.proofs.write.all_zero.Tie as tie
 
@@ -24,8 +24,8 @@ decreases-loop a all₀ i₀ all i = length a - i
 long : (a : List ℕ) → length (zeros a) ≡ length a
 long a = length-replicate (length a) 0
 
-pub all-zero-spec : {M : Type 1} → statement M
-all-zero-spec =
+pub all_zero_spec : {M : Type 1} → statement M
+all_zero_spec =
     tie.close
     (tie.spec
     invariant-loop
@@ -37,11 +37,11 @@ all-zero-spec =
     (λ c.
     let l = c.before.before.before.loop in
     let a = c.before.before.before.before.args.a.now in
-    let z = zeros-at (length a) l.i in
+    let z = zeros_at (length a) l.i in
     let differs = same_differs (zeros a) a l.i (omega (arith, long a)) (omega arith) l.all c.if1.all in
     let more = same_more (zeros a) a l.i (omega (arith, long a)) (omega arith) l.all c.if1.all in
     (omega arith, l.invariant.1 ∙ ⊎_elim (λ w. differs (λ e. w.0.taken (sym e ∙ z)) w.1) (λ w. more (z ∙ sym w.0.left) w.1) c.if1.branch))  -- loop-again
     (λ c.
     let l = c.before.loop in
     let a = c.before.before.args.a.now in
-    sym (l.invariant.1 ∙ same-done (zeros a) a l.i l.all (omega (arith, long a)) (long a))))  -- returns
+    sym (l.invariant.1 ∙ same_done (zeros a) a l.i l.all (omega (arith, long a)) (long a))))  -- returns

@@ -4,15 +4,15 @@ use mathlib.Core.List.{List}
 use native.Mathlib.Omega.{arith}
 use borrow.Author.Rules.{rules}
 use lib.ListN.{length, get_or}
-use Rattle.problem.specs.Layout.{problemIn}
+use Rattle.problem.specs.Layout.{problem_in}
 use Rattle.problem.specs.Print.{text_of, print}
-use Rattle.writing.proofs.WriteLaws.{put_then, put-most}
+use Rattle.writing.proofs.WriteLaws.{put_then, put_most}
 use Rattle.writing.proofs.write.print_table.Statement.{statement}
 use Rattle.writing.proofs.write.print_table.Tie as tie
 
-pub print-table-spec : {M : Type 1} → statement M
-unfolding problemIn text_of print
-print-table-spec =
+pub print_table_spec : {M : Type 1} → statement M
+unfolding problem_in text_of print
+print_table_spec =
     tie.close
     (tie.spec
     (λ c κs. search rules)  -- put-first-requires
@@ -31,4 +31,4 @@ print-table-spec =
     let room : 182 + 71 * min (get_or tb 2 0) 64 ≤ length x = s.requires.1 in
     let two = put_then first.put_first.ensures (omega arith) arities.put-arities.ensures in
     let three = put_then two (omega arith) clauses.put_clauses.ensures in
-    put-most (put_then three (omega arith) last.put_last.ensures) (omega arith)))  -- returns
+    put_most (put_then three (omega arith) last.put_last.ensures) (omega arith)))  -- returns

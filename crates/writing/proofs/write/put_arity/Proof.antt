@@ -2,12 +2,12 @@
 use mathlib.Core.List.{[], ◌∷◌}
 use native.Mathlib.Omega.{arith}
 use borrow.Author.Rules.{rules}
-use Rattle.writing.proofs.WriteLaws.{put_first, put-hex, put-line}
+use Rattle.writing.proofs.WriteLaws.{put_first, put_hex, put_line}
 use Rattle.writing.proofs.write.put_arity.Statement.{statement}
 use Rattle.writing.proofs.write.put_arity.Tie as tie
 
-pub put-arity-spec : {M : Type 1} → statement M
-put-arity-spec =
+pub put_arity_spec : {M : Type 1} → statement M
+put_arity_spec =
     tie.close
     (tie.spec
     (λ c κs. search rules)  -- put-byte-requires
@@ -19,4 +19,4 @@ put-arity-spec =
     let second = last.before.before.before.before in
     let first = second.before.before.before.before in
     let s = first.before.before.before in
-    put-line (2 ∷ s.args.a ∷ []) (put-hex (2 ∷ []) s.args.a (put_first 2 first.put_byte.ensures) (omega arith) second.put-byte2.ensures) (omega arith) last.put-end.ensures))  -- returns
+    put_line (2 ∷ s.args.a ∷ []) (put_hex (2 ∷ []) s.args.a (put_first 2 first.put_byte.ensures) (omega arith) second.put-byte2.ensures) (omega arith) last.put-end.ensures))  -- returns

@@ -6,14 +6,14 @@ use native.Mathlib.Omega.{arith}
 use borrow.Author.Rules.{rules}
 use lib.ListN.{get_or}
 use Rattle.lists.specs.Tabulate.{tabulate}
-use Rattle.problem.specs.Digit.{hexByte}
-use Rattle.problem.specs.Layout.{aritiesIn}
-use Rattle.writing.proofs.WriteLaws.{put_as, put-most, put_first, put-frame, atom-bytes}
+use Rattle.problem.specs.Digit.{hex_byte}
+use Rattle.problem.specs.Layout.{arities_in}
+use Rattle.writing.proofs.WriteLaws.{put_as, put_most, put_first, put_frame, atom_bytes_lem}
 use Rattle.writing.proofs.write.put_atom.Statement.{statement}
 use Rattle.writing.proofs.write.put_atom.Tie as tie
 
-pub put-atom-spec : {M : Type 1} → statement M
-put-atom-spec =
+pub put_atom_spec : {M : Type 1} → statement M
+put_atom_spec =
     tie.close
     (tie.spec
     (λ c. search rules)  -- shared-slice-read-b
@@ -32,5 +32,5 @@ put-atom-spec =
     let n : ℕ = arity.arity-in.result in
     let b : ℕ = get_or tb from 0 in
     put_as
-    (put-most (put-frame (b ∷ []) (tabulate (λ j. get_or tb (from + 1 + j) 0) n) (put_first b first.put_byte.ensures) (omega arith) rest.put-bytes.ensures) (omega arith))
-    (ap (flat_map hexByte) (atom-bytes (aritiesIn tb) tb from n arity.arity-in.ensures.0))))  -- returns
+    (put_most (put_frame (b ∷ []) (tabulate (λ j. get_or tb (from + 1 + j) 0) n) (put_first b first.put_byte.ensures) (omega arith) rest.put-bytes.ensures) (omega arith))
+    (ap (flat_map hex_byte) (atom_bytes_lem (arities_in tb) tb from n arity.arity-in.ensures.0))))  -- returns

@@ -6,8 +6,8 @@ use Rattle.writing.proofs.WriteLaws.{put_two}
 use Rattle.writing.proofs.write.put_byte.Statement.{statement}
 use Rattle.writing.proofs.write.put_byte.Tie as tie
 
-pub put-byte-spec : {M : Type 1} → statement M
-put-byte-spec =
+pub put_byte_spec : {M : Type 1} → statement M
+put_byte_spec =
     tie.close
     (tie.spec
     (λ c κs. search rules)  -- digit-of-requires

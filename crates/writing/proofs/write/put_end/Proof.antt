@@ -5,8 +5,8 @@ use Rattle.writing.proofs.WriteLaws.{put_one}
 use Rattle.writing.proofs.write.put_end.Statement.{statement}
 use Rattle.writing.proofs.write.put_end.Tie as tie
 
-pub put-end-spec : {M : Type 1} → statement M
-put-end-spec =
+pub put_end_spec : {M : Type 1} → statement M
+put_end_spec =
     tie.close
     (tie.spec
     (λ c. search rules)  -- slice-write-out

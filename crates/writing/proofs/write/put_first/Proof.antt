@@ -6,13 +6,13 @@ use native.Mathlib.Omega.{arith}
 use borrow.Author.Rules.{rules}
 use lib.ListN.{length, get_or}
 use Rattle.lists.specs.Tabulate.{tabulate}
-use Rattle.problem.specs.Digit.{hexLine}
-use Rattle.writing.proofs.WriteLaws.{put_as, put_first, put-hex, put-frame, put-line, heading-frame}
+use Rattle.problem.specs.Digit.{hex_line}
+use Rattle.writing.proofs.WriteLaws.{put_as, put_first, put_hex, put_frame, put_line, heading_frame_lem}
 use Rattle.writing.proofs.write.put_first.Statement.{statement}
 use Rattle.writing.proofs.write.put_first.Tie as tie
 
-pub put-first-spec : {M : Type 1} → statement M
-put-first-spec =
+pub put_first_spec : {M : Type 1} → statement M
+put_first_spec =
     tie.close
     (tie.spec
     (λ c κs. search rules)  -- put-byte-requires
@@ -39,9 +39,9 @@ put-first-spec =
     let room : 17 ≤ length x = omega (arith, s.requires) in
     let k : ℕ = get_or tb 0 0 in
     let n : ℕ = count.at_most.result in
-    let two = put-hex (1 ∷ []) 1 (put_first 1 first.put_byte.ensures) (omega arith) second.put-byte2.ensures in
-    let four = put-hex (1 ∷ 1 ∷ k ∷ []) n (put-hex (1 ∷ 1 ∷ []) k two (omega arith) third.put-byte3.ensures) (omega arith) fourth.put-byte4.ensures in
+    let two = put_hex (1 ∷ []) 1 (put_first 1 first.put_byte.ensures) (omega arith) second.put-byte2.ensures in
+    let four = put_hex (1 ∷ 1 ∷ k ∷ []) n (put_hex (1 ∷ 1 ∷ []) k two (omega arith) third.put-byte3.ensures) (omega arith) fourth.put-byte4.ensures in
     let frame : List ℕ = tabulate (λ j. get_or tb (4 + j) 0) 4 in
     put_as
-    (put-line ((1 ∷ 1 ∷ k ∷ n ∷ []) ++ frame) (put-frame (1 ∷ 1 ∷ k ∷ n ∷ []) frame four (omega arith) limit.put-bytes.ensures) (omega arith) last.put-end.ensures)
-    (ap hexLine (heading-frame tb n s.requires.0 count.at_most.ensures))))  -- returns
+    (put_line ((1 ∷ 1 ∷ k ∷ n ∷ []) ++ frame) (put_frame (1 ∷ 1 ∷ k ∷ n ∷ []) frame four (omega arith) limit.put-bytes.ensures) (omega arith) last.put-end.ensures)
+    (ap hex_line (heading_frame_lem tb n s.requires.0 count.at_most.ensures))))  -- returns

@@ -4,7 +4,7 @@ use native.Mathlib.Omega.{arith}
 use borrow.Author.Rules.{rules}
 use borrow.Author.Tests.{not-true, not-false}
 use lib.Seq.{length-take-le}
-use Rattle.writing.proofs.WriteLaws.{write-short, write-narrow, write-invalid, write-valid}
+use Rattle.writing.proofs.WriteLaws.{write_short, write_narrow, write_invalid, write_valid}
 use Rattle.writing.proofs.write.write.Statement.{statement}
 use Rattle.writing.proofs.write.write.Tie as tie
 
@@ -14,10 +14,10 @@ write_spec =
     (tie.spec
     (λ c.
     let s = c.before.before.before.args in
-    write-short s.table.now s.out.now c.if1.true)  -- returns
+    write_short s.table.now s.out.now c.if1.true)  -- returns
     (λ c.
     let s = c.before.before.before.before.args in
-    write-narrow s.table.now s.out.now c.before.if1.false c.if2.true)  -- returns-2
+    write_narrow s.table.now s.out.now c.before.if1.false c.if2.true)  -- returns-2
     (λ c.
     let s = c.before.before.before.before.before.args in
     sym (length-take-le 4096 s.table.now c.before.before.if1.false))  -- slice-aggregate-own
@@ -27,7 +27,7 @@ write_spec =
     (λ c.
     let v = c.before in
     let s = v.before.before.before.before.before.before.args in
-    write-invalid s.table.now s.out.now (omega arith) (omega arith) (sym v.valid.ensures ∙ not-true v.valid.result c.if3.true))  -- returns-3
+    write_invalid s.table.now s.out.now (omega arith) (omega arith) (sym v.valid.ensures ∙ not-true v.valid.result c.if3.true))  -- returns-3
     (λ c κs.
     let s = c.before.before.before.before.before.before.before.before.args in
     (length-take-le 4096 s.table.now (omega arith), omega arith))  -- print-table-requires
@@ -39,4 +39,4 @@ write_spec =
     let v = else.before in
     let s = v.before.before.before.before.before.before.args in
     let good = sym v.valid.ensures ∙ not-false v.valid.result else.if3.false in
-    write-valid s.table.now s.out.now (omega arith) (omega arith) good put.print-table.ensures))  -- returns-4
+    write_valid s.table.now s.out.now (omega arith) (omega arith) good put.print-table.ensures))  -- returns-4
