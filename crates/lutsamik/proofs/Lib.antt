@@ -3,6 +3,4 @@ pub mod Narrow
 pub mod CallLaws
 pub mod AssumeLaws
 pub mod Theorems
-pub mod LocalLaws
-pub mod SessionLaws
 pub mod PartsLaws

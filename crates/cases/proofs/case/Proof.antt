@@ -8,28 +8,26 @@ pub case_spec : {M : Type 1} → statement M
 case_spec =
     tie.close
     (tie.spec
-    (λ c. search rules)  -- slice-aggregate-load
-    (λ c κs. search rules)  -- load-requires
-    (λ c. search rules)  -- slice-aggregate-load-2
-    (λ c κs. search rules)  -- load-requires-2
-    (λ c. search rules)  -- array-share-prefix-text
-    (λ c. search rules)  -- slice-aggregate-print-relevancy
-    (λ c κs. search rules)  -- print-relevancy-requires
-    (λ c. search rules)  -- slice-aggregate-say
-    (λ c. printed_within _ _ _ c.before.print-relevancy.ensures)  -- array-share-prefix-out
-    (λ c. printed_size _ _ _ c.before.before.print-relevancy.ensures)  -- slice-aggregate-same
-    (λ c. search rules)  -- array-share-prefix-expected
-    (λ c. search rules)  -- slice-aggregate-same-2
+    (λ c. search rules)  -- slice_bounds-load-end
+    (λ c κs. search rules)  -- load-size-requires
+    (λ c. search rules)  -- slice_bounds-load-end-2
+    (λ c κs. search rules)  -- load-most-requires
+    (λ c. search rules)  -- slice_bounds-text-end
+    (λ c. search rules)  -- slice_bounds-print_relevancy-end
+    (λ c κs. search rules)  -- print_relevancy-n-requires
+    (λ c. printed_within _ _ _ c.print_relevancy-n.ensures)  -- slice_bounds-out-end
+    (λ c. printed_size _ _ _ c.print_relevancy-n.ensures)  -- slice_bounds-same-end
+    (λ c. search rules)  -- slice_bounds-expected-end
+    (λ c. search rules)  -- slice_bounds-same-end-2
     (λ c κs. search rules)  -- same-requires
     (λ c κs. search rules)  -- say-requires
-    (λ c. search rules)  -- array-share-prefix-text-2
-    (λ c. search rules)  -- slice-aggregate-print-magic
-    (λ c κs. search rules)  -- print-magic-requires
-    (λ c. search rules)  -- slice-aggregate-say-2
-    (λ c. printed_within _ _ _ c.before.print-magic.ensures)  -- array-share-prefix-out-2
-    (λ c. printed_size _ _ _ c.before.before.print-magic.ensures)  -- slice-aggregate-same-3
-    (λ c. search rules)  -- array-share-prefix-expected-2
-    (λ c. search rules)  -- slice-aggregate-same-4
+    (λ c. search rules)  -- slice_bounds-text-end-2
+    (λ c. search rules)  -- slice_bounds-print_magic-end
+    (λ c κs. search rules)  -- print_magic-m-requires
+    (λ c. printed_within _ _ _ c.print_magic-m.ensures)  -- slice_bounds-out-end-2
+    (λ c. printed_size _ _ _ c.print_magic-m.ensures)  -- slice_bounds-same-end-3
+    (λ c. search rules)  -- slice_bounds-expected-end-2
+    (λ c. search rules)  -- slice_bounds-same-end-4
     (λ c κs. search rules)  -- same-requires-2
     (λ c κs. search rules)  -- say-requires-2
     (λ c. search rules))  -- returns

@@ -8,10 +8,10 @@ use Rattle.lists.proofs.Loops.{copy_more, copy_done}
 use Rattle.lists.proofs.copy.Statement.{statement}
 use Rattle.lists.proofs.copy.Tie as tie
 
-abbrev invariant-loop : tie.invariant-loop
+abbrev invariant-loop : tie.invariant-loop-i
 invariant-loop dst₀ src i₀ dst i = (i ≤ length src) × (dst ≡ take i src ++ drop i dst₀) × (length dst ≡ length dst₀)
 
-abbrev decreases-loop : tie.decreases-loop
+abbrev decreases-loop : tie.decreases-loop-i
 decreases-loop dst₀ src i₀ dst i = length src - i
 
 pub copy_spec : {M : Type 1} → statement M
@@ -20,22 +20,21 @@ copy_spec =
     (tie.spec
     invariant-loop
     decreases-loop
-    (λ c. (omega arith, refl, refl))  -- loop-holds
-    (λ c. omega arith)  -- shared-slice-read-dst
-    (λ c. omega arith)  -- slice-write-dst
-    (λ c. omega arith)  -- add-i
-    (λ c. omega arith)  -- loop-less
+    (λ c. (omega arith, refl, refl))  -- loop-i-init
+    (λ c. omega arith)  -- bounds-src-i
+    (λ c. omega arith)  -- bounds-dst-i
+    (λ c. omega arith)  -- overflow_add-i
+    (λ c. omega arith)  -- loop-i-smaller
     (λ c.
-    let l = c.before.before.loop in
-    let s = c.before.before.before in
-    let d : List ℕ = s.args.dst.now in
-    let x : List ℕ = s.args.src.now in (
+    let l = c.loop-i in
+    let d : List ℕ = c.args.dst.now in
+    let x : List ℕ = c.args.src.now in (
       omega arith,
-      ap (λ (r : List ℕ). set r l.i (get_or x l.i 0)) l.invariant.1 ∙ copy_more x d l.i c.before.loop-test.true s.requires,
+      ap (λ (r : List ℕ). set r l.i (get_or x l.i 0)) l.invariant.1 ∙ copy_more x d l.i c.loop-i-test.true c.requires,
       simp length-set l.invariant.2,
-    ))  -- loop-again
-    (λ c. c.before.loop.invariant.2)  -- same-length
+    ))  -- loop-i-preserved
+    (λ c. c.loop-i.invariant.2)  -- shape_of-dst
     (λ c.
-    let l = c.before.loop in
-    let e : l.i ≡ length c.before.before.args.src.now = omega arith in
-    l.invariant.1 ∙ copy_done c.before.before.args.src.now c.before.before.args.dst.now l.i e))  -- returns
+    let l = c.loop-i in
+    let e : l.i ≡ length c.args.src.now = omega arith in
+    l.invariant.1 ∙ copy_done c.args.src.now c.args.dst.now l.i e))  -- returns

@@ -10,10 +10,10 @@ use Rattle.lists.proofs.Loops.{same_apart, same_more, same_differs, same_done}
 use Rattle.lists.proofs.same.Statement.{statement}
 use Rattle.lists.proofs.same.Tie as tie
 
-abbrev invariant-loop : tie.invariant-loop
+abbrev invariant-loop : tie.invariant-loop-i
 invariant-loop a b all₀ i₀ all i = (i ≤ length a) × (same_list a b ≡ (all && same_list (drop i a) (drop i b)))
 
-abbrev decreases-loop : tie.decreases-loop
+abbrev decreases-loop : tie.decreases-loop-i
 decreases-loop a b all₀ i₀ all i = length a - i
 
 pub same_spec : {M : Type 1} → statement M
@@ -22,22 +22,22 @@ same_spec =
     (tie.spec
     invariant-loop
     decreases-loop
-    (λ c. sym (same_apart c.before.args.a.now c.before.args.b.now c.if1.true))  -- returns
-    (λ c. (omega arith, refl))  -- loop-holds
-    (λ c. omega arith)  -- shared-slice-read-if2
-    (λ c. omega arith)  -- shared-slice-read-if2-2
-    (λ c. omega arith)  -- add-i
-    (λ c. omega arith)  -- loop-less
+    (λ c. sym (same_apart c.args.a.now c.args.b.now c.if-a-b.true))  -- returns-then-a-b
+    (λ c. (omega arith, refl))  -- loop-i-init
+    (λ c. omega arith)  -- bounds-a-i
+    (λ c. omega arith)  -- bounds-b-i
+    (λ c. omega arith)  -- overflow_add-i
+    (λ c. omega arith)  -- loop-i-smaller
     (λ c.
-    let l = c.before.before.before.before.loop in
-    let a = c.before.before.before.before.before.before.args.a.now in
-    let b = c.before.before.before.before.before.before.args.b.now in
-    let differs = same_differs a b l.i (omega arith) (omega arith) l.all c.if2.all in
-    let more = same_more a b l.i (omega arith) (omega arith) l.all c.if2.all in
-    (omega arith, l.invariant.1 ∙ ⊎_elim (λ w. differs w.0.taken w.1) (λ w. more w.0.left w.1) c.if2.branch))  -- loop-again
+    let l = c.loop-i in
+    let a = c.args.a.now in
+    let b = c.args.b.now in
+    let differs = same_differs a b l.i (omega arith) (omega arith) l.all c.if-a-i.all in
+    let more = same_more a b l.i (omega arith) (omega arith) l.all c.if-a-i.all in
+    (omega arith, l.invariant.1 ∙ ⊎_elim (λ w. differs w.if-a-i.true w.all-is) (λ w. more w.if-a-i.false w.all-is) c.if-a-i.branch-raw))  -- loop-i-preserved
     (λ c.
-    let l = c.before.loop in
-    let a = c.before.before.before.args.a.now in
-    let b = c.before.before.before.args.b.now in
+    let l = c.loop-i in
+    let a = c.args.a.now in
+    let b = c.args.b.now in
     let e : l.i ≡ length a = omega arith in
-    sym (l.invariant.1 ∙ same_done a b l.i l.all e c.before.before.if1.false)))  -- returns-2
+    sym (l.invariant.1 ∙ same_done a b l.i l.all e c.if-a-b.false)))  -- returns

@@ -10,9 +10,9 @@ lutsamik_fit_relevancy_spec =
     tie.close
     (tie.spec
     (λ c κs. search rules)  -- fit-requires
-    (λ c κs. search rules)  -- pack-reply-requires
-    (λ c. search rules)  -- same-length
-    (λ c. search rules)  -- same-length-2
+    (λ c κs. search rules)  -- pack_reply-requires
+    (λ c. search rules)  -- shape_of-answer
+    (λ c. search rules)  -- shape_of-work
     (λ c.
-    let fit = c.before.before.before.before.before.fit in
-    (c.pack-reply.ensures ∙ ap₂ pack_verdict fit.ensures.0 fit.ensures.1, fit.ensures.2, fit.ensures.3)))  -- returns
+    let fit = c.fit in
+    (c.pack_reply.ensures ∙ ap₂ pack_verdict fit.ensures.0 fit.ensures.1, fit.ensures.2, fit.ensures.3)))  -- returns

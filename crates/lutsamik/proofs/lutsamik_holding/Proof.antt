@@ -9,6 +9,6 @@ pub lutsamik_holding_spec : {M : Type 1} → statement M
 lutsamik_holding_spec =
     tie.close
     (tie.spec
-    (λ c κs. search rules)  -- how-far-requires
-    (λ c κs. search rules)  -- pack-holding-requires
-    (λ c. c.pack-holding.ensures ∙ ap pack_holding c.before.how-far.ensures))  -- returns
+    (λ c κs. search rules)  -- how_far-requires
+    (λ c κs. search rules)  -- pack_holding-requires
+    (λ c. c.pack_holding.ensures ∙ ap pack_holding c.how_far.ensures))  -- returns

@@ -10,5 +10,5 @@ lutsamik_judge_spec =
     tie.close
     (tie.spec
     (λ c κs. search rules)  -- judge-requires
-    (λ c κs. search rules)  -- pack-judging-requires
-    (λ c. c.pack-judging.ensures ∙ ap pack_judging c.before.judge.ensures))  -- returns
+    (λ c κs. search rules)  -- pack_judging-requires
+    (λ c. c.pack_judging.ensures ∙ ap pack_judging c.judge.ensures))  -- returns

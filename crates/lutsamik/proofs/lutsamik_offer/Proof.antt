@@ -13,5 +13,5 @@ lutsamik_offer_spec =
     (λ c κs. search rules)
     (λ c. search rules)
     (λ c.
-    let offer = c.before.before.before.offer in
-    (c.pack-offering.ensures ∙ ap pack_offering offer.ensures.0, offer.ensures.1)))  -- returns
+    let offer = c.offer in
+    (c.pack_offering.ensures ∙ ap pack_offering offer.ensures.0, offer.ensures.1)))  -- returns

@@ -13,5 +13,5 @@ lutsamik_read_spec =
     (λ c κs. search rules)
     (λ c. search rules)
     (λ c.
-    let read = c.before.before.before.read in
-    (c.pack-reading.ensures ∙ ap pack_reading read.ensures.0, read.ensures.1)))  -- returns
+    let read = c.read in
+    (c.pack_reading.ensures ∙ ap pack_reading read.ensures.0, read.ensures.1)))  -- returns

@@ -13,5 +13,5 @@ lutsamik_rewrite_spec =
     (λ c κs. search rules)
     (λ c. search rules)
     (λ c.
-    let rewrite = c.before.before.before.rewrite in
-    (c.pack-rewriting.ensures ∙ ap pack_rewriting rewrite.ensures.0, rewrite.ensures.1)))  -- returns
+    let rewrite = c.rewrite in
+    (c.pack_rewriting.ensures ∙ ap pack_rewriting rewrite.ensures.0, rewrite.ensures.1)))  -- returns

@@ -13,5 +13,5 @@ lutsamik_set_spec =
     (λ c κs. search rules)
     (λ c. search rules)
     (λ c.
-    let set = c.before.before.before.set in
-    (c.pack-offering.ensures ∙ ap pack_offering set.ensures.0, set.ensures.1)))  -- returns
+    let set = c.set in
+    (c.pack_offering.ensures ∙ ap pack_offering set.ensures.0, set.ensures.1)))  -- returns

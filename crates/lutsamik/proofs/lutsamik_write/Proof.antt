@@ -13,5 +13,5 @@ lutsamik_write_spec =
     (λ c κs. search rules)
     (λ c. search rules)
     (λ c.
-    let write = c.before.before.before.write in
-    (c.pack-writing.ensures ∙ ap pack_writing write.ensures.0, write.ensures.1)))  -- returns
+    let write = c.write in
+    (c.pack_writing.ensures ∙ ap pack_writing write.ensures.0, write.ensures.1)))  -- returns

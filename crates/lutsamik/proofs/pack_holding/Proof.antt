@@ -9,10 +9,10 @@ pub pack_holding_spec : {M : Type 1} → statement M
 pack_holding_spec =
     tie.close
     (tie.spec
-    (λ c. search rules)  -- enum-known-h
+    (λ c. search rules)  -- enum_known-h
     (λ c κs. search rules)  -- packed-requires
-    (λ c. search rules)  -- enum-known-h-2
-    (λ c. search rules)  -- cast-packed
-    (λ c κs. search rules)  -- packed-requires-2
-    (λ c. c.packed.ensures ∙ sym (ap pack_holding c.before.before.h.given.1))  -- returns
-    (λ c. c.packed2.ensures ∙ sym (ap pack_holding c.before.before.h2.given.1)))  -- returns-2
+    (λ c. search rules)  -- enum_known-h-in-Held-1
+    (λ c. search rules)  -- overflow_cast-n
+    (λ c κs. search rules)  -- packed-requires-in-Held
+    (λ c. c.packed.ensures ∙ sym (ap pack_holding c.in-Unheld.is))  -- returns-in-Unheld
+    (λ c. c.packed-in-Held.ensures ∙ sym (ap pack_holding c.in-Held.is)))  -- returns-in-Held

@@ -9,9 +9,9 @@ pub pack_offering_spec : {M : Type 1} → statement M
 pack_offering_spec =
     tie.close
     (tie.spec
-    (λ c. search rules)  -- enum-known-o
+    (λ c. search rules)  -- enum_known-o
     (λ c κs. search rules)  -- packed-requires
-    (λ c. search rules)  -- enum_told
-    (λ c κs. search rules)  -- packed-requires-2
-    (λ c. c.packed.ensures ∙ sym (ap pack_offering c.before.before.o.given.1))  -- returns
-    (λ c. c.packed2.ensures ∙ sym (ap pack_offering c.before.enum_told.given.1)))  -- returns-2
+    (λ c. search rules)  -- enum_told-1
+    (λ c κs. search rules)  -- packed-requires-in-Done
+    (λ c. c.packed.ensures ∙ sym (ap pack_offering c.in-Refused.is))  -- returns-in-Refused
+    (λ c. c.packed-in-Done.ensures ∙ sym (ap pack_offering c.in-Done.is)))  -- returns-in-Done

@@ -9,10 +9,10 @@ pub pack_reading_spec : {M : Type 1} → statement M
 pack_reading_spec =
     tie.close
     (tie.spec
-    (λ c. search rules)  -- enum-known-r
-    (λ c. search rules)  -- cast-packed
+    (λ c. search rules)  -- enum_known-r
+    (λ c. search rules)  -- overflow_cast-line
     (λ c κs. search rules)  -- packed-requires
-    (λ c. search rules)  -- enum_told
-    (λ c κs. search rules)  -- packed-requires-2
-    (λ c. c.packed.ensures ∙ sym (ap pack_reading c.before.before.r.given.1))  -- returns
-    (λ c. c.packed2.ensures ∙ sym (ap pack_reading c.before.enum_told.given.1)))  -- returns-2
+    (λ c. search rules)  -- enum_told-1
+    (λ c κs. search rules)  -- packed-requires-in-Accepted
+    (λ c. c.packed.ensures ∙ sym (ap pack_reading c.in-Refused.is))  -- returns-in-Refused
+    (λ c. c.packed-in-Accepted.ensures ∙ sym (ap pack_reading c.in-Accepted.is)))  -- returns-in-Accepted

@@ -9,10 +9,10 @@ pub pack_rewriting_spec : {M : Type 1} → statement M
 pack_rewriting_spec =
     tie.close
     (tie.spec
-    (λ c. search rules)  -- enum-known-r
+    (λ c. search rules)  -- enum_known-r
     (λ c κs. search rules)  -- packed-requires
-    (λ c. search rules)  -- enum-known-r-2
-    (λ c. search rules)  -- cast-packed
-    (λ c κs. search rules)  -- packed-requires-2
-    (λ c. c.packed.ensures ∙ sym (ap pack_rewriting c.before.before.r.given.1))  -- returns
-    (λ c. c.packed2.ensures ∙ sym (ap pack_rewriting c.before.before.r2.given.1)))  -- returns-2
+    (λ c. search rules)  -- enum_known-r-in-Rewritten-1
+    (λ c. search rules)  -- overflow_cast-count
+    (λ c κs. search rules)  -- packed-requires-in-Rewritten
+    (λ c. c.packed.ensures ∙ sym (ap pack_rewriting c.in-Refused.is))  -- returns-in-Refused
+    (λ c. c.packed-in-Rewritten.ensures ∙ sym (ap pack_rewriting c.in-Rewritten.is)))  -- returns-in-Rewritten

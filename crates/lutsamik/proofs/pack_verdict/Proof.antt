@@ -15,15 +15,15 @@ pub pack_verdict_spec : {M : Type 1} → statement M
 pack_verdict_spec =
     tie.close
     (tie.spec
-    (λ c. search rules)  -- enum-known-v
+    (λ c. search rules)  -- enum_known-v
     (λ c κs. search rules)  -- packed-requires
-    (λ c. search rules)  -- enum-known-v-2
-    (λ c κs. search rules)  -- with-deepest-requires
-    (λ c. search rules)  -- enum-known-v-3
-    (λ c κs. search rules)  -- with-deepest-requires-2
-    (λ c. search rules)  -- enum-known-v-4
-    (λ c κs. search rules)  -- with-deepest-requires-3
-    (λ c. c.packed.ensures ∙ by c.before.before.before.before.args.deepest c.before.before.v.given.1)  -- returns
-    (λ c. c.with-deepest.ensures ∙ by c.before.before.before.before.args.deepest c.before.before.v2.given.1)  -- returns-2
-    (λ c. c.with-deepest2.ensures ∙ by c.before.before.before.before.args.deepest c.before.before.v3.given.1)  -- returns-3
-    (λ c. c.with-deepest3.ensures ∙ by c.before.before.before.before.args.deepest c.before.before.v4.given.1))  -- returns-4
+    (λ c. search rules)  -- enum_known-v-in-Satisfied-1
+    (λ c κs. search rules)  -- with_deepest-requires
+    (λ c. search rules)  -- enum_known-v-in-Refuted-1
+    (λ c κs. search rules)  -- with_deepest-requires-in-Refuted
+    (λ c. search rules)  -- enum_known-v-in-Exhausted-1
+    (λ c κs. search rules)  -- with_deepest-requires-in-Exhausted
+    (λ c. c.packed.ensures ∙ by c.args.deepest c.in-Refused.is)  -- returns-in-Refused
+    (λ c. c.with_deepest.ensures ∙ by c.args.deepest c.in-Satisfied.is)  -- returns-in-Satisfied
+    (λ c. c.with_deepest-in-Refuted.ensures ∙ by c.args.deepest c.in-Refuted.is)  -- returns-in-Refuted
+    (λ c. c.with_deepest-in-Exhausted.ensures ∙ by c.args.deepest c.in-Exhausted.is))  -- returns-in-Exhausted

@@ -9,10 +9,10 @@ pub pack_writing_spec : {M : Type 1} → statement M
 pack_writing_spec =
     tie.close
     (tie.spec
-    (λ c. search rules)  -- enum-known-w
+    (λ c. search rules)  -- enum_known-w
     (λ c κs. search rules)  -- packed-requires
-    (λ c. search rules)  -- enum-known-w-2
-    (λ c. search rules)  -- cast-packed
-    (λ c κs. search rules)  -- packed-requires-2
-    (λ c. c.packed.ensures ∙ sym (ap pack_writing c.before.before.w.given.1))  -- returns
-    (λ c. c.packed2.ensures ∙ sym (ap pack_writing c.before.before.w2.given.1)))  -- returns-2
+    (λ c. search rules)  -- enum_known-w-in-Written-1
+    (λ c. search rules)  -- overflow_cast-size
+    (λ c κs. search rules)  -- packed-requires-in-Written
+    (λ c. c.packed.ensures ∙ sym (ap pack_writing c.in-Unwritten.is))  -- returns-in-Unwritten
+    (λ c. c.packed-in-Written.ensures ∙ sym (ap pack_writing c.in-Written.is)))  -- returns-in-Written

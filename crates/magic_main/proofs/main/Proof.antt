@@ -8,12 +8,12 @@ pub main_spec : {M : Type 1} → statement M
 main_spec =
     tie.close
     (tie.spec
-    (λ c. search rules)  -- slice-aggregate-read-full
-    (λ c κs. search rules)  -- read-full-requires
-    (λ c. search rules)  -- array-share-prefix-text
-    (λ c. search rules)  -- slice-aggregate-print-magic
-    (λ c κs. search rules)  -- print-magic-requires
-    (λ c. printed_within _ _ _ c.print-magic.ensures)  -- array-share-prefix-out
-    (λ c. printed_size _ _ _ c.before.print-magic.ensures)  -- slice-aggregate-write-all
-    (λ c κs. search rules)  -- write-all-requires
+    (λ c. search rules)  -- slice_bounds-read_full-end
+    (λ c κs. search rules)  -- read_full-size-requires
+    (λ c. search rules)  -- slice_bounds-text-end
+    (λ c. search rules)  -- slice_bounds-print_magic-end
+    (λ c κs. search rules)  -- print_magic-n-requires
+    (λ c. printed_within _ _ _ c.print_magic-n.ensures)  -- slice_bounds-out-end
+    (λ c. printed_size _ _ _ c.print_magic-n.ensures)  -- slice_bounds-write_all-end
+    (λ c κs. search rules)  -- write_all-requires
     (λ c. search rules))  -- returns

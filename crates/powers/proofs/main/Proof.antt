@@ -4,10 +4,10 @@ use native.Mathlib.Omega.{arith}
 use Rattle.powers.proofs.main.Statement.{statement}
 use Rattle.powers.proofs.main.Tie as tie
 
-abbrev invariant-loop : tie.invariant-loop
+abbrev invariant-loop : tie.invariant-loop-c
 invariant-loop c₀ c = c ≤ 33
 
-abbrev decreases-loop : tie.decreases-loop
+abbrev decreases-loop : tie.decreases-loop-c
 decreases-loop c₀ c = 33 - c
 
 pub main_spec : {M : Type 1} → statement M
@@ -16,9 +16,9 @@ main_spec =
     (tie.spec
     invariant-loop
     decreases-loop
-    (λ c. omega arith)  -- loop-holds
-    (λ c κs. omega arith)  -- print-powers-requires
-    (λ c. omega arith)  -- add-c
-    (λ c. omega arith)  -- loop-less
-    (λ c. omega arith)  -- loop-again
+    (λ c. omega arith)  -- loop-c-init
+    (λ c κs. omega arith)  -- print_powers-requires
+    (λ c. omega arith)  -- overflow_step-c
+    (λ c. omega arith)  -- loop-c-smaller
+    (λ c. omega arith)  -- loop-c-preserved
     (λ c. tt))  -- returns

@@ -11,10 +11,10 @@ use Rattle.powers.proofs.power.Tie as tie
 power_more : (c i r : ℕ) → r ≡ c ^ i → r * c ≡ c ^ (i + 1)
 power_more c i r e = ap (λ (m : ℕ). m * c) e ∙ sym (rw (add-one, pow-suc))
 
-abbrev invariant-loop : tie.invariant-loop
+abbrev invariant-loop : tie.invariant-loop-i
 invariant-loop c k base r₀ i₀ r i = (r ≡ c ^ i) × (i ≤ k)
 
-abbrev decreases-loop : tie.decreases-loop
+abbrev decreases-loop : tie.decreases-loop-i
 decreases-loop c k base r₀ i₀ r i = k - i
 
 pub power_spec : {M : Type 1} → statement M
@@ -23,15 +23,14 @@ power_spec =
     (tie.spec
     invariant-loop
     decreases-loop
-    (λ c. (sym (pow-zero c.args.c), omega arith))  -- loop-holds
+    (λ c. (sym (pow-zero c.args.c), omega arith))  -- loop-i-init
     (λ c.
-    let l = c.before.loop in
-    let s = c.before.before in
-    let fits : s.args.c ^ (l.i + 1) ≤ 1048576 = power_le {d = 32} {n = 4} (omega arith) s.requires.0 (omega arith) in
-    record { fits = omega (arith, power_more s.args.c l.i l.r l.invariant.0) })  -- mul-r
-    (λ c. omega arith)  -- add-i
-    (λ c. omega arith)  -- loop-less
-    (λ c. (power_more c.before.before.args.c c.before.loop.i c.before.loop.r c.before.loop.invariant.0, omega arith))  -- loop-again
+    let l = c.loop-i in
+    let fits : c.args.c ^ (l.i + 1) ≤ 1048576 = power_le {d = 32} {n = 4} (omega arith) c.requires.0 (omega arith) in
+    record { fits = omega (arith, power_more c.args.c l.i l.r l.invariant.0) })  -- overflow_mul-r
+    (λ c. omega arith)  -- overflow_add-i
+    (λ c. omega arith)  -- loop-i-smaller
+    (λ c. (power_more c.args.c c.loop-i.i c.loop-i.r c.loop-i.invariant.0, omega arith))  -- loop-i-preserved
     (λ c.
-    let e : c.before.loop.i ≡ c.before.before.args.k = omega arith in
-    c.before.loop.invariant.0 ∙ ap (λ (i : ℕ). c.before.before.args.c ^ i) e))  -- returns
+    let e : c.loop-i.i ≡ c.args.k = omega arith in
+    c.loop-i.invariant.0 ∙ ap (λ (i : ℕ). c.args.c ^ i) e))  -- returns

@@ -5,10 +5,10 @@ use borrow.Author.Rules.{rules}
 use Rattle.powers.proofs.print_powers.Statement.{statement}
 use Rattle.powers.proofs.print_powers.Tie as tie
 
-abbrev invariant-loop : tie.invariant-loop
+abbrev invariant-loop : tie.invariant-loop-k
 invariant-loop c k₀ k = k ≤ 5
 
-abbrev decreases-loop : tie.decreases-loop
+abbrev decreases-loop : tie.decreases-loop-k
 decreases-loop c k₀ k = 5 - k
 
 pub print_powers_spec : {M : Type 1} → statement M
@@ -17,10 +17,10 @@ print_powers_spec =
     (tie.spec
     invariant-loop
     decreases-loop
-    (λ c. omega arith)  -- loop-holds
+    (λ c. omega arith)  -- loop-k-init
     (λ c κs. search rules)  -- power-requires
-    (λ c κs. tt)  -- print-line-requires
-    (λ c. omega arith)  -- add-k
-    (λ c. omega arith)  -- loop-less
-    (λ c. omega arith)  -- loop-again
+    (λ c κs. tt)  -- print_line-requires
+    (λ c. omega arith)  -- overflow_step-k
+    (λ c. omega arith)  -- loop-k-smaller
+    (λ c. omega arith)  -- loop-k-preserved
     (λ c. tt))  -- returns

@@ -8,12 +8,12 @@ pub main_spec : {M : Type 1} → statement M
 main_spec =
     tie.close
     (tie.spec
-    (λ c. search rules)  -- slice-aggregate-read-full
-    (λ c κs. search rules)  -- read-full-requires
-    (λ c. search rules)  -- array-share-prefix-text
-    (λ c. search rules)  -- slice-aggregate-print-relevancy
-    (λ c κs. search rules)  -- print-relevancy-requires
-    (λ c. printed_within _ _ _ c.print-relevancy.ensures)  -- array-share-prefix-out
-    (λ c. printed_size _ _ _ c.before.print-relevancy.ensures)  -- slice-aggregate-write-all
-    (λ c κs. search rules)  -- write-all-requires
+    (λ c. search rules)  -- slice_bounds-read_full-end
+    (λ c κs. search rules)  -- read_full-size-requires
+    (λ c. search rules)  -- slice_bounds-text-end
+    (λ c. search rules)  -- slice_bounds-print_relevancy-end
+    (λ c κs. search rules)  -- print_relevancy-n-requires
+    (λ c. printed_within _ _ _ c.print_relevancy-n.ensures)  -- slice_bounds-out-end
+    (λ c. printed_size _ _ _ c.print_relevancy-n.ensures)  -- slice_bounds-write_all-end
+    (λ c κs. search rules)  -- write_all-requires
     (λ c. search rules))  -- returns

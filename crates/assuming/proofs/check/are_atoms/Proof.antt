@@ -9,10 +9,10 @@ use Rattle.assuming.proofs.CheckLaws.{atoms_more, atoms_stop, atoms_end}
 use Rattle.assuming.proofs.check.are_atoms.Statement.{statement}
 use Rattle.assuming.proofs.check.are_atoms.Tie as tie
 
-abbrev invariant-loop : tie.invariant-loop
+abbrev invariant-loop : tie.invariant-loop-i
 invariant-loop facts atoms i₀ i = (i ≤ length facts) × (are_atoms atoms facts ≡ are_atoms atoms (drop i facts))
 
-abbrev decreases-loop : tie.decreases-loop
+abbrev decreases-loop : tie.decreases-loop-i
 decreases-loop facts atoms i₀ i = length facts - i
 
 pub are_atoms_spec : {M : Type 1} → statement M
@@ -21,21 +21,18 @@ are_atoms_spec =
     (tie.spec
     invariant-loop
     decreases-loop
-    (λ c. (omega arith, refl))  -- loop-holds
-    (λ c κs. (omega arith, omega arith))  -- is-fresh-requires
+    (λ c. (omega arith, refl))  -- loop-i-init
+    (λ c κs. (omega arith, omega arith))  -- is_fresh-requires
     (λ c.
-    let s = c.before.before.before.before.before in
-    let l = c.before.before.before.loop in
-    let f = c.before.is-fresh in
-    sym (l.invariant.1 ∙ atoms_stop s.args.atoms s.args.facts.now l.i (omega arith) (sym f.ensures ∙ not-true f.result c.if1.true)))  -- returns
-    (λ c. omega arith)  -- add-i
-    (λ c. omega arith)  -- loop-less
+    let l = c.loop-i in
+    let f = c.is_fresh in
+    sym (l.invariant.1 ∙ atoms_stop c.args.atoms c.args.facts.now l.i (omega arith) (sym f.ensures ∙ not-true f.result c.if-not-is_fresh.true-raw)))  -- returns-then-not-is_fresh
+    (λ c. omega arith)  -- overflow_add-i
+    (λ c. omega arith)  -- loop-i-smaller
     (λ c.
-    let s = c.before.before.before.before.before in
-    let l = c.before.before.before.loop in
-    let f = c.before.is-fresh in
-    (omega arith, l.invariant.1 ∙ atoms_more s.args.atoms s.args.facts.now l.i (omega arith) (sym f.ensures ∙ not-false f.result c.if1.false)))  -- loop-again
+    let l = c.loop-i in
+    let f = c.is_fresh in
+    (omega arith, l.invariant.1 ∙ atoms_more c.args.atoms c.args.facts.now l.i (omega arith) (sym f.ensures ∙ not-false f.result c.if-not-is_fresh.false-raw)))  -- loop-i-preserved
     (λ c.
-    let s = c.before.before.before in
-    let l = c.before.loop in
-    sym (l.invariant.1 ∙ atoms_end s.args.atoms s.args.facts.now l.i (omega arith))))  -- returns-2
+    let l = c.loop-i in
+    sym (l.invariant.1 ∙ atoms_end c.args.atoms c.args.facts.now l.i (omega arith))))  -- returns

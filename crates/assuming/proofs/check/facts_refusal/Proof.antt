@@ -11,22 +11,20 @@ pub facts_refusal_spec : {M : Type 1} → statement M
 facts_refusal_spec =
     tie.close
     (tie.spec
-    (λ c. let s = c.before.before.before in omega (arith, table_size _ s.requires))  -- shared-slice-read-if1
-    (λ c. let s = c.before.before.before in omega (arith, few_clauses _ s.requires))  -- cast-if1
-    (λ c. let s = c.before.before.before in omega (arith, few_clauses _ s.requires))  -- sub-if1
-    (λ c. let s = c.before.before.before.before in refusal_5 _ s.requires s.args.facts.now c.if1.true)  -- returns
-    (λ c. let s = c.before.before.before.before.before in refusal_many _ s.requires s.args.facts.now c.before.if1.false c.if2.true)  -- returns-2
-    (λ c. let s = c.before.before.before.before.before.before in omega (arith, table_size _ s.requires))  -- shared-slice-read-pair
-    (λ c. let s = c.before.before.before.before.before.before.before in omega (arith, table_size _ s.requires))  -- shared-slice-read-pair-2
+    (λ c. omega (arith, table_size _ c.requires))  -- bounds-table-2
+    (λ c. omega (arith, few_clauses _ c.requires))  -- overflow_cast-table
+    (λ c. omega (arith, few_clauses _ c.requires))  -- overflow_sub-table
+    (λ c. refusal_5 _ c.requires c.args.facts.now c.if-table-facts.true)  -- returns-then-table-facts
+    (λ c. refusal_many _ c.requires c.args.facts.now c.if-table-facts.false c.if-facts-gt16.true)  -- returns-then-facts-gt16
+    (λ c. omega (arith, table_size _ c.requires))  -- bounds-table-8
+    (λ c. omega (arith, table_size _ c.requires))  -- bounds-table-9
     (λ c κs. search rules)  -- pair-requires
-    (λ c κs. search rules)  -- are-atoms-requires
+    (λ c κs. search rules)  -- are_atoms-requires
     (λ c.
-    let s = c.before.before.before.before.before.before.before.before.before.before in
-    let a = c.before.are-atoms in
-    let n = c.before.before.pair.ensures ∙ atoms_told _ s.requires in
-    refusal_by _ s.requires s.args.facts.now c.before.before.before.before.before.before.if1.false c.before.before.before.before.before.if2.false _ n _ (sym c.if3.true ∙ a.ensures))  -- returns-3
+    let a = c.are_atoms in
+    let n = c.pair.ensures ∙ atoms_told _ c.requires in
+    refusal_by _ c.requires c.args.facts.now c.if-table-facts.false c.if-facts-gt16.false _ n _ (sym c.if-are_atoms.true ∙ a.ensures))  -- returns-then-are_atoms
     (λ c.
-    let s = c.before.before.before.before.before.before.before.before.before.before in
-    let a = c.before.are-atoms in
-    let n = c.before.before.pair.ensures ∙ atoms_told _ s.requires in
-    refusal_by _ s.requires s.args.facts.now c.before.before.before.before.before.before.if1.false c.before.before.before.before.before.if2.false _ n _ (sym c.if3.false ∙ a.ensures)))  -- returns-4
+    let a = c.are_atoms in
+    let n = c.pair.ensures ∙ atoms_told _ c.requires in
+    refusal_by _ c.requires c.args.facts.now c.if-table-facts.false c.if-facts-gt16.false _ n _ (sym c.if-are_atoms.false ∙ a.ensures)))  -- returns

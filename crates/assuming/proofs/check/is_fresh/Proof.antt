@@ -10,10 +10,10 @@ use Rattle.assuming.proofs.CheckLaws.{later_other, later_same, later_none, none_
 use Rattle.assuming.proofs.check.is_fresh.Statement.{statement}
 use Rattle.assuming.proofs.check.is_fresh.Tie as tie
 
-abbrev invariant-loop : tie.invariant-loop
+abbrev invariant-loop : tie.invariant-loop-j
 invariant-loop facts i atoms a j₀ j = (j ≤ length facts) × (has nat_key (drop (i + 1) facts) (get_or facts i 0) ≡ has nat_key (drop j facts) (get_or facts i 0))
 
-abbrev decreases-loop : tie.decreases-loop
+abbrev decreases-loop : tie.decreases-loop-j
 decreases-loop facts i atoms a j₀ j = length facts - j
 
 pub is_fresh_spec : {M : Type 1} → statement M
@@ -22,25 +22,22 @@ is_fresh_spec =
     (tie.spec
     invariant-loop
     decreases-loop
-    (λ c. omega arith)  -- mul-a
-    (λ c. omega arith)  -- shared-slice-read-a
-    (λ c. omega (arith, c.shared-slice-known.given c.before.args.i))  -- cast-if1
-    (λ c. let s = c.before.before in none_fresh s.args.atoms s.args.facts.now s.args.i c.if1.true)  -- returns
-    (λ c. omega arith)  -- add-j
-    (λ c. (omega arith, refl))  -- loop-holds
-    (λ c. omega arith)  -- mul-if2
-    (λ c. omega arith)  -- shared-slice-read-if2
+    (λ c. omega arith)  -- offset_bounds-facts-i
+    (λ c. omega arith)  -- bounds-facts-i
+    (λ c. omega (arith, c.shared_slice_known-1.given c.args.i))  -- overflow_cast-a
+    (λ c. none_fresh c.args.atoms c.args.facts.now c.args.i c.if-atoms-a.true)  -- returns-then-atoms-a
+    (λ c. omega arith)  -- overflow_add-j
+    (λ c. (omega arith, refl))  -- loop-j-init
+    (λ c. omega arith)  -- offset_bounds-facts-j
+    (λ c. omega arith)  -- bounds-facts-j
     (λ c.
-    let s = c.before.before.before.before.before.before in
-    let l = c.before.before.before.loop in
-    fresh_by s.args.atoms s.args.facts.now s.args.i (omega arith) true (l.invariant.1 ∙ later_same s.args.facts.now _ l.j (omega arith) c.if2.true))  -- returns-2
-    (λ c. omega arith)  -- add-j-2
-    (λ c. omega arith)  -- loop-less
+    let l = c.loop-j in
+    fresh_by c.args.atoms c.args.facts.now c.args.i (omega arith) true (l.invariant.1 ∙ later_same c.args.facts.now _ l.j (omega arith) c.if-facts-j.true))  -- returns-then-facts-j
+    (λ c. omega arith)  -- overflow_add-j-in-loop-j
+    (λ c. omega arith)  -- loop-j-smaller
     (λ c.
-    let s = c.before.before.before.before.before.before in
-    let l = c.before.before.before.loop in
-    (omega arith, l.invariant.1 ∙ later_other s.args.facts.now _ l.j (omega arith) c.if2.false))  -- loop-again
+    let l = c.loop-j in
+    (omega arith, l.invariant.1 ∙ later_other c.args.facts.now _ l.j (omega arith) c.if-facts-j.false))  -- loop-j-preserved
     (λ c.
-    let s = c.before.before.before.before in
-    let l = c.before.loop in
-    fresh_by s.args.atoms s.args.facts.now s.args.i (omega arith) false (l.invariant.1 ∙ later_none s.args.facts.now _ l.j (omega arith))))  -- returns-3
+    let l = c.loop-j in
+    fresh_by c.args.atoms c.args.facts.now c.args.i (omega arith) false (l.invariant.1 ∙ later_none c.args.facts.now _ l.j (omega arith))))  -- returns

@@ -10,8 +10,8 @@ pub refused_spec : {M : Type 1} → statement M
 refused_spec =
     tie.close
     (tie.spec
-    (λ c κs. search rules)  -- refusal-requires
-    (λ c. let s = c.before.before.before.before in refused_lent s.args.table.now s.args.facts.now s.args.short _ c.before.refusal.ensures c.if1.true)  -- returns
-    (λ c. let s = c.before.before.before.before.before in sym (length-take-le 4096 s.args.table.now (lent_taken s.args.table.now s.args.facts.now s.args.short _ c.before.before.refusal.ensures c.before.if1.false).long))  -- slice-aggregate-facts-refusal
-    (λ c κs. let s = c.before.before.before.before.before in own_lawful s.args.table.now s.args.facts.now s.args.short _ c.before.before.refusal.ensures c.before.if1.false)  -- facts-refusal-requires
-    (λ c. let s = c.before.before.before.before.before.before in c.facts-refusal.ensures ∙ refused_facts s.args.table.now s.args.facts.now s.args.short _ c.before.before.before.refusal.ensures c.before.before.if1.false))  -- returns-2
+    (λ c κs. search rules)  -- refusal-e-requires
+    (λ c. refused_lent c.args.table.now c.args.facts.now c.args.short _ c.refusal-e.ensures c.if-e-gt0.true)  -- returns-then-e-gt0
+    (λ c. sym (length-take-le 4096 c.args.table.now (lent_taken c.args.table.now c.args.facts.now c.args.short _ c.refusal-e.ensures c.if-e-gt0.false).long))  -- slice_bounds-facts_refusal-end
+    (λ c κs. own_lawful c.args.table.now c.args.facts.now c.args.short _ c.refusal-e.ensures c.if-e-gt0.false)  -- facts_refusal-requires
+    (λ c. c.facts_refusal.ensures ∙ refused_facts c.args.table.now c.args.facts.now c.args.short _ c.refusal-e.ensures c.if-e-gt0.false))  -- returns

@@ -8,9 +8,9 @@ pub add_fact_spec : {M : Type 1} → statement M
 add_fact_spec =
     tie.close
     (tie.spec
-    (λ c. search rules)  -- slice-aggregate-put-fact
-    (λ c κs. search rules)  -- put-fact-requires
-    (λ c. search rules)  -- slice-aggregate-append
+    (λ c. search rules)  -- slice_bounds-put_fact-end
+    (λ c κs. search rules)  -- put_fact-requires
+    (λ c. search rules)  -- slice_bounds-append-end
     (λ c κs. search rules)  -- append-requires
-    (λ c. search rules)  -- same-length
-    (λ c. let s = c.before.before.before.before.before.before.before.before.before.before in fact_added _ s.requires.0 s.requires.1.0 _ s.requires.1.1 _ _ c.before.before.before.before.before.before.put-fact.ensures c.before.before.append.ensures))  -- returns
+    (λ c. search rules)  -- shape_of-table
+    (λ c. fact_added _ c.requires.0 c.requires.1.0 _ c.requires.1.1 _ _ c.put_fact.ensures c.append.ensures))  -- returns

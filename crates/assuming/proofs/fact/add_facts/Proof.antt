@@ -6,10 +6,10 @@ use Rattle.assuming.proofs.FactLaws.{Adding, adding_starts, lawful_now, size_now
 use Rattle.assuming.proofs.fact.add_facts.Statement.{statement}
 use Rattle.assuming.proofs.fact.add_facts.Tie as tie
 
-abbrev invariant-loop : tie.invariant-loop
+abbrev invariant-loop : tie.invariant-loop-i
 invariant-loop table₀ facts i₀ table i = Adding table₀ facts i table
 
-abbrev decreases-loop : tie.decreases-loop
+abbrev decreases-loop : tie.decreases-loop-i
 decreases-loop table₀ facts i₀ table i = length facts - i
 
 pub add_facts_spec : {M : Type 1} → statement M
@@ -18,19 +18,17 @@ add_facts_spec =
     (tie.spec
     invariant-loop
     decreases-loop
-    (λ c. let s = c.before.before in adding_starts _ _ s.requires.0 s.requires.1)  -- loop-holds
-    (λ c. let s = c.before.before.before.before.before in omega (arith, s.requires.1.room, c.before.loop-test.true))  -- mul-add-fact
-    (λ c. omega (arith, c.before.before.loop-test.true))  -- shared-slice-read-add-fact
-    (λ c. let s = c.before.before.before.before.before.before in let l = c.before.before.before.loop in omega (arith, fact_small _ _ s.requires.0 s.requires.1 _ _ l.invariant c.before.before.loop-test.true))  -- cast-add-fact
+    (λ c. adding_starts _ _ c.requires.0 c.requires.1)  -- loop-i-init
+    (λ c. omega (arith, c.requires.1.room, c.loop-i-test.true))  -- offset_bounds-facts-i
+    (λ c. omega (arith, c.loop-i-test.true))  -- bounds-facts-i
+    (λ c. let l = c.loop-i in omega (arith, fact_small _ _ c.requires.0 c.requires.1 _ _ l.invariant c.loop-i-test.true))  -- overflow_cast-facts
     (λ c κs.
-    let s = c.before.before.before.before.before.before in
-    let l = c.before.before.before.loop in
-    (lawful_now _ _ s.requires.0 s.requires.1 _ _ l.invariant, (room_now _ _ s.requires.0 s.requires.1 _ _ l.invariant c.before.before.loop-test.true, below_now _ _ s.requires.0 s.requires.1 _ _ l.invariant c.before.before.loop-test.true)))  -- add-fact-requires
-    (λ c. let s = c.before.before.before.before.before.before.before.before.before in omega (arith, s.requires.1.room, c.before.before.before.before.before.loop-test.true))  -- add-i
-    (λ c. omega (arith, c.before.before.before.before.before.loop-test.true))  -- loop-less
+    let l = c.loop-i in
+    (lawful_now _ _ c.requires.0 c.requires.1 _ _ l.invariant, (room_now _ _ c.requires.0 c.requires.1 _ _ l.invariant c.loop-i-test.true, below_now _ _ c.requires.0 c.requires.1 _ _ l.invariant c.loop-i-test.true)))  -- add_fact-requires
+    (λ c. omega (arith, c.requires.1.room, c.loop-i-test.true))  -- overflow_add-i
+    (λ c. omega (arith, c.loop-i-test.true))  -- loop-i-smaller
     (λ c.
-    let s = c.before.before.before.before.before.before.before.before.before in
-    let l = c.before.before.before.before.before.before.loop in
-    adding_more _ _ s.requires.0 s.requires.1 _ _ l.invariant c.before.before.before.before.before.loop-test.true _ c.before.before.add-fact.ensures)  -- loop-again
-    (λ c. let s = c.before.before.before.before in let l = c.before.loop in size_now _ _ s.requires.0 s.requires.1 _ _ l.invariant)  -- same-length
-    (λ c. let s = c.before.before.before.before in let l = c.before.loop in adding_ends _ _ s.requires.0 s.requires.1 _ _ l.invariant c.loop-test.false))  -- returns
+    let l = c.loop-i in
+    adding_more _ _ c.requires.0 c.requires.1 _ _ l.invariant c.loop-i-test.true _ c.add_fact.ensures)  -- loop-i-preserved
+    (λ c. let l = c.loop-i in size_now _ _ c.requires.0 c.requires.1 _ _ l.invariant)  -- shape_of-table
+    (λ c. let l = c.loop-i in adding_ends _ _ c.requires.0 c.requires.1 _ _ l.invariant c.loop-i-test.false))  -- returns

@@ -15,27 +15,27 @@ pub put_fact_spec : {M : Type 1} → statement M
 put_fact_spec =
     tie.close
     (tie.spec
-    (λ c. search rules)  -- slice-aggregate-decode
-    (λ c κs. search rules)  -- decode-requires
-    (λ c. search rules)  -- cast-base
-    (λ c. search rules)  -- mul-base
-    (λ c. search rules)  -- add-base
-    (λ c. let s = c.before.before.before.before.before.before in omega (arith, fact_place _ s.requires.0 _ _ _ c.before.before.decode.ensures))  -- shared-slice-read-arity
-    (λ c. let s = c.before.before.before.before.before.before in omega (arith, few_arguments _ s.requires.0 _ _ _ c.before.before.decode.ensures))  -- cast-arity
-    (λ c. let s = c.before.before.before.before.before.before in omega (arith, size s))  -- slice-write-rec
-    (λ c. let s = c.before.before.before.before.before.before in simp length-set (omega (arith, size s)))  -- slice-write-rec-2
-    (λ c. let s = c.before.before.before.before.before.before in simp length-set (omega (arith, size s)))  -- slice-write-rec-3
-    (λ c. search rules)  -- sub-copy
-    (λ c. search rules)  -- part-copy-start
-    (λ c. let s = c.before.before.before.before.before.before in simp length-set (omega (arith, size s)))  -- part-copy-end
-    (λ c. let s = c.before.before.before.before.before.before.before in omega (arith, few_arguments _ s.requires.0 _ _ _ c.before.before.before.decode.ensures))  -- array-share-prefix-args
-    (λ c. let s = c.before.before.before.before.before.before.before.before in copied_count _ s.requires.0 _ _ _ c.before.before.before.before.decode.ensures _ s.requires.1.1 _ refl)  -- slice-aggregate-copy
-    (λ c κs. let s = c.before.before.before.before.before.before.before.before in copied_fits _ s.requires.0 _ _ _ c.before.before.before.before.decode.ensures _ s.requires.1.1 _ refl)  -- copy-requires
-    (λ c. search rules)  -- add-rec
-    (λ c. let s = c.before.before.before.before.before.before.before.before.before.before.before.before in omega (arith, fact_place _ s.requires.0 _ _ _ c.before.before.before.before.before.before.before.before.decode.ensures))  -- shared-slice-read-rec
-    (λ c. let s = c.before.before.before.before.before.before.before.before.before.before.before.before in omega (arith, written_size _ s.requires.0 _ _ _ c.before.before.before.before.before.before.before.before.decode.ensures _ s.requires.1.1 _ refl _ c.before.before.before.copy.ensures))  -- slice-write-rec-4
-    (λ c. search rules)  -- add-rec-2
-    (λ c. let s = c.before.before.before.before.before.before.before.before.before.before.before.before.before in omega (arith, fact_place _ s.requires.0 _ _ _ c.before.before.before.before.before.before.before.before.before.decode.ensures))  -- shared-slice-read-rec-2
-    (λ c. let s = c.before.before.before.before.before.before.before.before.before.before.before.before.before in simp length-set (omega (arith, written_size _ s.requires.0 _ _ _ c.before.before.before.before.before.before.before.before.before.decode.ensures _ s.requires.1.1 _ refl _ c.before.before.before.before.copy.ensures)))  -- slice-write-rec-5
-    (λ c. let s = c.before.before.before.before.before.before.before.before.before.before.before.before.before in simp length-set (written_size _ s.requires.0 _ _ _ c.before.before.before.before.before.before.before.before.before.decode.ensures _ s.requires.1.1 _ refl _ c.before.before.before.before.copy.ensures ∙ sym (size s)))  -- same-length
-    (λ c. let s = c.before.before.before.before.before.before.before.before.before.before.before.before.before in fact_record _ s.requires.0 _ _ _ c.before.before.before.before.before.before.before.before.before.decode.ensures _ s.requires.1.1 _ refl _ c.before.before.before.before.copy.ensures))  -- returns
+    (λ c. search rules)  -- slice_bounds-decode-end
+    (λ c κs. search rules)  -- decode-p-requires
+    (λ c. search rules)  -- overflow_cast-base
+    (λ c. search rules)  -- overflow_mul-base
+    (λ c. search rules)  -- overflow_add-base
+    (λ c. omega (arith, fact_place _ c.requires.0 _ _ _ c.decode-p.ensures))  -- bounds-table-base
+    (λ c. omega (arith, few_arguments _ c.requires.0 _ _ _ c.decode-p.ensures))  -- overflow_cast-arity
+    (λ c. omega (arith, size c.before.before.before.before.before.before))  -- bounds-rec-1
+    (λ c. simp length-set (omega (arith, size c.before.before.before.before.before.before)))  -- bounds-rec-4
+    (λ c. simp length-set (omega (arith, size c.before.before.before.before.before.before)))  -- bounds-rec-32
+    (λ c. search rules)  -- slice_bounds-copy-count
+    (λ c. search rules)  -- slice_bounds-copy-start
+    (λ c. simp length-set (omega (arith, size c.before.before.before.before.before.before)))  -- slice_bounds-copy-end
+    (λ c. omega (arith, few_arguments _ c.requires.0 _ _ _ c.decode-p.ensures))  -- slice_bounds-args-end
+    (λ c. copied_count _ c.requires.0 _ _ _ c.decode-p.ensures _ c.requires.1.1 _ refl)  -- slice_bounds-copy-end-2
+    (λ c κs. copied_fits _ c.requires.0 _ _ _ c.decode-p.ensures _ c.requires.1.1 _ refl)  -- copy-requires
+    (λ c. search rules)  -- overflow_add-rec
+    (λ c. omega (arith, fact_place _ c.requires.0 _ _ _ c.decode-p.ensures))  -- bounds-table-base-2
+    (λ c. omega (arith, written_size _ c.requires.0 _ _ _ c.decode-p.ensures _ c.requires.1.1 _ refl _ c.copy.ensures))  -- bounds-rec-36
+    (λ c. search rules)  -- overflow_add-rec-2
+    (λ c. omega (arith, fact_place _ c.requires.0 _ _ _ c.decode-p.ensures))  -- bounds-table-base-3
+    (λ c. simp length-set (omega (arith, written_size _ c.requires.0 _ _ _ c.decode-p.ensures _ c.requires.1.1 _ refl _ c.copy.ensures)))  -- bounds-rec-37
+    (λ c. simp length-set (written_size _ c.requires.0 _ _ _ c.decode-p.ensures _ c.requires.1.1 _ refl _ c.copy.ensures ∙ sym (size c.before.before.before.before.before.before.before.before.before.before.before.before.before)))  -- shape_of-rec
+    (λ c. fact_record _ c.requires.0 _ _ _ c.decode-p.ensures _ c.requires.1.1 _ refl _ c.copy.ensures))  -- returns

@@ -11,10 +11,10 @@ use Rattle.ground.proofs.BranchLaws.{SlotsPassed, passed_none, passed_more, pass
 use Rattle.ground.proofs.branch.branch_after.Statement.{statement}
 use Rattle.ground.proofs.branch.branch_after.Tie as tie
 
-abbrev invariant-loop : tie.invariant-loop
+abbrev invariant-loop : tie.invariant-loop-i
 invariant-loop bs first stride count values n seen₀ found₀ i₀ seen found i = SlotsPassed (number_in bs first stride values) n i found seen × (i ≤ count)
 
-abbrev decreases-loop : tie.decreases-loop
+abbrev decreases-loop : tie.decreases-loop-i
 decreases-loop bs first stride count values n seen₀ found₀ i₀ seen found i = count - i
 
 abbrev number : tie.Start invariant-loop decreases-loop → ℕ → ℕ
@@ -26,39 +26,34 @@ branch_after_spec =
     (tie.spec
     invariant-loop
     decreases-loop
-    (λ c. let s = c.before.before.before in few_all (number s) s.args.n s.args.count c.if1.true)  -- returns
-    (λ c. let s = c.before.before.before in (passed_none (number s) s.args.n _ refl, omega arith))  -- loop-holds
-    (λ c. let s = c.before.before.before.before.before in omega (arith, (s.requires.1.each c.before.loop.i c.loop-test.true).room, s.requires.0.short))  -- mul-number-in
-    (λ c. let s = c.before.before.before.before.before in omega (arith, (s.requires.1.each c.before.loop.i c.loop-test.true).room, s.requires.0.short))  -- add-number-in
-    (λ c κs. let s = c.before.before.before.before.before in (s.requires.0, s.requires.1.each c.before.loop.i c.loop-test.true))  -- number-in-requires
-    (λ c. search rules)  -- slice-aggregate-fresh
-    (λ c κs. let s = c.before.before.before.before.before.before.before in let l = c.before.before.before in (l.loop.invariant.0.four, omega (arith, l.loop.invariant.0.part, c.before.before.loop-test.true, s.requires.1.few)))  -- fresh-requires
+    (λ c. few_all (number c.before.before.before) c.args.n c.args.count c.if-n-count.true)  -- returns-then-n-count
+    (λ c. (passed_none (number c.before.before.before) c.args.n _ refl, omega arith))  -- loop-i-init
+    (λ c. omega (arith, (c.requires.1.each c.loop-i.i c.loop-i-test.true).room, c.requires.0.short))  -- overflow_mul-stride
+    (λ c. omega (arith, (c.requires.1.each c.loop-i.i c.loop-i-test.true).room, c.requires.0.short))  -- overflow_add-first
+    (λ c κs. (c.requires.0, c.requires.1.each c.loop-i.i c.loop-i-test.true))  -- number_in-a-requires
+    (λ c. search rules)  -- slice_bounds-fresh-end
+    (λ c κs. (c.loop-i.invariant.0.four, omega (arith, c.loop-i.invariant.0.part, c.loop-i-test.true, c.requires.1.few)))  -- fresh-more-requires
     (λ c.
-    let s = c.before.before.before.before.before.before.before.before in
-    let l = c.before.before.before.before.loop in
-    omega (arith, l.invariant.0.part, c.before.before.before.loop-test.true, s.requires.1.few, one_at_most (has nat_key (take l.found l.seen) c.before.before.number-in.result) c.fresh.result c.fresh.ensures))  -- add-if2
+    let l = c.loop-i in
+    omega (arith, l.invariant.0.part, c.loop-i-test.true, c.requires.1.few, one_at_most (has nat_key (take l.found l.seen) c.number_in-a.result) c.fresh-more.result c.fresh-more.ensures))  -- overflow_add-found
     (λ c.
-    let s = c.before.before.before.before.before.before.before.before.before in
-    let l = c.before.before.before.before.before.loop in
-    passed_here (number s) s.args.n l.i l.found l.seen (omega (arith, c.before.before.before.before.loop-test.true, s.requires.1.few)) l.invariant.0 c.before.before.before.number-in.result c.before.before.before.number-in.ensures
-    c.before.fresh.result c.before.fresh.ensures c.if2.true s.args.count c.before.before.before.before.loop-test.true)  -- returns-2
-    (λ c. let s = c.before.before.before.before.before.before.before.before.before in let l = c.before.before.before.before.before.loop in omega (arith, l.invariant.0.part, c.before.before.before.before.loop-test.true, s.requires.1.few))  -- mul-seen
-    (λ c. let s = c.before.before.before.before.before.before.before.before.before in let l = c.before.before.before.before.before.loop in omega (arith, l.invariant.0.part, c.before.before.before.before.loop-test.true, s.requires.1.few))  -- array-write-seen
+    let l = c.loop-i in
+    passed_here (number c.before.before.before.before.before.before.before.before.before) c.args.n l.i l.found l.seen (omega (arith, c.loop-i-test.true, c.requires.1.few)) l.invariant.0 c.number_in-a.result c.number_in-a.ensures
+    c.fresh-more.result c.fresh-more.ensures c.if-found-more.true c.args.count c.loop-i-test.true)  -- returns-then-found-more
+    (λ c. let l = c.loop-i in omega (arith, l.invariant.0.part, c.loop-i-test.true, c.requires.1.few))  -- offset_bounds-seen-found
+    (λ c. let l = c.loop-i in omega (arith, l.invariant.0.part, c.loop-i-test.true, c.requires.1.few))  -- bounds-seen-found
     (λ c.
-    let s = c.before.before.before.before.before.before.before.before.before in
-    let l = c.before.before.before.before.before.loop in
-    omega (arith, l.invariant.0.part, c.before.before.before.before.loop-test.true, s.requires.1.few, one_at_most (has nat_key (take l.found l.seen) c.before.before.before.number-in.result) c.before.fresh.result c.before.fresh.ensures))  -- add-found
-    (λ c. let s = c.before.before.before.before.before.before.before.before.before in omega (arith, c.before.before.before.before.loop-test.true, s.requires.1.few))  -- add-i
-    (λ c. omega (arith, c.before.before.before.before.loop-test.true))  -- loop-less
+    let l = c.loop-i in
+    omega (arith, l.invariant.0.part, c.loop-i-test.true, c.requires.1.few, one_at_most (has nat_key (take l.found l.seen) c.number_in-a.result) c.fresh-more.result c.fresh-more.ensures))  -- overflow_add-found-in-loop-i
+    (λ c. omega (arith, c.loop-i-test.true, c.requires.1.few))  -- overflow_add-i
+    (λ c. omega (arith, c.loop-i-test.true))  -- loop-i-smaller
     (λ c.
-    let s = c.before.before.before.before.before.before.before.before.before in
-    let l = c.before.before.before.before.before.loop in (
-      passed_more (number s) s.args.n l.i l.found l.seen (omega (arith, c.before.before.before.before.loop-test.true, s.requires.1.few)) l.invariant.0 c.before.before.before.number-in.result c.before.before.before.number-in.ensures
-          c.before.fresh.result c.before.fresh.ensures c.if2.false,
-      omega (arith, c.before.before.before.before.loop-test.true),
-    ))  -- loop-again
+    let l = c.loop-i in (
+      passed_more (number c.before.before.before.before.before.before.before.before.before) c.args.n l.i l.found l.seen (omega (arith, c.loop-i-test.true, c.requires.1.few)) l.invariant.0 c.number_in-a.result c.number_in-a.ensures
+          c.fresh-more.result c.fresh-more.ensures c.if-found-more.false,
+      omega (arith, c.loop-i-test.true),
+    ))  -- loop-i-preserved
     (λ c.
-    let s = c.before.before.before.before.before in
-    let l = c.before.loop in
-    let all : l.i ≡ s.args.count = omega (arith, l.invariant.1, c.loop-test.false) in
-    rw (← all) (passed_all (number s) s.args.n l.i l.found l.seen (omega (arith, l.invariant.1, s.requires.1.few)) l.invariant.0)))  -- returns-3
+    let l = c.loop-i in
+    let all : l.i ≡ c.args.count = omega (arith, l.invariant.1, c.loop-i-test.false) in
+    rw (← all) (passed_all (number c.before.before.before.before.before) c.args.n l.i l.found l.seen (omega (arith, l.invariant.1, c.requires.1.few)) l.invariant.0)))  -- returns

@@ -10,10 +10,10 @@ use Rattle.ground.proofs.BranchLaws.{seen_more, seen_there}
 use Rattle.ground.proofs.branch.fresh.Statement.{statement}
 use Rattle.ground.proofs.branch.fresh.Tie as tie
 
-abbrev invariant-loop : tie.invariant-loop
+abbrev invariant-loop : tie.invariant-loop-j
 invariant-loop seen n a j₀ j = (has nat_key (take j seen) a ≡ false) × (j ≤ n)
 
-abbrev decreases-loop : tie.decreases-loop
+abbrev decreases-loop : tie.decreases-loop-j
 decreases-loop seen n a j₀ j = n - j
 
 pub fresh_spec : {M : Type 1} → statement M
@@ -22,21 +22,18 @@ fresh_spec =
     (tie.spec
     invariant-loop
     decreases-loop
-    (λ c. (refl, omega arith))  -- loop-holds
-    (λ c. let s = c.before.before in omega (arith, s.requires.1, c.loop-test.true))  -- mul-if1
-    (λ c. let s = c.before.before.before in omega (arith, s.requires, c.before.loop-test.true))  -- shared-slice-read-if1
+    (λ c. (refl, omega arith))  -- loop-j-init
+    (λ c. omega (arith, c.requires.1, c.loop-j-test.true))  -- offset_bounds-seen-j
+    (λ c. omega (arith, c.requires, c.loop-j-test.true))  -- bounds-seen-j
     (λ c.
-    let l = c.before.before.before.loop in
-    let s = c.before.before.before.before in
-    rw (seen_there s.args.seen.now s.args.a l.j s.args.n c.before.before.loop-test.true (omega (arith, s.requires)) c.if1.true))  -- returns
-    (λ c. let s = c.before.before.before.before in omega (arith, s.requires.1, c.before.before.loop-test.true))  -- add-j
-    (λ c. omega (arith, c.before.before.loop-test.true))  -- loop-less
+    let l = c.loop-j in
+    rw (seen_there c.args.seen.now c.args.a l.j c.args.n c.loop-j-test.true (omega (arith, c.requires)) c.if-seen-j.true))  -- returns-then-seen-j
+    (λ c. omega (arith, c.requires.1, c.loop-j-test.true))  -- overflow_add-j
+    (λ c. omega (arith, c.loop-j-test.true))  -- loop-j-smaller
     (λ c.
-    let l = c.before.before.before.loop in
-    let s = c.before.before.before.before in
-    (seen_more s.args.seen.now s.args.a l.j (omega (arith, s.requires, c.before.before.loop-test.true)) l.invariant.0 c.if1.false, omega (arith, c.before.before.loop-test.true)))  -- loop-again
+    let l = c.loop-j in
+    (seen_more c.args.seen.now c.args.a l.j (omega (arith, c.requires, c.loop-j-test.true)) l.invariant.0 c.if-seen-j.false, omega (arith, c.loop-j-test.true)))  -- loop-j-preserved
     (λ c.
-    let l = c.before.loop in
-    let s = c.before.before in
-    let all : l.j ≡ s.args.n = omega (arith, l.invariant.1, c.loop-test.false) in
-    rw (← all, l.invariant.0)))  -- returns-2
+    let l = c.loop-j in
+    let all : l.j ≡ c.args.n = omega (arith, l.invariant.1, c.loop-j-test.false) in
+    rw (← all, l.invariant.0)))  -- returns

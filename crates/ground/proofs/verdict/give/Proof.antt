@@ -11,11 +11,11 @@ use Rattle.ground.proofs.VerdictLaws.{give_more}
 use Rattle.ground.proofs.verdict.give.Statement.{statement}
 use Rattle.ground.proofs.verdict.give.Tie as tie
 
-abbrev invariant-loop : tie.invariant-loop
+abbrev invariant-loop : tie.invariant-loop-a
 invariant-loop work answer₀ atoms a₀ answer a =
     (a ≤ atoms) × (answer ≡ map bit (tabulate (chosen_bit work) a) ++ drop a answer₀) × (length answer ≡ length answer₀)
 
-abbrev decreases-loop : tie.decreases-loop
+abbrev decreases-loop : tie.decreases-loop-a
 decreases-loop work answer₀ atoms a₀ answer a = atoms - a
 
 pub give_spec : {M : Type 1} → statement M
@@ -24,25 +24,23 @@ give_spec =
     (tie.spec
     invariant-loop
     decreases-loop
-    (λ c. (omega arith, refl, refl))  -- loop-holds
-    (λ c κs. omega arith)  -- in-model-requires
-    (λ c. omega arith)  -- slice-write-answer
-    (λ c. omega arith)  -- add-a
-    (λ c. omega arith)  -- loop-less
+    (λ c. (omega arith, refl, refl))  -- loop-a-init
+    (λ c κs. omega arith)  -- in_model-requires
+    (λ c. omega arith)  -- bounds-answer-a
+    (λ c. omega arith)  -- overflow_add-a
+    (λ c. omega arith)  -- loop-a-smaller
     (λ c.
-    let l = c.before.before.loop in
-    let s = c.before.before.before.before.before in
-    let answer : List ℕ = s.args.answer.now in
+    let l = c.loop-a in
+    let answer : List ℕ = c.args.answer.now in
     let room : l.a + 1 ≤ length answer = omega arith in (
       omega arith,
-      ap (λ (b : ℕ). set l.answer l.a b) c.in-model.ensures
-          ∙ ap (λ (r : List ℕ). set r l.a (bit (chosen_bit s.args.work.now l.a))) l.invariant.1
-          ∙ give_more (chosen_bit s.args.work.now) answer l.a (omega arith),
+      ap (λ (b : ℕ). set l.answer l.a b) c.in_model.ensures
+          ∙ ap (λ (r : List ℕ). set r l.a (bit (chosen_bit c.args.work.now l.a))) l.invariant.1
+          ∙ give_more (chosen_bit c.args.work.now) answer l.a (omega arith),
       simp length-set l.invariant.2,
-    ))  -- loop-again
-    (λ c. c.before.loop.invariant.2)  -- same-length
+    ))  -- loop-a-preserved
+    (λ c. c.loop-a.invariant.2)  -- shape_of-answer
     (λ c.
-    let l = c.before.loop in
-    let s = c.before.before.before.before in
-    let e : l.a ≡ s.args.atoms = omega arith in
+    let l = c.loop-a in
+    let e : l.a ≡ c.args.atoms = omega arith in
     l.invariant.1 ∙ rw e))  -- returns

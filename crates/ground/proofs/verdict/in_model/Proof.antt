@@ -11,14 +11,14 @@ in_model_spec =
     tie.close
     (tie.spec
     (λ c κs. search rules)
-    (λ c. let e : is_set c.before.before.before.args.work.now c.before.before.before.args.a ≡ true = sym c.before.holds.ensures ∙ c.if1.true in rw e)  -- returns
+    (λ c. let e : is_set c.args.work.now c.args.a ≡ true = sym c.holds.ensures ∙ c.if-holds.true in rw e)  -- returns-then-holds
     (λ c. search rules)
     (λ c κs. search rules)
     (λ c.
-    let e = sym c.before.before.before.holds.ensures ∙ c.before.before.if1.false in
-    let f = sym c.before.holds2.ensures ∙ c.if2.true in
-    rw (e, f))  -- returns-2
+    let e = sym c.holds.ensures ∙ c.if-holds.false in
+    let f = sym c.holds-2.ensures ∙ c.if-holds-2.true in
+    rw (e, f))  -- returns-then-holds-2
     (λ c.
-    let e = sym c.before.before.before.holds.ensures ∙ c.before.before.if1.false in
-    let f = sym c.before.holds2.ensures ∙ c.if2.false in
-    rw (e, f)))  -- returns-3
+    let e = sym c.holds.ensures ∙ c.if-holds.false in
+    let f = sym c.holds-2.ensures ∙ c.if-holds-2.false in
+    rw (e, f)))  -- returns

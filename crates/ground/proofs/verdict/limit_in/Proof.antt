@@ -15,4 +15,4 @@ limit_in_spec =
     (λ c. search rules)
     (λ c. search rules)
     (λ c κs. search rules)
-    (λ c. c.number_of.ensures ∙ sym (limit_bytes c.before.before.before.before.before.before.args.table.now (omega arith))))  -- returns
+    (λ c. c.number_of.ensures ∙ sym (limit_bytes c.args.table.now (omega arith))))  -- returns

@@ -10,10 +10,10 @@ use Rattle.judging.proofs.CheckLoops.{below_more, below_stop, below_end}
 use Rattle.judging.proofs.how_far.are_constants.Statement.{statement}
 use Rattle.judging.proofs.how_far.are_constants.Tie as tie
 
-abbrev invariant-loop : tie.invariant-loop
+abbrev invariant-loop : tie.invariant-loop-i
 invariant-loop values v c i₀ i = (i ≤ v) × (every (λ d. ltb d c) (take v values) ≡ every (λ d. ltb d c) (drop i (take v values)))
 
-abbrev decreases-loop : tie.decreases-loop
+abbrev decreases-loop : tie.decreases-loop-i
 decreases-loop values v c i₀ i = v - i
 
 pub are_constants_spec : {M : Type 1} → statement M
@@ -22,21 +22,18 @@ are_constants_spec =
     (tie.spec
     invariant-loop
     decreases-loop
-    (λ c. (omega arith, refl))  -- loop-holds
-    (λ c. omega arith)  -- cast-x
-    (λ c. omega arith)  -- mul-if1
-    (λ c. omega arith)  -- shared-slice-read-if1
+    (λ c. (omega arith, refl))  -- loop-i-init
+    (λ c. omega arith)  -- overflow_cast-x
+    (λ c. omega arith)  -- offset_bounds-values-x
+    (λ c. omega arith)  -- bounds-values-x
     (λ c.
-    let l = c.before.before.before.loop in
-    let s = c.before.before.before.before in
-    sym (l.invariant.1 ∙ below_stop s.args.c s.args.values.now s.args.v (omega arith) l.i (omega arith) (omega arith)))  -- returns
-    (λ c. omega arith)  -- add-i
-    (λ c. omega arith)  -- loop-less
+    let l = c.loop-i in
+    sym (l.invariant.1 ∙ below_stop c.args.c c.args.values.now c.args.v (omega arith) l.i (omega arith) (omega arith)))  -- returns-then-c-values
+    (λ c. omega arith)  -- overflow_add-i
+    (λ c. omega arith)  -- loop-i-smaller
     (λ c.
-    let l = c.before.before.before.loop in
-    let s = c.before.before.before.before in
-    (omega arith, l.invariant.1 ∙ below_more s.args.c s.args.values.now s.args.v (omega arith) l.i (omega arith) (omega arith)))  -- loop-again
+    let l = c.loop-i in
+    (omega arith, l.invariant.1 ∙ below_more c.args.c c.args.values.now c.args.v (omega arith) l.i (omega arith) (omega arith)))  -- loop-i-preserved
     (λ c.
-    let l = c.before.loop in
-    let s = c.before.before in
-    sym (l.invariant.1 ∙ below_end s.args.c s.args.values.now s.args.v (omega arith) l.i (omega arith))))  -- returns-2
+    let l = c.loop-i in
+    sym (l.invariant.1 ∙ below_end c.args.c c.args.values.now c.args.v (omega arith) l.i (omega arith))))  -- returns

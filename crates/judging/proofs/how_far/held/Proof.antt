@@ -19,39 +19,34 @@ pub held_spec : {M : Type 1} → statement M
 held_spec =
     tie.close
     (tie.spec
-    (λ c. let s = c.before.before.before in omega (arith, table_size s.args.table.now s.requires.0))  -- shared-slice-read-if1
-    (λ c. let s = c.before.before.before in omega (arith, few_clauses s.args.table.now s.requires.0))  -- cast-if1
-    (λ c. let s = c.before.before.before.before in clause_lacking s.args.table.now s.requires.0 s.args.flags.now s.args.clause (four s) c.if1.true)  -- returns
-    (λ c. let s = c.before.before.before.before in omega (arith, c.if1.false, few_clauses s.args.table.now s.requires.0))  -- cast-k
-    (λ c. refl)  -- slice-aggregate-are-constants
-    (λ c. search rules)  -- cast-are-constants
-    (λ c. search rules)  -- mul-are-constants
-    (λ c. search rules)  -- add-are-constants
-    (λ c. search rules)  -- add-are-constants-2
+    (λ c. omega (arith, table_size c.args.table.now c.requires.0))  -- bounds-table-2
+    (λ c. omega (arith, few_clauses c.args.table.now c.requires.0))  -- overflow_cast-table
+    (λ c. clause_lacking c.args.table.now c.requires.0 c.args.flags.now c.args.clause (four c.before.before.before.before) c.if-table-clause.true)  -- returns-then-table-clause
+    (λ c. omega (arith, c.if-table-clause.false, few_clauses c.args.table.now c.requires.0))  -- overflow_cast-k
+    (λ c. refl)  -- slice_bounds-are_constants-end
+    (λ c. search rules)  -- overflow_cast-k-2
+    (λ c. search rules)  -- overflow_mul-k
+    (λ c. search rules)  -- overflow_add-k
+    (λ c. search rules)  -- overflow_add-k-2
     (λ c.
-    let s = c.before.before.before.before.before.before in
-    let k = clause_there s.args.table.now s.requires.0 s.args.flags.now s.args.clause (four s) c.before.before.if1.false in
-    omega (arith, k.size, k.few))  -- shared-slice-read-are-constants
-    (λ c. let s = c.before.before.before.before.before.before.before in omega (arith, table_size s.args.table.now s.requires.0))  -- shared-slice-read-are-constants-2
+    let k = clause_there c.args.table.now c.requires.0 c.args.flags.now c.args.clause (four c.before.before.before.before.before.before) c.if-table-clause.false in
+    omega (arith, k.size, k.few))  -- bounds-table-k
+    (λ c. omega (arith, table_size c.args.table.now c.requires.0))  -- bounds-table-0
     (λ c κs.
-    let s = c.before.before.before.before.before.before.before in
-    let k = clause_there s.args.table.now s.requires.0 s.args.flags.now s.args.clause (four s) c.before.before.before.if1.false in
-    (refl, omega (arith, k.variables, k.fits.few_vars)))  -- are-constants-requires
+    let k = clause_there c.args.table.now c.requires.0 c.args.flags.now c.args.clause (four c.before.before.before.before.before.before.before) c.if-table-clause.false in
+    (refl, omega (arith, k.variables, k.fits.few_vars)))  -- are_constants-requires
     (λ c.
-    let s = c.before.before.before.before.before.before.before.before.before in
-    let t = c.before.are-constants in
-    value_lacking s.args.table.now s.requires.0 s.args.flags.now s.args.clause (four s) c.before.before.before.before.before.if1.false (sym t.ensures ∙ not-true t.result c.if2.true))  -- returns-2
-    (λ c. search rules)  -- cast-t12
-    (λ c. search rules)  -- cast-t23
-    (λ c. search rules)  -- cast-t27
-    (λ c. search rules)  -- cast-t29
-    (λ c. refl)  -- slice-aggregate-holding
+    let t = c.are_constants in
+    value_lacking c.args.table.now c.requires.0 c.args.flags.now c.args.clause (four c.before.before.before.before.before.before.before.before.before) c.if-table-clause.false (sym t.ensures ∙ not-true t.result c.if-not-are_constants.true-raw))  -- returns-then-not-are_constants
+    (λ c. search rules)  -- overflow_cast-values
+    (λ c. search rules)  -- overflow_cast-values-2
+    (λ c. search rules)  -- overflow_cast-values-3
+    (λ c. search rules)  -- overflow_cast-values-4
+    (λ c. refl)  -- slice_bounds-holding-end
     (λ c κs.
-    let s = c.before.before.before.before.before.before.before.before.before.before in
-    let t = c.before.before.are-constants in
-    (s.requires.0, bytes-Placed s.args.table.now s.requires.0 s.args.flags.now s.args.clause (four s) c.before.before.before.before.before.before.if1.false refl s.requires.1 (sym t.ensures ∙ not-false t.result c.before.if2.false)))  -- holding-requires
+    let t = c.are_constants in
+    (c.requires.0, bytes-Placed c.args.table.now c.requires.0 c.args.flags.now c.args.clause (four c.before.before.before.before.before.before.before.before.before.before) c.if-table-clause.false refl c.requires.1 (sym t.ensures ∙ not-false t.result c.if-not-are_constants.false-raw)))  -- holding-requires
     (λ c.
-    let s = c.before.before.before.before.before.before.before.before.before.before.before in
-    let t = c.before.before.before.are-constants in
-    named_held s.args.table.now s.requires.0 s.args.flags.now s.args.clause (four s) c.before.before.before.before.before.before.before.if1.false refl s.requires.1 (sym t.ensures ∙ not-false t.result c.before.before.if2.false)
-    _ c.holding.ensures))  -- returns-3
+    let t = c.are_constants in
+    named_held c.args.table.now c.requires.0 c.args.flags.now c.args.clause (four c.before.before.before.before.before.before.before.before.before.before.before) c.if-table-clause.false refl c.requires.1 (sym t.ensures ∙ not-false t.result c.if-not-are_constants.false-raw)
+    _ c.holding.ensures))  -- returns

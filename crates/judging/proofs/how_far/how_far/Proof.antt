@@ -16,26 +16,26 @@ use Rattle.judging.proofs.how_far.how_far.Statement.{statement}
 use Rattle.judging.proofs.how_far.how_far.Tie as tie
 
 -- what is not refused
-good : (c : tie.Else1) → (let a = c.before.before.before.before.args in Taken a.table.now (ltb (length a.answer.now) 1024))
-good c = let a = c.before.before.before.before.args in judged_good a.table.now a.answer.now _ c.before.refused.ensures (omega arith)
+good : (c : tie.Else-e-gt0) → (let a = c.args in Taken a.table.now (ltb (length a.answer.now) 1024))
+good c = let a = c.args in judged_good a.table.now a.answer.now _ c.refused-e.ensures (omega arith)
 
 pub how_far_spec : {M : Type 1} → statement M
 unfolding holding_result
 how_far_spec =
     tie.close
     (tie.spec
-    (λ c κs. search rules)  -- refused-requires
+    (λ c κs. search rules)  -- refused-e-requires
     (λ c.
-    let a = c.before.before.before.before.args in
-    unjudged_says a.table.now a.answer.now _ c.before.refused.ensures (λ e. Unheld e)
-    (λ q. holding_named q a.answer.now a.clause (a.a ∷ a.b ∷ a.c ∷ a.d ∷ [])) (omega arith))  -- returns
-    (λ c. sym (length-take-le 4096 c.before.before.before.before.before.args.table.now (good c.before).long))  -- slice-aggregate-held
+    let a = c.args in
+    unjudged_says a.table.now a.answer.now _ c.refused-e.ensures (λ e. Unheld e)
+    (λ q. holding_named q a.answer.now a.clause (a.a ∷ a.b ∷ a.c ∷ a.d ∷ [])) (omega arith))  -- returns-then-e-gt0
+    (λ c. sym (length-take-le 4096 c.args.table.now (good c).long))  -- slice_bounds-held-end
     (λ c κs.
-    let a = c.before.before.before.before.before.args in
-    let t = good c.before in
+    let a = c.args in
+    let t = good c in
     (valid_table (take 4096 a.table.now) t.valid, ltb-false (length a.answer.now) 1024 t.room))  -- held-requires
     (λ c.
-    let a = c.before.before.before.before.before.before.args in
+    let a = c.args in
     c.held.ensures
-    ∙ judged_says a.table.now a.answer.now _ c.before.before.before.refused.ensures (omega arith) (λ e. Unheld e)
-    (λ q. holding_named q a.answer.now a.clause (a.a ∷ a.b ∷ a.c ∷ a.d ∷ []))))  -- returns-2
+    ∙ judged_says a.table.now a.answer.now _ c.refused-e.ensures (omega arith) (λ e. Unheld e)
+    (λ q. holding_named q a.answer.now a.clause (a.a ∷ a.b ∷ a.c ∷ a.d ∷ []))))  -- returns

@@ -9,10 +9,10 @@ use Rattle.judging.proofs.CheckLoops.{below_more, below_stop, below_end}
 use Rattle.judging.proofs.judge.are_bits.Statement.{statement}
 use Rattle.judging.proofs.judge.are_bits.Tie as tie
 
-abbrev invariant-loop : tie.invariant-loop
+abbrev invariant-loop : tie.invariant-loop-i
 invariant-loop answer n i₀ i = (i ≤ n) × (every (λ b. ltb b 2) (take n answer) ≡ every (λ b. ltb b 2) (drop i (take n answer)))
 
-abbrev decreases-loop : tie.decreases-loop
+abbrev decreases-loop : tie.decreases-loop-i
 decreases-loop answer n i₀ i = n - i
 
 pub are_bits_spec : {M : Type 1} → statement M
@@ -21,19 +21,16 @@ are_bits_spec =
     (tie.spec
     invariant-loop
     decreases-loop
-    (λ c. (omega arith, refl))  -- loop-holds
-    (λ c. omega arith)  -- shared-slice-read-if1
+    (λ c. (omega arith, refl))  -- loop-i-init
+    (λ c. omega arith)  -- bounds-answer-i
     (λ c.
-    let l = c.before.before.before.loop in
-    let s = c.before.before.before.before in
-    sym (l.invariant.1 ∙ below_stop 2 s.args.answer.now s.args.n s.requires l.i c.before.before.loop-test.true c.if1.true))  -- returns
-    (λ c. omega arith)  -- add-i
-    (λ c. omega arith)  -- loop-less
+    let l = c.loop-i in
+    sym (l.invariant.1 ∙ below_stop 2 c.args.answer.now c.args.n c.requires l.i c.loop-i-test.true c.if-answer-i-gt1.true))  -- returns-then-answer-i-gt1
+    (λ c. omega arith)  -- overflow_add-i
+    (λ c. omega arith)  -- loop-i-smaller
     (λ c.
-    let l = c.before.before.before.loop in
-    let s = c.before.before.before.before in
-    (omega arith, l.invariant.1 ∙ below_more 2 s.args.answer.now s.args.n s.requires l.i c.before.before.loop-test.true (omega arith)))  -- loop-again
+    let l = c.loop-i in
+    (omega arith, l.invariant.1 ∙ below_more 2 c.args.answer.now c.args.n c.requires l.i c.loop-i-test.true (omega arith)))  -- loop-i-preserved
     (λ c.
-    let l = c.before.loop in
-    let s = c.before.before in
-    sym (l.invariant.1 ∙ below_end 2 s.args.answer.now s.args.n s.requires l.i c.loop-test.false)))  -- returns-2
+    let l = c.loop-i in
+    sym (l.invariant.1 ∙ below_end 2 c.args.answer.now c.args.n c.requires l.i c.loop-i-test.false)))  -- returns

@@ -21,10 +21,10 @@ other : (o : Judging) → (tag_of the_type o ≡ 0) ⊎ (tag_of the_type o ≡ 1
 other o (inl t) j a b c d e = let z : ◌≡◌ {A = ℕ} 2 0 = sym (ap (tag_of the_type) e) ∙ t in omega arith
 other o (inr t) j a b c d e = let z : ◌≡◌ {A = ℕ} 2 1 = sym (ap (tag_of the_type) e) ∙ t in omega arith
 
-abbrev invariant-loop : tie.invariant-loop
+abbrev invariant-loop : tie.invariant-loop-k
 invariant-loop table flags count k₀ k = (k ≤ count) × Undecided (problem_in table) (violates (problem_in table) flags) k
 
-abbrev decreases-loop : tie.decreases-loop
+abbrev decreases-loop : tie.decreases-loop-k
 decreases-loop table flags count k₀ k = count - k
 
 pub check_clauses_spec : {M : Type 1} → statement M
@@ -34,38 +34,29 @@ check_clauses_spec =
     invariant-loop
     decreases-loop
     (λ c.
-    let s = c.before.before.before in
-    omega (arith, table_size s.args.table.now s.requires.0))  -- shared-slice-read-count
+    omega (arith, table_size c.args.table.now c.requires.0))  -- bounds-table-2
     (λ c.
-    let s = c.before.before.before in
-    (omega arith, clauses_start (problem_in s.args.table.now) (violates (problem_in s.args.table.now) s.args.flags.now)))  -- loop-holds
+    (omega arith, clauses_start (problem_in c.args.table.now) (violates (problem_in c.args.table.now) c.args.flags.now)))  -- loop-k-init
     (λ c κs.
-    let s = c.before.before.before.before.before in
-    (s.requires.0, (c.loop-test.true, s.requires.1)))  -- check-clause-requires
-    (λ c. search rules)  -- enum-known-judging
+    (c.requires.0, (c.loop-k-test.true, c.requires.1)))  -- check_clause-judging-requires
+    (λ c. search rules)  -- enum_known-judging
     (λ c.
-    let r = c.before.before.before in
-    let l = r.before.before.loop in
-    let s = r.before.before.before.before.before.before in
-    let tb = s.args.table.now in
+    let l = c.loop-k in
+    let tb = c.args.table.now in
     sym
-    (check_stop (problem_in tb) s.args.flags.now l.k (clause_listed tb s.requires.0 l.k r.before.loop-test.true) l.invariant.1 _ _ _ _ _
-    (sym r.check-clause.ensures ∙ c.before.judging.given.1)))  -- returns
+    (check_stop (problem_in tb) c.args.flags.now l.k (clause_listed tb c.requires.0 l.k c.loop-k-test.true) l.invariant.1 _ _ _ _ _
+    (sym c.check_clause-judging.ensures ∙ c.in-Violated.is)))  -- returns-in-Violated
     (λ c.
-    let s = c.before.before.before.before.before.before.before in
-    omega (arith, clauses_byte s.args.table.now s.requires.0, s.requires.0.fits.clauses_fit))  -- add-k
-    (λ c. omega arith)  -- loop-less
+    omega (arith, clauses_byte c.args.table.now c.requires.0, c.requires.0.fits.clauses_fit))  -- overflow_add-k
+    (λ c. omega arith)  -- loop-k-smaller
     (λ c.
-    let r = c.before in
-    let l = r.before.before.loop in
-    let s = r.before.before.before.before.before.before in
-    let tb = s.args.table.now in (
+    let l = c.loop-k in
+    let tb = c.args.table.now in (
       omega arith,
-      check_on (problem_in tb) s.args.flags.now l.k (clause_listed tb s.requires.0 l.k r.before.loop-test.true) l.invariant.1
-          (λ j v₀ v₁ v₂ v₃ e. other r.check-clause.result c.match.keys2 j v₀ v₁ v₂ v₃ (r.check-clause.ensures ∙ e)),
-    ))  -- loop-again
+      check_on (problem_in tb) c.args.flags.now l.k (clause_listed tb c.requires.0 l.k c.loop-k-test.true) l.invariant.1
+          (λ j v₀ v₁ v₂ v₃ e. other c.check_clause-judging.result c.in_default.in_default-own.keys2 j v₀ v₁ v₂ v₃ (c.check_clause-judging.ensures ∙ e)),
+    ))  -- loop-k-preserved
     (λ c.
-    let l = c.before.loop in
-    let s = c.before.before.before.before.before in
-    let tb = s.args.table.now in
-    sym (check_end (problem_in tb) s.args.flags.now l.k (omega (arith, clauses_byte tb s.requires.0)) l.invariant.1)))  -- returns-2
+    let l = c.loop-k in
+    let tb = c.args.table.now in
+    sym (check_end (problem_in tb) c.args.flags.now l.k (omega (arith, clauses_byte tb c.requires.0)) l.invariant.1)))  -- returns

@@ -15,22 +15,22 @@ use Rattle.judging.proofs.judge.judge.Statement.{statement}
 use Rattle.judging.proofs.judge.judge.Tie as tie
 
 -- what is not refused
-good : (c : tie.Else1) → (let a = c.before.before.before.before.args in Taken a.table.now (ltb (length a.answer.now) 1024))
-good c = let a = c.before.before.before.before.args in judged_good a.table.now a.answer.now _ c.before.refused.ensures (omega arith)
+good : (c : tie.Else-e-gt0) → (let a = c.args in Taken a.table.now (ltb (length a.answer.now) 1024))
+good c = let a = c.args in judged_good a.table.now a.answer.now _ c.refused-e.ensures (omega arith)
 
 pub judge_spec : {M : Type 1} → statement M
 unfolding judge_result
 judge_spec =
     tie.close
     (tie.spec
-    (λ c κs. search rules)  -- refused-requires
-    (λ c. let a = c.before.before.before.before.args in unjudged_says a.table.now a.answer.now _ c.before.refused.ensures (λ e. Unjudged e) (λ q. check_of q a.answer.now) (omega arith))  -- returns
-    (λ c. sym (length-take-le 4096 c.before.before.before.before.before.args.table.now (good c.before).long))  -- slice-aggregate-check-clauses
+    (λ c κs. search rules)  -- refused-e-requires
+    (λ c. let a = c.args in unjudged_says a.table.now a.answer.now _ c.refused-e.ensures (λ e. Unjudged e) (λ q. check_of q a.answer.now) (omega arith))  -- returns-then-e-gt0
+    (λ c. sym (length-take-le 4096 c.args.table.now (good c).long))  -- slice_bounds-check_clauses-end
     (λ c κs.
-    let a = c.before.before.before.before.before.args in
-    let t = good c.before in
-    (valid_table (take 4096 a.table.now) t.valid, ltb-false (length a.answer.now) 1024 t.room))  -- check-clauses-requires
+    let a = c.args in
+    let t = good c in
+    (valid_table (take 4096 a.table.now) t.valid, ltb-false (length a.answer.now) 1024 t.room))  -- check_clauses-requires
     (λ c.
-    let a = c.before.before.before.before.before.before.args in
-    c.check-clauses.ensures
-    ∙ judged_says a.table.now a.answer.now _ c.before.before.before.refused.ensures (omega arith) (λ e. Unjudged e) (λ q. check_of q a.answer.now)))  -- returns-2
+    let a = c.args in
+    c.check_clauses.ensures
+    ∙ judged_says a.table.now a.answer.now _ c.refused-e.ensures (omega arith) (λ e. Unjudged e) (λ q. check_of q a.answer.now)))  -- returns

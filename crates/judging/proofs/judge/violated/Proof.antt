@@ -13,20 +13,17 @@ violated_spec =
     tie.close
     (tie.spec
     (λ c κs. search rules)  -- holding-requires
-    (λ c. search rules)  -- mul-if1
-    (λ c. search rules)  -- add-if1
+    (λ c. search rules)  -- overflow_mul-k
+    (λ c. search rules)  -- overflow_add-k
     (λ c.
-    let s = c.before.before.before.before.before in
-    let k = clause_known s.args.table.now s.requires.0 s.args.k s.requires.1.known in
-    omega (arith, k.size, k.few))  -- shared-slice-read-if1
+    let k = clause_known c.args.table.now c.requires.0 c.args.k c.requires.1.known in
+    omega (arith, k.size, k.few))  -- bounds-table-k
     (λ c.
-    let s = c.before.before.before.before.before.before in
-    let tb = s.args.table.now in
-    let k = clause_known tb s.requires.0 s.args.k s.requires.1.known in
-    sym (violated_short (problem_in tb) s.args.flags.now s.args.k s.args.values.now _ _ c.before.before.holding.ensures k.conditions c.if1.true))  -- returns
-    (λ c κs. search rules)  -- none-holds-requires
+    let tb = c.args.table.now in
+    let k = clause_known tb c.requires.0 c.args.k c.requires.1.known in
+    sym (violated_short (problem_in tb) c.args.flags.now c.args.k c.args.values.now _ _ c.holding.ensures k.conditions c.if-holding-table.true))  -- returns-then-holding-table
+    (λ c κs. search rules)  -- none_holds-requires
     (λ c.
-    let s = c.before.before.before.before.before.before.before in
-    let tb = s.args.table.now in
-    let k = clause_known tb s.requires.0 s.args.k s.requires.1.known in
-    violated_rest (problem_in tb) s.args.flags.now s.args.k s.args.values.now _ _ c.before.before.before.holding.ensures k.conditions c.before.if1.false _ c.none-holds.ensures))  -- returns-2
+    let tb = c.args.table.now in
+    let k = clause_known tb c.requires.0 c.args.k c.requires.1.known in
+    violated_rest (problem_in tb) c.args.flags.now c.args.k c.args.values.now _ _ c.holding.ensures k.conditions c.if-holding-table.false _ c.none_holds.ensures))  -- returns

@@ -9,10 +9,10 @@ pub lutsamik_assume_magic_spec : {M : Type 1} → statement M
 lutsamik_assume_magic_spec =
     tie.close
     (tie.spec
-    (λ c κs. search rules)  -- assume-magic-requires
-    (λ c κs. search rules)  -- pack-assumed-requires
-    (λ c. search rules)  -- same-length
-    (λ c. search rules)  -- same-length-2
+    (λ c κs. search rules)  -- assume_magic-requires
+    (λ c κs. search rules)  -- pack_assumed-requires
+    (λ c. search rules)  -- shape_of-rules
+    (λ c. search rules)  -- shape_of-work
     (λ c.
-    let said = c.before.before.before.before.before.assume-magic in
-    (c.pack-assumed.ensures ∙ ap pack_assumed said.ensures.0, said.ensures.1, said.ensures.2, said.ensures.3, said.ensures.4)))  -- returns
+    let said = c.assume_magic in
+    (c.pack_assumed.ensures ∙ ap pack_assumed said.ensures.0, said.ensures.1, said.ensures.2, said.ensures.3, said.ensures.4)))  -- returns

@@ -9,9 +9,9 @@ pub lutsamik_assume_relevancy_spec : {M : Type 1} → statement M
 lutsamik_assume_relevancy_spec =
     tie.close
     (tie.spec
-    (λ c κs. search rules)  -- assume-relevancy-requires
-    (λ c κs. search rules)  -- pack-assumed-requires
-    (λ c. search rules)  -- same-length
+    (λ c κs. search rules)  -- assume_relevancy-requires
+    (λ c κs. search rules)  -- pack_assumed-requires
+    (λ c. search rules)  -- shape_of-work
     (λ c.
-    let said = c.before.before.before.assume-relevancy in
-    (c.pack-assumed.ensures ∙ ap pack_assumed said.ensures.0, said.ensures.1, said.ensures.2, said.ensures.3)))  -- returns
+    let said = c.assume_relevancy in
+    (c.pack_assumed.ensures ∙ ap pack_assumed said.ensures.0, said.ensures.1, said.ensures.2, said.ensures.3)))  -- returns

@@ -14,18 +14,18 @@ pub pack_assumed_spec : {M : Type 1} → statement M
 pack_assumed_spec =
     tie.close
     (tie.spec
-    (λ c. search rules)  -- enum-known-a
+    (λ c. search rules)  -- enum_known-a
     (λ c κs. search rules)  -- packed-requires
-    (λ c. search rules)  -- enum_told
-    (λ c κs. search rules)  -- packed-requires-2
-    (λ c. search rules)  -- enum-told-2
-    (λ c κs. search rules)  -- packed-requires-3
-    (λ c. search rules)  -- enum-told-3
-    (λ c κs. search rules)  -- packed-requires-4
-    (λ c. search rules)  -- enum-told-4
-    (λ c κs. search rules)  -- packed-requires-5
-    (λ c. c.packed.ensures ∙ by c.before.before.a.given.1)  -- returns
-    (λ c. c.packed2.ensures ∙ by c.before.enum_told.given.1)  -- returns-2
-    (λ c. c.packed3.ensures ∙ by c.before.enum-told2.given.1)  -- returns-3
-    (λ c. c.packed4.ensures ∙ by c.before.enum-told3.given.1)  -- returns-4
-    (λ c. c.packed5.ensures ∙ by c.before.enum-told4.given.1))  -- returns-5
+    (λ c. search rules)  -- enum_told-1
+    (λ c κs. search rules)  -- packed-requires-in-Always
+    (λ c. search rules)  -- enum_told-in-Never
+    (λ c κs. search rules)  -- packed-requires-in-Never
+    (λ c. search rules)  -- enum_told-in-Exhausted
+    (λ c κs. search rules)  -- packed-requires-in-Exhausted
+    (λ c. search rules)  -- enum_told-in-Sometimes
+    (λ c κs. search rules)  -- packed-requires-in-Sometimes
+    (λ c. c.packed.ensures ∙ by c.in-Refused.is)  -- returns-in-Refused
+    (λ c. c.packed-in-Always.ensures ∙ by c.in-Always.is)  -- returns-in-Always
+    (λ c. c.packed-in-Never.ensures ∙ by c.in-Never.is)  -- returns-in-Never
+    (λ c. c.packed-in-Exhausted.ensures ∙ by c.in-Exhausted.is)  -- returns-in-Exhausted
+    (λ c. c.packed-in-Sometimes.ensures ∙ by c.in-Sometimes.is))  -- returns-in-Sometimes

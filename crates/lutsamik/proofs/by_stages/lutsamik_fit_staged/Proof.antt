@@ -10,7 +10,7 @@ lutsamik_fit_staged_spec =
     tie.close
     (tie.spec
     (λ c κs. search rules)  -- fit-requires
-    (λ c κs. search rules)  -- pack-staged-requires
-    (λ c. search rules)  -- same-length
-    (λ c. search rules)  -- same-length-2
-    (λ c. let fit = c.before.before.before.before.before.fit in (c.pack-staged.ensures ∙ ap pack_staged fit.ensures.0, fit.ensures.1, fit.ensures.2)))  -- returns
+    (λ c κs. search rules)  -- pack_staged-requires
+    (λ c. search rules)  -- shape_of-answer
+    (λ c. search rules)  -- shape_of-work
+    (λ c. let fit = c.fit in (c.pack_staged.ensures ∙ ap pack_staged fit.ensures.0, fit.ensures.1, fit.ensures.2)))  -- returns

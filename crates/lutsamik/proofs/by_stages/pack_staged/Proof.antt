@@ -9,5 +9,5 @@ pub pack_staged_spec : {M : Type 1} → statement M
 pack_staged_spec =
     tie.close
     (tie.spec
-    (λ c κs. search rules)  -- pack-verdict-requires
-    (λ c. c.pack-verdict.ensures ∙ sym (figure_none c.before.args.v)))  -- returns
+    (λ c κs. search rules)  -- pack_verdict-requires
+    (λ c. c.pack_verdict.ensures ∙ sym (figure_none c.args.v)))  -- returns

@@ -10,10 +10,10 @@ begin_relevancy_spec =
     tie.close
     (tie.spec
     (λ c κs. search rules)  -- begin-requires
-    (λ c κs. search rules)  -- pack-moved-requires
-    (λ c. search rules)  -- same-length
-    (λ c. search rules)  -- same-length-2
+    (λ c κs. search rules)  -- pack_moved-requires
+    (λ c. search rules)  -- shape_of-answer
+    (λ c. search rules)  -- shape_of-work
     (λ c.
-    let begin = c.before.before.before.before.before.begin in
-    let packed = c.pack-moved.ensures in
+    let begin = c.begin in
+    let packed = c.pack_moved.ensures in
     (packed.0 ∙ relevancy_packed _ _ _ _ begin.ensures.0 begin.ensures.1, packed.1 ∙ begin.ensures.1, begin.ensures.2, begin.ensures.3)))  -- returns

@@ -9,9 +9,9 @@ pub lutsamik_parts_magic_spec : {M : Type 1} → statement M
 lutsamik_parts_magic_spec =
     tie.close
     (tie.spec
-    (λ c κs. search rules)  -- parts-magic-requires
-    (λ c κs. search rules)  -- pack-parting-requires
-    (λ c. search rules)  -- same-length
-    (λ c. search rules)  -- same-length-2
-    (λ c. search rules)  -- same-length-3
-    (λ c. let u = c.before.before.before.before.before.before.before.parts-magic in (c.pack-parting.ensures ∙ ap pack_parting u.ensures.0, u.ensures.1, u.ensures.2, u.ensures.3, u.ensures.4)))  -- returns
+    (λ c κs. search rules)  -- parts_magic-requires
+    (λ c κs. search rules)  -- pack_parting-requires
+    (λ c. search rules)  -- shape_of-rules
+    (λ c. search rules)  -- shape_of-answer
+    (λ c. search rules)  -- shape_of-work
+    (λ c. let u = c.parts_magic in (c.pack_parting.ensures ∙ ap pack_parting u.ensures.0, u.ensures.1, u.ensures.2, u.ensures.3, u.ensures.4)))  -- returns

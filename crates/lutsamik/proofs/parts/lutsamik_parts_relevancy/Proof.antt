@@ -9,8 +9,8 @@ pub lutsamik_parts_relevancy_spec : {M : Type 1} → statement M
 lutsamik_parts_relevancy_spec =
     tie.close
     (tie.spec
-    (λ c κs. search rules)  -- parts-relevancy-requires
-    (λ c κs. search rules)  -- pack-parting-requires
-    (λ c. search rules)  -- same-length
-    (λ c. search rules)  -- same-length-2
-    (λ c. let u = c.before.before.before.before.before.parts-relevancy in (c.pack-parting.ensures ∙ ap pack_parting u.ensures.0, u.ensures.1, u.ensures.2, u.ensures.3)))  -- returns
+    (λ c κs. search rules)  -- parts_relevancy-requires
+    (λ c κs. search rules)  -- pack_parting-requires
+    (λ c. search rules)  -- shape_of-answer
+    (λ c. search rules)  -- shape_of-work
+    (λ c. let u = c.parts_relevancy in (c.pack_parting.ensures ∙ ap pack_parting u.ensures.0, u.ensures.1, u.ensures.2, u.ensures.3)))  -- returns

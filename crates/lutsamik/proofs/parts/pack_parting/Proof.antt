@@ -9,15 +9,15 @@ pub pack_parting_spec : {M : Type 1} → statement M
 pack_parting_spec =
     tie.close
     (tie.spec
-    (λ c. search rules)  -- enum-known-p
+    (λ c. search rules)  -- enum_known-p
     (λ c κs. search rules)  -- packed-requires
-    (λ c. search rules)  -- enum_told
-    (λ c κs. search rules)  -- packed-requires-2
-    (λ c. search rules)  -- enum-told-2
-    (λ c κs. search rules)  -- packed-requires-3
-    (λ c. search rules)  -- enum-told-3
-    (λ c κs. search rules)  -- packed-requires-4
-    (λ c. c.packed.ensures ∙ sym (ap pack_parting c.before.before.p.given.1))  -- returns
-    (λ c. c.packed2.ensures ∙ sym (ap pack_parting c.before.enum_told.given.1))  -- returns-2
-    (λ c. c.packed3.ensures ∙ sym (ap pack_parting c.before.enum-told2.given.1))  -- returns-3
-    (λ c. c.packed4.ensures ∙ sym (ap pack_parting c.before.enum-told3.given.1)))  -- returns-4
+    (λ c. search rules)  -- enum_told-1
+    (λ c κs. search rules)  -- packed-requires-in-Satisfied
+    (λ c. search rules)  -- enum_told-in-Refuted
+    (λ c κs. search rules)  -- packed-requires-in-Refuted
+    (λ c. search rules)  -- enum_told-in-Exhausted
+    (λ c κs. search rules)  -- packed-requires-in-Exhausted
+    (λ c. c.packed.ensures ∙ sym (ap pack_parting c.in-Refused.is))  -- returns-in-Refused
+    (λ c. c.packed-in-Satisfied.ensures ∙ sym (ap pack_parting c.in-Satisfied.is))  -- returns-in-Satisfied
+    (λ c. c.packed-in-Refuted.ensures ∙ sym (ap pack_parting c.in-Refuted.is))  -- returns-in-Refuted
+    (λ c. c.packed-in-Exhausted.ensures ∙ sym (ap pack_parting c.in-Exhausted.is)))  -- returns-in-Exhausted

@@ -12,37 +12,35 @@ use Rattle.magic_walk.proofs.TiedLaws.{magic_tied}
 use Rattle.magic.proofs.end.reply.Statement.{statement}
 use Rattle.magic.proofs.end.reply.Tie as tie
 
-abbrev begun : tie.After-pair → tie.Start
+abbrev begun : tie.After-pair-atoms → tie.Start
 begun p = p.before.before.before.before.before.before.before
 
 -- the number of atoms is read from the rules
-atoms_are : (p : tie.After-pair) → p.pair.result ≡ false_in (begun p).args.rules.now
-atoms_are p = let s = begun p in p.pair.ensures ∙ ruled_false s.args.rules.now s.pre.0
+atoms_are : (p : tie.After-pair-atoms) → p.pair-atoms.result ≡ false_in (begun p).args.rules.now
+atoms_are p = let s = begun p in p.pair-atoms.ensures ∙ ruled_false s.args.rules.now s.requires.0
 
-atoms_few : (p : tie.After-pair) → p.pair.result ≤ 1024
-atoms_few p = let s = begun p in omega (arith, atoms_are p, (ruled_headed s.args.rules.now s.pre.0).atoms)
+atoms_few : (p : tie.After-pair-atoms) → p.pair-atoms.result ≤ 1024
+atoms_few p = let s = begun p in omega (arith, atoms_are p, (ruled_headed s.args.rules.now s.requires.0).atoms)
 
 pub reply_spec : {M : Type 1} → statement M
 reply_spec =
     tie.close
     (tie.spec
-    (λ c. omega (arith, c.before.before.before.before.before.requires.0.size))  -- shared-slice-read-pair
-    (λ c. omega (arith, c.before.before.before.before.before.before.requires.0.size))  -- shared-slice-read-pair-2
-    (λ c κs. search rules)  -- pair-requires
+    (λ c. omega (arith, c.requires.0.size))  -- bounds-rules-8
+    (λ c. omega (arith, c.requires.0.size))  -- bounds-rules-9
+    (λ c κs. search rules)  -- pair-atoms-requires
     (λ c κs.
-    let p = c.before in
-    let few = atoms_few p in
-    let sizes = (begun p).requires.1.0 in
-    (few, omega (arith, few, sizes.0), omega (arith, sizes.1)))  -- give-model-requires
-    (λ c κs. search rules)  -- deepest-requires
-    (λ c. let k = c.before.before.before.before.before.before.before.before.before.shared-slice-known3 in omega (arith, c.deepest.ensures, k.given 9225, k.given 9226))  -- cast-longest
-    (λ c κs. search rules)  -- verdict-by-requires
-    (λ c. search rules)  -- same-length
+    let few = atoms_few c.before in
+    let sizes = (begun c.before).requires.1.0 in
+    (few, omega (arith, few, sizes.0), omega (arith, sizes.1)))  -- give_model-requires
+    (λ c κs. search rules)  -- deepest-longest-requires
+    (λ c. let k = c.shared_slice_known-3-1 in omega (arith, c.deepest-longest.ensures, k.given 9225, k.given 9226))  -- overflow_cast-longest
+    (λ c κs. search rules)  -- verdict_by-requires
+    (λ c. search rules)  -- shape_of-answer
     (λ c.
-    let p = c.before.before.before.before.before.before in
-    let s = begun p in
+    let s = begun c.before.before.before.before.before.before in
     let a = s.args in
     let bs : List ℕ = a.rules.now in
-    let give = c.before.before.before.before.give-model in
-    first_replied (magic_walker bs) (magic_tied bs s.pre.0) a.limit a.limit refl a.walked a.facts.now a.path.now a.answer.now s.pre.1.1 (record { verdict = c.verdict-by.result; deepest = c.before.deepest.result })
-    c.verdict-by.ensures c.before.deepest.ensures give.new.1.1.0 p.pair.result (atoms_are p) give.ensures))  -- returns
+    let give = c.give_model in
+    first_replied (magic_walker bs) (magic_tied bs s.requires.0) a.limit a.limit refl a.walked a.facts.now a.path.now a.answer.now s.requires.1.1 (record { verdict = c.verdict_by.result; deepest = c.deepest-longest.result })
+    c.verdict_by.ensures c.deepest-longest.ensures give.new.answer c.pair-atoms.result (atoms_are c.before.before.before.before.before.before) give.ensures))  -- returns

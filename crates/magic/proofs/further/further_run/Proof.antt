@@ -21,8 +21,8 @@ kept : (s : tie.Start) → is_kept_over s.args.atoms s.args.session ≡ true
 kept s = is_kept_lem s.args.atoms s.args.session s.requires.1.1.0.0 s.requires.1.1.0.1 s.requires.1.1.1.0 s.requires.1.1.1.1
 
 -- the longest path entered is the record's
-brings : (b : tie.After-root) → deepest_at b.root.new.1.1.1.0 ≡ b.before.before.before.before.before.before.before.before.before.before.before.before.before.before.before.before.args.session.deepest
-brings b = b.root.ensures.2 ∙ b.before.before.before.before.before.bring.ensures.0
+brings : (b : tie.After-root-found) → deepest_at b.root-found.new.path ≡ b.args.session.deepest
+brings b = b.root-found.ensures.2 ∙ b.bring.ensures.0
 
 -- no work buffer is lent to it: this one is as good as any
 abbrev zeros : List ℕ
@@ -43,80 +43,68 @@ further_run_spec =
     tie.close
     (tie.spec
     (λ c κs. search rules)  -- build-requires
-    (λ c. search rules)  -- cast-steps
-    (λ c. search rules)  -- add-limit
-    (λ c. search rules)  -- slice-aggregate-bring
-    (λ c. search rules)  -- cast-bring
-    (λ c κs. let s = c.before.before.before.before.before.before.before.before.before.before in let figure = s.requires.1.1.1 in (length-replicate {A = ℕ} 9227 0, omega (arith, figure.1, figure.2)))  -- bring-requires
-    (λ c. search rules)  -- slice-aggregate-root
-    (λ c. search rules)  -- slice-aggregate-root-2
+    (λ c. search rules)  -- overflow_cast-steps
+    (λ c. search rules)  -- overflow_add-limit
+    (λ c. search rules)  -- slice_bounds-bring-end
+    (λ c. search rules)  -- overflow_cast-session
+    (λ c κs. let figure = c.requires.1.1.1 in (length-replicate {A = ℕ} 9227 0, omega (arith, figure.1, figure.2)))  -- bring-requires
+    (λ c. search rules)  -- slice_bounds-root-end
+    (λ c. search rules)  -- slice_bounds-root-end-2
     (λ c κs.
-    let s = c.before.before.before.before.before.before.before.before.before.before.before.before.before.before.before in
-    let size : length c.before.before.before.before.bring.new.0 ≡ 9227 = c.before.before.before.before.bring.auto.0 ∙ length-replicate {A = ℕ} 9227 0 in
-    (s.requires.0, (c.before.before.before.before.before.before.before.before.before.before.before.build.ensures, (no_facts, record { size = size; deep = omega arith }))))  -- root-requires
-    (λ c. search rules)  -- slice-aggregate-root-alternatives
+    let size : length c.bring.new.path ≡ 9227 = c.bring.auto.path ∙ length-replicate {A = ℕ} 9227 0 in
+    (c.requires.0, (c.build.ensures, (no_facts, record { size = size; deep = omega arith }))))  -- root-found-requires
+    (λ c. search rules)  -- slice_bounds-root_alternatives-end
     (λ c κs.
-    let s = c.before.before.before.before.before.before.before.before.before.before.before.before.before.before.before.before.before.before.before in
-    let b = c.before.before.before.root in
-    (s.requires.0, (b.new.1.1.0, b.ensures.0)))  -- root-alternatives-requires
-    (λ c. search rules)  -- slice-aggregate-go-on
-    (λ c. search rules)  -- slice-aggregate-go-on-2
-    (λ c. sym (long_atoms c.before.before.before.before.before.before.before.before.before.before.before.before.before.before.before.before.before.before.before.before.before.before.before.before))  -- slice-aggregate-go-on-3
-    (λ c. sym (long_nexts c.before.before.before.before.before.before.before.before.before.before.before.before.before.before.before.before.before.before.before.before.before.before.before.before.before))  -- slice-aggregate-go-on-4
+    let b = c.root-found in
+    (c.requires.0, (b.new.facts, b.ensures.0)))  -- root_alternatives-used-requires
+    (λ c. search rules)  -- slice_bounds-go_on-end
+    (λ c. search rules)  -- slice_bounds-go_on-end-2
+    (λ c. sym (long_atoms c.before.before.before.before.before.before.before.before.before.before.before.before.before.before.before.before.before.before.before.before.before.before.before.before))  -- slice_bounds-go_on-end-3
+    (λ c. sym (long_nexts c.before.before.before.before.before.before.before.before.before.before.before.before.before.before.before.before.before.before.before.before.before.before.before.before.before))  -- slice_bounds-go_on-end-4
     (λ c κs.
-    let s = c.before.before.before.before.before.before.before.before.before.before.before.before.before.before.before.before.before.before.before.before.before.before.before.before.before in
-    let few = s.requires.1.1.0.1 in
-    let b = c.before.before.before.before.before.before.before.before.before in (
-      s.requires.0,
+    let few = c.requires.1.1.0.1 in (
+      c.requires.0,
       (
-        c.before.before.before.before.before.before.before.before.before.before.before.before.before.before.before.before.before.before.before.before.before.build.ensures,
-        (b.root.ensures.0, ((omega (arith, few, long_atoms s), omega (arith, few, long_nexts s)), (omega (arith, s.requires.1.1.1.0, brings b), omega arith))),
+        c.build.ensures,
+        (c.root-found.ensures.0, ((omega (arith, few, long_atoms c.before.before.before.before.before.before.before.before.before.before.before.before.before.before.before.before.before.before.before.before.before.before.before.before.before), omega (arith, few, long_nexts c.before.before.before.before.before.before.before.before.before.before.before.before.before.before.before.before.before.before.before.before.before.before.before.before.before)), (omega (arith, c.requires.1.1.1.0, brings c.before.before.before.before.before.before.before.before.before), omega arith))),
       ),
-    ))  -- go-on-requires
-    (λ c. search rules)  -- enum-known-went
-    (λ c. search rules)  -- enum-told
+    ))  -- go_on-went-requires
+    (λ c. search rules)  -- enum_known-went
+    (λ c. search rules)  -- enum_told-1
     (λ c κs. search rules)  -- refused-requires
     (λ c.
-    let s = c.before.before.before.before.before.before.before.before.before.before.before.before.before.before.before.before.before.before.before.before.before.before.before.before.before.before.before.before.before.before.before in
-    let a = s.args in
-    let b = c.before.before.before.before.before.before.before.before.before.before.before.before.before.before.before in
-    let q = c.before.before.before.before.before.go_on in
+    let a = c.args in
+    let q = c.go_on-went in
     Says-declined (called_in (find_in a.rules.now) a.atoms a.session a.further) a.session a.answer.now 42
-    (further_nowhere (magic_walker a.rules.now) a.atoms a.session a.further (kept s) s.requires.1.1.0.2 (deepest_at b.root.new.1.1.1.0) (brings b) (a.session.count + a.further)
-    q.result q.new.1.1.0 q.new.1.1.1.0 q.ensures c.before.before.match.keys2)
-    c.refused.result c.refused.ensures)  -- returns
-    (λ c. search rules)  -- slice-aggregate-conclude
-    (λ c. search rules)  -- slice-aggregate-conclude-2
+    (further_nowhere (magic_walker a.rules.now) a.atoms a.session a.further (kept c.before.before.before.before.before.before.before.before.before.before.before.before.before.before.before.before.before.before.before.before.before.before.before.before.before.before.before.before.before.before) c.requires.1.1.0.2 (deepest_at c.root-found.new.path) (brings c.before.before.before.before.before.before.before.before.before.before.before.before.before.before) (a.session.count + a.further)
+    q.result q.new.facts q.new.path q.ensures c.in_default.in_default-own.keys2)
+    c.refused.result c.refused.ensures)  -- returns-in_default
+    (λ c. search rules)  -- slice_bounds-conclude-end
+    (λ c. search rules)  -- slice_bounds-conclude-end-2
     (λ c κs.
-    let s = c.before.before.before.before.before.before.before.before.before.before.before.before.before.before.before.before.before.before.before.before.before.before.before.before.before.before.before.before.before.before.before.before.before.before in
-    let a = s.args in
-    let q = c.before.before.before.before.before.before.before.before.go_on in
-    let g = c.before.before.before.before.went.given in
-    let u = c.before.before.before.before.before.before.before.before.before.before.before.before.before.before.root-alternatives in
-    let b = c.before.before.before.before.before.before.before.before.before.before.before.before.before.before.before.before.before.before in (
-      s.requires.0,
+    let a = c.args in
+    let q = c.go_on-went in
+    let u = c.root_alternatives-used in (
+      c.requires.0,
       (
-        q.auto.1.1.1.0 ∙ b.root.auto.1.1.1.0 ∙ c.before.before.before.before.before.before.before.before.before.before.before.before.before.before.before.before.before.before.before.before.before.before.before.bring.auto.0 ∙ length-replicate {A = ℕ} 9227 0,
+        q.auto.path ∙ c.root-found.auto.path ∙ c.bring.auto.path ∙ length-replicate {A = ℕ} 9227 0,
         (
-          (s.requires.1.0, q.auto.1.1.0 ∙ b.root.auto.1.1.0 ∙ length-replicate {A = ℕ} 6150 0),
+          (c.requires.1.0, q.auto.facts ∙ c.root-found.auto.facts ∙ length-replicate {A = ℕ} 6150 0),
           (
-            further_walks (magic_walker a.rules.now) a.atoms a.session a.further (kept s) s.requires.1.1.0.2 (deepest_at b.root.new.1.1.1.0) (brings b) (a.session.count + a.further)
-                q.result q.new.1.1.0 q.new.1.1.1.0 q.ensures g.0.0 g.1,
+            further_walks (magic_walker a.rules.now) a.atoms a.session a.further (kept c.before.before.before.before.before.before.before.before.before.before.before.before.before.before.before.before.before.before.before.before.before.before.before.before.before.before.before.before.before.before.before.before) c.requires.1.1.0.2 (deepest_at c.root-found.new.path) (brings c.before.before.before.before.before.before.before.before.before.before.before.before.before.before.before.before) (a.session.count + a.further)
+                q.result q.new.facts q.new.path q.ensures c.in-On.walked c.in-On.is,
             u.ensures,
           ),
         ),
       ),
     ))  -- conclude-requires
-    (λ c. search rules)  -- same-length
+    (λ c. search rules)  -- shape_of-answer
     (λ c.
-    let s = c.before.before.before.before.before.before.before.before.before.before.before.before.before.before.before.before.before.before.before.before.before.before.before.before.before.before.before.before.before.before.before.before.before.before.before.before.before in
-    let a = s.args in
-    let b = c.before.before.before.before.before.before.before.before.before.before.before.before.before.before.before.before.before.before.before.before.before in
-    let q = c.before.before.before.before.before.before.before.before.before.before.before.go_on in
-    let g = c.before.before.before.before.before.before.before.went.given in
-    let d = c.before.before.conclude in
+    let a = c.args in
+    let q = c.go_on-went in
+    let d = c.conclude in
     let said =
-    further-Concluded (magic_walker a.rules.now) a.atoms a.session a.further (kept s) s.requires.1.1.0.2 (deepest_at b.root.new.1.1.1.0) (brings b) (a.session.count + a.further)
-    q.result q.new.1.1.0 q.new.1.1.1.0 q.ensures g.0.0 g.1 refl
-    a.answer.now zeros (length-replicate {A = ℕ} 65536 0) d.result d.new.1.1.1.0 zeros d.ensures zeros_long in
-    (said.0, said.1, said.2)))  -- returns-2
+    further-Concluded (magic_walker a.rules.now) a.atoms a.session a.further (kept c.before.before.before.before.before.before.before.before.before.before.before.before.before.before.before.before.before.before.before.before.before.before.before.before.before.before.before.before.before.before.before.before.before.before.before) c.requires.1.1.0.2 (deepest_at c.root-found.new.path) (brings c.before.before.before.before.before.before.before.before.before.before.before.before.before.before.before.before.before.before.before) (a.session.count + a.further)
+    q.result q.new.facts q.new.path q.ensures c.in-On.walked c.in-On.is refl
+    a.answer.now zeros (length-replicate {A = ℕ} 65536 0) d.result d.new.answer zeros d.ensures zeros_long in
+    (said.0, said.1, said.2)))  -- returns

@@ -14,16 +14,15 @@ walk_whole_spec =
     tie.close
     (tie.spec
     (λ c κs. search rules)  -- build-requires
-    (λ c κs. let s = c.before.before.before.before.before.before in (s.requires.1.1, omega arith))  -- bring-requires
-    (λ c κs. let s = c.before.before.before.before.before.before.before.before.before.before.before.before in (s.requires.0, (c.before.before.before.before.before.before.before.build.ensures, (s.requires.1.0, record { size = c.before.before.before.before.before.bring.auto.0 ∙ s.requires.1.1; deep = omega arith }))))  -- root-requires
-    (λ c κs. let s = c.before.before.before.before.before.before.before.before.before.before.before.before.before.before.before.before.before.before in let b = c.before.before.before.before.before.root in (s.requires.0, (b.new.1.1.0, b.ensures.0)))  -- root-alternatives-requires
-    (λ c κs. let s = c.before.before.before.before.before.before.before.before.before.before.before.before.before.before.before.before.before.before.before.before.before.before in let b = c.before.before.before.before.before.before.before.before.before.root in (s.requires.0, (c.before.before.before.before.before.before.before.before.before.before.before.before.before.before.before.before.before.build.ensures, (b.ensures.0, b.ensures.1))))  -- from-root-requires
-    (λ c. search rules)  -- same-length
-    (λ c. search rules)  -- same-length-2
+    (λ c κs. (c.requires.1.1, omega arith))  -- bring-requires
+    (λ c κs. (c.requires.0, (c.build.ensures, (c.requires.1.0, record { size = c.bring.auto.path ∙ c.requires.1.1; deep = omega arith }))))  -- root-found-requires
+    (λ c κs. let b = c.root-found in (c.requires.0, (b.new.facts, b.ensures.0)))  -- root_alternatives-used-requires
+    (λ c κs. let b = c.root-found in (c.requires.0, (c.build.ensures, (b.ensures.0, b.ensures.1))))  -- from_root-walked-requires
+    (λ c. search rules)  -- shape_of-facts
+    (λ c. search rules)  -- shape_of-path
     (λ c.
-    let s = c.before.before.before.before.before.before.before.before.before.before.before.before.before.before.before.before.before.before.before.before.before.before.before.before.before.before.before in
-    let w = magic_walker s.args.rules.now in
-    let f = c.before.before.before.before.from-root in (
-      c.before.before.before.before.before.before.before.before.root-alternatives.ensures,
-      subst (λ (d : ℕ). Walks w (from_root w d s.args.limit) f.result f.new.1.1.0 f.new.1.1.1.0) (c.before.before.before.before.before.before.before.before.before.before.before.before.before.before.root.ensures.2 ∙ c.before.before.before.before.before.before.before.before.before.before.before.before.before.before.before.before.before.before.before.before.bring.ensures.0) f.ensures,
+    let w = magic_walker c.args.rules.now in
+    let f = c.from_root-walked in (
+      c.root_alternatives-used.ensures,
+      subst (λ (d : ℕ). Walks w (from_root w d c.args.limit) f.result f.new.facts f.new.path) (c.root-found.ensures.2 ∙ c.bring.ensures.0) f.ensures,
     )))  -- returns

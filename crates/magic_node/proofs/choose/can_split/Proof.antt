@@ -9,15 +9,13 @@ pub can_split_spec : {M : Type 1} → statement M
 can_split_spec =
     tie.close
     (tie.spec
-    (λ c κs. let s = c.before.before.before in (s.requires.0, (s.requires.1.0, s.requires.1.1.1)))  -- needs-held-requires
+    (λ c κs. (c.requires.0, (c.requires.1.0, c.requires.1.1.1)))  -- needs_held-requires
     (λ c.
-    let s = c.before.before.before.before.before in
-    let h = c.before.needs-held in
+    let h = c.needs_held in
     sym
-    (ready_unmet s.requires.0 s.requires.1.0 s.requires.1.1.0 s.args.r.now h.result h.ensures (not-true h.result c.if1.true)))  -- returns
-    (λ c κs. c.before.before.before.before.before.requires)  -- none-true-requires
+    (ready_unmet c.requires.0 c.requires.1.0 c.requires.1.1.0 c.args.r.now h.result h.ensures (not-true h.result c.if-not-needs_held.true-raw)))  -- returns-then-not-needs_held
+    (λ c κs. c.requires)  -- none_true-requires
     (λ c.
-    let s = c.before.before.before.before.before.before in
-    let h = c.before.before.needs-held in
+    let h = c.needs_held in
     let n = c.none_true in
-    ready_rest s.requires.0 s.requires.1.0 s.requires.1.1.0 s.args.r.now h.result h.ensures (not-false h.result c.before.if1.false) n.result n.ensures))  -- returns-2
+    ready_rest c.requires.0 c.requires.1.0 c.requires.1.1.0 c.args.r.now h.result h.ensures (not-false h.result c.if-not-needs_held.false-raw) n.result n.ensures))  -- returns

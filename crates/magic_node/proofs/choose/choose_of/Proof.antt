@@ -17,10 +17,10 @@ use Rattle.magic_rule.proofs.ChooseLaws.{site_with, RuleTurn, choose_never, choo
 use Rattle.magic_node.proofs.choose.choose_of.Statement.{statement}
 use Rattle.magic_node.proofs.choose.choose_of.Tie as tie
 
-abbrev invariant-loop : tie.invariant-loop
+abbrev invariant-loop : tie.invariant-loop-i
 invariant-loop rules q rank r count c v values₀ i₀ values i = RuleTurn rules r q values i
 
-abbrev decreases-loop : tie.decreases-loop
+abbrev decreases-loop : tie.decreases-loop-i
 decreases-loop rules q rank r count c v values₀ i₀ values i = count - i
 
 -- what stands in the rule's record
@@ -28,27 +28,25 @@ read : (s : tie.Start invariant-loop decreases-loop) → RuleRead s.args.rules.n
 read s = rule_read s.args.rules.now s.requires.0 s.args.q s.requires.1.0.0
 
 -- the loop counts up to its number of instances
-counted : (c : tie.After-pair-of invariant-loop decreases-loop) → (
-    let a = c.before.before.before.before.before.args in
-    c.pair_of.result ≡ get_or a.rules.now 0 0 ^ (the_rule a.rules.now a.q).vars)
+counted : (c : tie.After-pair_of-count invariant-loop decreases-loop) → (
+    let a = c.args in
+    c.pair_of-count.result ≡ get_or a.rules.now 0 0 ^ (the_rule a.rules.now a.q).vars)
 counted c =
-    let s = c.before.before.before.before.before in
-    c.pair_of.ensures ∙ pair_at s.args.rules.now s.args.q 6 ∙ (read s).instances
+    c.pair_of-count.ensures ∙ pair_at c.args.rules.now c.args.q 6 ∙ (read c.before.before.before.before.before).instances
 
-below : (c : tie.In-loop invariant-loop decreases-loop) → (
-    let a = c.before.before.before.before.before.before.before.before.before.before.before.args in
-    c.before.loop.i < get_or a.rules.now 0 0 ^ (the_rule a.rules.now a.q).vars)
-below c = subst (λ (n : ℕ). c.before.loop.i < n) (counted c.before.before.before.before.before.before) c.loop-test.true
+below : (c : tie.In-loop-i invariant-loop decreases-loop) → (
+    let a = c.args in
+    c.loop-i.i < get_or a.rules.now 0 0 ^ (the_rule a.rules.now a.q).vars)
+below c = subst (λ (n : ℕ). c.loop-i.i < n) (counted c.before.before.before.before.before.before) c.loop-i-test.true
 
 -- the values in reach are an instance's
-fits : (c : tie.In-loop invariant-loop decreases-loop) → (
-    let a = c.before.before.before.before.before.before.before.before.before.before.before.args in
-    All (λ d. d < get_or a.rules.now 0 0) (own_values a.rules.now a.q c.before.loop.values))
+fits : (c : tie.In-loop-i invariant-loop decreases-loop) → (
+    let a = c.args in
+    All (λ d. d < get_or a.rules.now 0 0) (own_values a.rules.now a.q c.loop-i.values))
 fits c =
-    let s = c.before.before.before.before.before.before.before.before.before.before.before in
-    let bs = s.args.rules.now in
-    let l = c.before.loop in
-    turning_below (get_or bs 0 0) (the_rule bs s.args.q).vars (site_with s.args.q) (ready_site bs s.args.r.now) (read s).vars_few l.values l.i l.invariant (below c)
+    let bs = c.args.rules.now in
+    let l = c.loop-i in
+    turning_below (get_or bs 0 0) (the_rule bs c.args.q).vars (site_with c.args.q) (ready_site bs c.args.r.now) (read c.before.before.before.before.before.before.before.before.before.before.before).vars_few l.values l.i l.invariant (below c)
 
 pub choose_of_spec : {M : Type 1} → statement M
 choose_of_spec =
@@ -56,56 +54,49 @@ choose_of_spec =
     (tie.spec
     invariant-loop
     decreases-loop
-    (λ c κs. let s = c.before.before in (s.requires.0, s.requires.1.0.0))  -- splits-requires
+    (λ c κs. (c.requires.0, c.requires.1.0.0))  -- splits-requires
     (λ c.
-    let a = c.before.before.before.before.args in
-    let x = c.before.splits in
-    sym (choose_never a.rules.now a.r.now a.q (x.ensures.none_split (not-true x.result c.if1.true))))  -- returns
-    (λ c κs. let s = c.before.before.before.before in (s.requires.0, (s.requires.1.0.0, omega arith)))  -- pair-of-requires
+    let a = c.args in
+    let x = c.splits in
+    sym (choose_never a.rules.now a.r.now a.q (x.ensures.none_split (not-true x.result c.if-not-splits.true-raw))))  -- returns-then-not-splits
+    (λ c κs. (c.requires.0, (c.requires.1.0.0, omega arith)))  -- pair_of-count-requires
     (λ c.
-    let s = c.before.before.before.before.before.before in
-    sym (choose_past s.args.rules.now s.requires.0 s.args.r.now s.args.q s.args.rank s.requires.1.0.0 s.requires.1.1 (omega (arith, counted c.before, c.if2.true))))  -- returns-2
-    (λ c. omega (arith, (read c.before.before.before.before.before.before.before).size))  -- shared-slice-read-c
-    (λ c κs. let s = c.before.before.before.before.before.before.before in (s.requires.0, (s.requires.1.0.0, omega arith)))  -- byte-of-requires
-    (λ c κs. let s = c.before.before.before.before.before.before.before.before in (s.requires.0, (s.requires.1.0.0, omega (arith, c.before.before.if2.false, c.before.before.before.pair_of.ensures ∙ pair_at s.args.rules.now s.args.q 6))))  -- values-at-requires
+    sym (choose_past c.args.rules.now c.requires.0 c.args.r.now c.args.q c.args.rank c.requires.1.0.0 c.requires.1.1 (omega (arith, counted c.before, c.if-count-rank.true))))  -- returns-then-count-rank
+    (λ c. omega (arith, (read c.before.before.before.before.before.before.before).size))  -- bounds-rules-0
+    (λ c κs. (c.requires.0, (c.requires.1.0.0, omega arith)))  -- byte_of-v-requires
+    (λ c κs. (c.requires.0, (c.requires.1.0.0, omega (arith, c.if-count-rank.false, c.pair_of-count.ensures ∙ pair_at c.args.rules.now c.args.q 6))))  -- values_at-values-requires
     (λ c.
-    let s = c.before.before.before.before.before.before.before.before.before in
-    choose_from s.args.rules.now s.requires.0 s.args.r.now s.args.q s.args.rank s.requires.1.0.0 s.requires.1.1 (omega (arith, c.before.before.before.if2.false, counted c.before.before.before.before)) c.values-at.result c.values-at.ensures)  -- loop-holds
-    (λ c. sym c.before.before.loop.invariant.four)  -- slice-aggregate-can-split
+    choose_from c.args.rules.now c.requires.0 c.args.r.now c.args.q c.args.rank c.requires.1.0.0 c.requires.1.1 (omega (arith, c.if-count-rank.false, counted c.before.before.before.before)) c.values_at-values.result c.values_at-values.ensures)  -- loop-i-init
+    (λ c. sym c.loop-i.invariant.four)  -- slice_bounds-can_split-end
     (λ c κs.
-    let s = c.before.before.before.before.before.before.before.before.before.before.before.before in
-    let x = c.before.before.before.before.before.before.before.before.before.splits in (
-      s.requires.0,
-      (record { known = s.requires.1.0.0; four = c.before.before.loop.invariant.four; below = fits c.before }, (x.ensures.some_split (not-false x.result c.before.before.before.before.before.before.before.before.if1.false), s.requires.1.0.1)),
-    ))  -- can-split-requires
-    (λ c. search rules)  -- array-read-t21
-    (λ c. search rules)  -- array-read-t24
-    (λ c. search rules)  -- array-read-t27
-    (λ c. search rules)  -- array-read-t30
+    let x = c.splits in (
+      c.requires.0,
+      (record { known = c.requires.1.0.0; four = c.loop-i.invariant.four; below = fits c.before }, (x.ensures.some_split (not-false x.result c.if-not-splits.false-raw), c.requires.1.0.1)),
+    ))  -- can_split-requires
+    (λ c. search rules)  -- bounds-values-0
+    (λ c. search rules)  -- bounds-values-1
+    (λ c. search rules)  -- bounds-values-2
+    (λ c. search rules)  -- bounds-values-3
     (λ c.
-    let s = c.before.before.before.before.before.before.before.before.before.before.before.before.before.before in
-    let l = c.before.before.before.before.loop in
-    let h = c.before.can-split in
-    sym (choose_here s.args.rules.now s.args.r.now s.args.q (read s).vars_few l.values l.i l.invariant (below c.before.before.before) h.result h.ensures c.if3.true))  -- returns-3
-    (λ c. sym c.before.before.before.before.before.loop.invariant.four)  -- slice-aggregate-step
+    let l = c.loop-i in
+    let h = c.can_split in
+    sym (choose_here c.args.rules.now c.args.r.now c.args.q (read c.before.before.before.before.before.before.before.before.before.before.before.before.before.before).vars_few l.values l.i l.invariant (below c.before.before.before) h.result h.ensures c.if-can_split.true))  -- returns-then-can_split
+    (λ c. sym c.loop-i.invariant.four)  -- slice_bounds-step-end
     (λ c κs.
-    let s = c.before.before.before.before.before.before.before.before.before.before.before.before.before.before.before in
-    let v = c.before.before.before.before.before.before.before.byte_of in
-    let l = c.before.before.before.before.before.loop in
-    let all = subst (λ (w : ℕ). All (λ d. d < get_or s.args.rules.now 0 0) (take w l.values)) (sym v.ensures) (fits c.before.before.before.before) in
-    (l.invariant.four, omega (arith, v.ensures, (read s).vars_few), (read s).constants, all))  -- step-requires
-    (λ c. omega (arith, c.before.before.before.before.before.before.loop-test.true, c.before.before.before.before.before.before.before.before.before.before.before.before.pair_of.type-inv))  -- add-i
-    (λ c. omega (arith, c.before.before.before.before.before.before.loop-test.true))  -- loop-less
+    let v = c.byte_of-v in
+    let l = c.loop-i in
+    let all = subst (λ (w : ℕ). All (λ d. d < get_or c.args.rules.now 0 0) (take w l.values)) (sym v.ensures) (fits c.before.before.before.before) in
+    (l.invariant.four, omega (arith, v.ensures, (read c.before.before.before.before.before.before.before.before.before.before.before.before.before.before.before).vars_few), (read c.before.before.before.before.before.before.before.before.before.before.before.before.before.before.before).constants, all))  -- step-requires
+    (λ c. omega (arith, c.loop-i-test.true, c.pair_of-count.type_inv))  -- overflow_add-i
+    (λ c. omega (arith, c.loop-i-test.true))  -- loop-i-smaller
     (λ c.
-    let s = c.before.before.before.before.before.before.before.before.before.before.before.before.before.before.before.before.before in
-    let bs = s.args.rules.now in
-    let q = s.args.q in
-    let l = c.before.before.before.before.before.before.before.loop in
-    let h = c.before.before.before.before.can-split in
-    let next = c.before.step in
-    turning_on (get_or bs 0 0) (the_rule bs q).vars (site_with q) (ready_site bs s.args.r.now) (read s).vars_few l.values l.i l.invariant next.new.0 (below c.before.before.before.before.before.before)
-    (sym h.ensures ∙ c.before.before.before.if3.false) (subst (λ (w : ℕ). Stepped w (get_or bs 0 0) l.values next.new.0) c.before.before.before.before.before.before.before.before.before.byte_of.ensures next.ensures) next.auto.0)  -- loop-again
+    let bs = c.args.rules.now in
+    let q = c.args.q in
+    let l = c.loop-i in
+    let h = c.can_split in
+    let next = c.step in
+    turning_on (get_or bs 0 0) (the_rule bs q).vars (site_with q) (ready_site bs c.args.r.now) (read c.before.before.before.before.before.before.before.before.before.before.before.before.before.before.before.before.before).vars_few l.values l.i l.invariant next.new.values (below c.before.before.before.before.before.before)
+    (sym h.ensures ∙ c.if-can_split.false) (subst (λ (w : ℕ). Stepped w (get_or bs 0 0) l.values next.new.values) c.byte_of-v.ensures next.ensures) next.auto.values)  -- loop-i-preserved
     (λ c.
-    let s = c.before.before.before.before.before.before.before.before.before.before.before in
-    let l = c.before.loop in
-    sym (choose_none s.args.rules.now s.args.r.now s.args.q (read s).vars_few l.values l.i l.invariant (omega (arith, counted c.before.before.before.before.before.before)))))  -- returns-4
+    let l = c.loop-i in
+    sym (choose_none c.args.rules.now c.args.r.now c.args.q (read c.before.before.before.before.before.before.before.before.before.before.before).vars_few l.values l.i l.invariant (omega (arith, counted c.before.before.before.before.before.before)))))  -- returns

@@ -9,18 +9,16 @@ pub splits_spec : {M : Type 1} → statement M
 splits_spec =
     tie.close
     (tie.spec
-    (λ c κs. let s = c.before in (s.requires.0, (s.requires.1, omega arith)))  -- byte-of-requires
+    (λ c κs. (c.requires.0, (c.requires.1, omega arith)))  -- byte_of-requires
     (λ c.
-    let bs = c.before.before.before.args.rules.now in
-    let q = c.before.before.before.args.q in
-    splits_not bs q (λ w. onward_whole bs q w (omega (arith, c.before.byte_of.ensures, c.if1.true))))  -- returns
-    (λ c κs. let s = c.before.before.before in (s.requires.0, (s.requires.1, omega arith)))  -- byte-of-requires-2
+    let bs = c.args.rules.now in
+    let q = c.args.q in
+    splits_not bs q (λ w. onward_whole bs q w (omega (arith, c.byte_of.ensures, c.if-byte_of-gt0.true))))  -- returns-then-byte_of-gt0
+    (λ c κs. (c.requires.0, (c.requires.1, omega arith)))  -- byte_of-requires-2
     (λ c.
-    let s = c.before.before.before.before.before in
-    let bs = s.args.rules.now in
-    let q = s.args.q in
-    splits_not bs q (λ w. few_whole bs q w (rule_read bs s.requires.0 q s.requires.1) (omega (arith, c.before.byte-of2.ensures, c.if2.true))))  -- returns-2
+    let bs = c.args.rules.now in
+    let q = c.args.q in
+    splits_not bs q (λ w. few_whole bs q w (rule_read bs c.requires.0 q c.requires.1) (omega (arith, c.byte_of-2.ensures, c.if-byte_of-lt2.true))))  -- returns-then-byte_of-lt2
     (λ c.
-    let s = c.before.before.before.before.before in
-    splits_so s.args.rules.now s.args.q
-    (record { alternatives = omega (arith, c.before.before.before.byte_of.ensures, c.before.before.if1.false); several = omega (arith, c.before.byte-of2.ensures, c.if2.false) })))  -- returns-3
+    splits_so c.args.rules.now c.args.q
+    (record { alternatives = omega (arith, c.byte_of.ensures, c.if-byte_of-gt0.false); several = omega (arith, c.byte_of-2.ensures, c.if-byte_of-lt2.false) })))  -- returns

@@ -64,41 +64,33 @@ claims t = (
 )
 
 -- what is told of the alternatives listed is told of the node's
-taken_here : (t : ℕ) (c : resume-lts.After-is-taken (claims t) (resume_at t) resume.Post)
-    → (let s = c.before.before.before.before.before.before.before.before.before.before.before.before.before.before in
-    c.is-taken.result ≡ is_taken (alts_at (magic_walker s.args.rules.now) s.args.path.now s.args.depth) (get_or s.args.nexts.now s.args.depth 0) (get_or s.args.atoms.now s.args.depth 0))
+taken_here : (t : ℕ) (c : resume-lts.After-is_taken (claims t) (resume_at t) resume.Post)
+    → (c.is_taken.result ≡ is_taken (alts_at (magic_walker c.args.rules.now) c.args.path.now c.args.depth) (get_or c.args.nexts.now c.args.depth 0) (get_or c.args.atoms.now c.args.depth 0))
 taken_here t c =
-    let s = c.before.before.before.before.before.before.before.before.before.before.before.before.before.before in
-    c.is-taken.ensures ∙ ap (λ (ds : List ℕ). is_taken ds (get_or s.args.nexts.now s.args.depth 0) (get_or s.args.atoms.now s.args.depth 0)) c.before.alternatives-at.ensures.1
+    c.is_taken.ensures ∙ ap (λ (ds : List ℕ). is_taken ds (get_or c.args.nexts.now c.args.depth 0) (get_or c.args.atoms.now c.args.depth 0)) c.alternatives_at-all.ensures.1
 
 -- the step entered again is one of the session's path, which is no longer than the figure that it brings
-deeper : (t : ℕ) (z : resume-lts.After-enter (claims t) (resume_at t) resume.Post) → (let s = z.before.before.before.before.before.before.before.before.before.before.before.before.before.before.before.before.before.before.before.before.before.before.before.before.before.before.before in s.args.depth < deepest_at s.args.path.now)
-deeper t z = let s = z.before.before.before.before.before.before.before.before.before.before.before.before.before.before.before.before.before.before.before.before.before.before.before.before.before.before.before in omega (arith, s.requires.1.1.1.1.1.0.0, s.requires.1.1.1.1.1.1.0, z.before.before.before.before.before.before.before.before.before.before.before.before.before.before.before.before.before.before.before.before.before.if1.false)
+deeper : (t : ℕ) (z : resume-lts.After-enter-made (claims t) (resume_at t) resume.Post) → (z.args.depth < deepest_at z.args.path.now)
+deeper t z = omega (arith, z.requires.1.1.1.1.1.0.0, z.requires.1.1.1.1.1.1.0, z.if-depth-steps.false)
 
-same_figure : (t : ℕ) (z : resume-lts.After-enter (claims t) (resume_at t) resume.Post)
-    → (let s = z.before.before.before.before.before.before.before.before.before.before.before.before.before.before.before.before.before.before.before.before.before.before.before.before.before.before.before in deepest_at z.enter.new.1.1.1.0 ≡ deepest_at s.args.path.now)
+same_figure : (t : ℕ) (z : resume-lts.After-enter-made (claims t) (resume_at t) resume.Post)
+    → (deepest_at z.enter-made.new.path ≡ deepest_at z.args.path.now)
 same_figure t z =
-    let s = z.before.before.before.before.before.before.before.before.before.before.before.before.before.before.before.before.before.before.before.before.before.before.before.before.before.before.before in
-    let w = magic_walker s.args.rules.now in
-    let g = z.before.before.before.before.before.before.before.before.before.before.before.before.before.before.before.before.before.before.before.found.given in
-    let at = reached_as w s.args.facts.now s.args.path.now s.args.depth s.args.done s.args.found (Split g.0.0) g.1 s.requires.1.1.1.0 in
-    let u = z.before.before.before.before.before.before.before.before.before.rewind in
-    let j : ℕ = get_or s.args.nexts.now s.args.depth 0 in
-    let turn : Turned s.args.path.now s.args.depth (j - 1) u.new.1.0 = subst (Turned s.args.path.now s.args.depth (j - 1)) (sym u.ensures.1) (turned s.args.path.now s.args.depth at.room (j - 1)) in
-    again_deepest w s.args.facts.now s.args.path.now s.args.depth s.args.done g.0.0 at u.new.0 u.ensures.0 j u.new.1.0 turn (u.auto.1.0 ∙ at.room.size) z.enter.result z.enter.new.1.1.0 z.enter.new.1.1.1.0 (z.enter.ensures.0 0) (deeper t z)
+    let w = magic_walker z.args.rules.now in
+    let at = reached_as w z.args.facts.now z.args.path.now z.args.depth z.args.done z.args.found (Split z.in-Split.n) z.in-Split.is z.requires.1.1.1.0 in
+    let u = z.rewind in
+    let j : ℕ = get_or z.args.nexts.now z.args.depth 0 in
+    let turn : Turned z.args.path.now z.args.depth (j - 1) u.new.path = subst (Turned z.args.path.now z.args.depth (j - 1)) (sym u.ensures.1) (turned z.args.path.now z.args.depth at.room (j - 1)) in
+    again_deepest w z.args.facts.now z.args.path.now z.args.depth z.args.done z.in-Split.n at u.new.facts u.ensures.0 j u.new.path turn (u.auto.path ∙ at.room.size) z.enter-made.result z.enter-made.new.facts z.enter-made.new.path (z.enter-made.ensures.0 0) (deeper t z)
 
 -- what going on below says, of the session with the figure that is brought here
-told_below : (t : ℕ) (y : resume-lts.After-resume (claims t) (resume_at t) resume.Post)
-    → (let z = y.before.before.before.before.before.before.before in
-    let s = z.before.before.before.before.before.before.before.before.before.before.before.before.before.before.before.before.before.before.before.before.before.before.before.before.before.before.before in
-    let w = magic_walker s.args.rules.now in
-    Resumes w (place_of w.find (session_of s.args.on.standing s.args.on.count s.args.atoms.now s.args.nexts.now s.args.steps s.args.on.next (deepest_at s.args.path.now))) z.enter.new.1.1.0 z.enter.new.1.1.1.0 (s.args.depth + 1) z.before.before.before.mark.result s.args.on.count s.args.on.limit y.resume.result y.resume.new.1.1.0 y.resume.new.1.1.1.0)
+told_below : (t : ℕ) (y : resume-lts.After-resume-below (claims t) (resume_at t) resume.Post)
+    → (let w = magic_walker y.args.rules.now in
+    Resumes w (place_of w.find (session_of y.args.on.standing y.args.on.count y.args.atoms.now y.args.nexts.now y.args.steps y.args.on.next (deepest_at y.args.path.now))) y.enter-made.new.facts y.enter-made.new.path (y.args.depth + 1) y.mark-own.result y.args.on.count y.args.on.limit y.resume-below.result y.resume-below.new.facts y.resume-below.new.path)
 told_below t y =
-    let z = y.before.before.before.before.before.before.before in
-    let s = z.before.before.before.before.before.before.before.before.before.before.before.before.before.before.before.before.before.before.before.before.before.before.before.before.before.before.before in
-    let w = magic_walker s.args.rules.now in
-    subst (λ (d : ℕ). Resumes w (place_of w.find (session_of s.args.on.standing s.args.on.count s.args.atoms.now s.args.nexts.now s.args.steps s.args.on.next d)) z.enter.new.1.1.0 z.enter.new.1.1.1.0 (s.args.depth + 1) z.before.before.before.mark.result s.args.on.count s.args.on.limit y.resume.result y.resume.new.1.1.0 y.resume.new.1.1.1.0)
-    (same_figure t z) y.resume.ensures
+    let w = magic_walker y.args.rules.now in
+    subst (λ (d : ℕ). Resumes w (place_of w.find (session_of y.args.on.standing y.args.on.count y.args.atoms.now y.args.nexts.now y.args.steps y.args.on.next d)) y.enter-made.new.facts y.enter-made.new.path (y.args.depth + 1) y.mark-own.result y.args.on.count y.args.on.limit y.resume-below.result y.resume-below.new.facts y.resume-below.new.path)
+    (same_figure t y.before.before.before.before.before.before.before) y.resume-below.ensures
 
 pub +resume_spec : {M : Type 1} → statement M
 +resume_spec =
@@ -106,207 +98,171 @@ pub +resume_spec : {M : Type 1} → statement M
     (λ bound.
     resume-lts.spec (claims bound) (resume_at bound) resume.Post
     (λ c κs.
-    let s = c.before.before.before.before.before.before.before.before in
-    let w = magic_walker s.args.rules.now in
-    (s.requires.1.0, (s.requires.1.1.0, (s.requires.1.1.1.0, s.requires.1.1.1.1.1.1.1))))  -- stand-requires
-    (λ c. search rules)  -- same-length
-    (λ c. search rules)  -- same-length-2
+    let w = magic_walker c.args.rules.now in
+    (c.requires.1.0, (c.requires.1.1.0, (c.requires.1.1.1.0, c.requires.1.1.1.1.1.1.1))))  -- stand-requires
+    (λ c. search rules)  -- shape_of-facts-then-depth-steps
+    (λ c. search rules)  -- shape_of-path-then-depth-steps
     (λ c.
-    let s = c.before.before.before.before.before.before.before.before.before.before.before.before.before in
-    let w = magic_walker s.args.rules.now in
-    let y = c.before.before.before.before.stand in
-    resumes_last Instance w s.args.facts.now s.args.path.now s.args.depth s.args.done s.args.on.count s.args.on.limit s.args.atoms.now s.args.nexts.now s.args.on.standing s.args.steps s.args.on.next (deepest_at s.args.path.now) s.requires.1.1.1.1.0 c.before.before.before.before.before.before.before.if1.true y.result y.new.1.1.0 y.new.1.1.1.0 y.ensures)  -- returns
-    (λ c. search rules)  -- enum-known-found
+    let w = magic_walker c.args.rules.now in
+    let y = c.stand in
+    resumes_last Instance w c.args.facts.now c.args.path.now c.args.depth c.args.done c.args.on.count c.args.on.limit c.args.atoms.now c.args.nexts.now c.args.on.standing c.args.steps c.args.on.next (deepest_at c.args.path.now) c.requires.1.1.1.1.0 c.if-depth-steps.true y.result y.new.facts y.new.path y.ensures)  -- returns-then-depth-steps
+    (λ c. search rules)  -- enum_known-found
     (λ c.
-    let s = c.before.before.before.before.before.before.before in
-    let w = magic_walker s.args.rules.now in
-    leaf_nowhere w s.args.facts.now s.args.path.now s.args.depth s.args.done s.args.found s.requires.1.1.1.0 c.match.keys2 s.args.atoms.now s.args.nexts.now s.args.on.standing s.args.on.count s.args.steps s.args.on.next (deepest_at s.args.path.now) s.requires.1.1.1.1.0 (omega (arith, s.requires.1.1.1.1.1.0.0, c.before.if1.false)))  -- returns-2
+    let w = magic_walker c.args.rules.now in
+    leaf_nowhere w c.args.facts.now c.args.path.now c.args.depth c.args.done c.args.found c.requires.1.1.1.0 c.in_default.in_default-own.keys2 c.args.atoms.now c.args.nexts.now c.args.on.standing c.args.on.count c.args.steps c.args.on.next (deepest_at c.args.path.now) c.requires.1.1.1.1.0 (omega (arith, c.requires.1.1.1.1.1.0.0, c.if-depth-steps.false)))  -- returns-in_default
     (λ c.
-    let s = c.before.before.before.before.before.before.before.before.before in
-    let w = magic_walker s.args.rules.now in
-    omega (arith, s.requires.1.1.1.0.room.deep))  -- mul-a
+    let w = magic_walker c.args.rules.now in
+    omega (arith, c.requires.1.1.1.0.room.deep))  -- offset_bounds-atoms-depth
     (λ c.
-    let s = c.before.before.before.before.before.before.before.before.before.before in
-    let w = magic_walker s.args.rules.now in
-    omega (arith, s.requires.1.1.1.1.1.0.0, s.requires.1.1.1.1.1.0.1, c.before.before.before.before.if1.false))  -- shared-slice-read-a
+    let w = magic_walker c.args.rules.now in
+    omega (arith, c.requires.1.1.1.1.1.0.0, c.requires.1.1.1.1.1.0.1, c.if-depth-steps.false))  -- bounds-atoms-depth
     (λ c.
-    let s = c.before.before.before.before.before.before.before.before.before.before in
-    let w = magic_walker s.args.rules.now in
-    omega (arith, c.shared-slice-known4.given s.args.depth))  -- cast-a
+    let w = magic_walker c.args.rules.now in
+    omega (arith, c.shared_slice_known-4-1.given c.args.depth))  -- overflow_cast-a
     (λ c.
-    let s = c.before.before.before.before.before.before.before.before.before.before.before in
-    let w = magic_walker s.args.rules.now in
-    omega (arith, s.requires.1.1.1.1.1.0.0, s.requires.1.1.1.1.1.0.2, c.before.before.before.before.before.if1.false))  -- shared-slice-read-j
+    let w = magic_walker c.args.rules.now in
+    omega (arith, c.requires.1.1.1.1.1.0.0, c.requires.1.1.1.1.1.0.2, c.if-depth-steps.false))  -- bounds-nexts-depth
     (λ c κs.
-    let s = c.before.before.before.before.before.before.before.before.before.before.before.before in
-    let w = magic_walker s.args.rules.now in
-    let g = c.before.before.before.before.found.given in
-    let at = reached_as w s.args.facts.now s.args.path.now s.args.depth s.args.done s.args.found (Split g.0.0) g.1 s.requires.1.1.1.0 in
-    (s.requires.1.0, (at.room, at.ready.3.listed)))  -- alternatives-at-requires
-    (λ c κs. c.alternatives-at.ensures.0)  -- is-taken-requires
-    (λ c. search rules)  -- same-length-3
+    let w = magic_walker c.args.rules.now in
+    let at = reached_as w c.args.facts.now c.args.path.now c.args.depth c.args.done c.args.found (Split c.in-Split.n) c.in-Split.is c.requires.1.1.1.0 in
+    (c.requires.1.0, (at.room, at.ready.3.listed)))  -- alternatives_at-all-requires
+    (λ c κs. c.alternatives_at-all.ensures.0)  -- is_taken-requires
+    (λ c. search rules)  -- shape_of-path-then-not-is_taken
     (λ c.
-    let s = c.before.before.before.before.before.before.before.before.before.before.before.before.before.before.before in
-    let w = magic_walker s.args.rules.now in
-    let g = c.before.before.before.before.before.before.before.found.given in
-    let at = reached_as w s.args.facts.now s.args.path.now s.args.depth s.args.done s.args.found (Split g.0.0) g.1 s.requires.1.1.1.0 in
-    let b = c.before.is-taken in
-    nowhere_entry w.find s.args.atoms.now s.args.nexts.now s.args.on.standing s.args.on.count s.args.steps s.args.on.next (deepest_at s.args.path.now) s.args.depth (path_in w s.args.path.now s.args.depth) s.requires.1.1.1.1.0 (omega (arith, s.requires.1.1.1.1.1.0.0, c.before.before.before.before.before.before.before.before.before.if1.false)) (w.instance (site_at w s.args.path.now s.args.depth)) (alts_at w s.args.path.now s.args.depth) (split_found w s.args.facts.now s.args.path.now s.args.depth s.args.done g.0.0 at)
-    (sym (taken_here bound c.before) ∙ not-true b.result c.if2.true))  -- returns-3
+    let w = magic_walker c.args.rules.now in
+    let at = reached_as w c.args.facts.now c.args.path.now c.args.depth c.args.done c.args.found (Split c.in-Split.n) c.in-Split.is c.requires.1.1.1.0 in
+    let b = c.is_taken in
+    nowhere_entry w.find c.args.atoms.now c.args.nexts.now c.args.on.standing c.args.on.count c.args.steps c.args.on.next (deepest_at c.args.path.now) c.args.depth (path_in w c.args.path.now c.args.depth) c.requires.1.1.1.1.0 (omega (arith, c.requires.1.1.1.1.1.0.0, c.if-depth-steps.false)) (w.instance (site_at w c.args.path.now c.args.depth)) (alts_at w c.args.path.now c.args.depth) (split_found w c.args.facts.now c.args.path.now c.args.depth c.args.done c.in-Split.n at)
+    (sym (taken_here bound c.before) ∙ not-true b.result c.if-not-is_taken.true-raw))  -- returns-then-not-is_taken
     (λ c.
-    let s = c.before.before.before.before.before.before.before.before.before.before.before.before.before.before.before.before.before in
-    let w = magic_walker s.args.rules.now in
-    let g = c.before.before.before.before.before.before.before.before.before.found.given in
-    let at = reached_as w s.args.facts.now s.args.path.now s.args.depth s.args.done s.args.found (Split g.0.0) g.1 s.requires.1.1.1.0 in
-    let b = c.before.before.before.is-taken in
-    let here = sym (taken_here bound c.before.before.before) ∙ not-false b.result c.before.before.if2.false in
-    omega (arith, taken_some (alts_at w s.args.path.now s.args.depth) (get_or s.args.nexts.now s.args.depth 0) (get_or s.args.atoms.now s.args.depth 0) here))  -- sub-rewind
+    let w = magic_walker c.args.rules.now in
+    let at = reached_as w c.args.facts.now c.args.path.now c.args.depth c.args.done c.args.found (Split c.in-Split.n) c.in-Split.is c.requires.1.1.1.0 in
+    let b = c.is_taken in
+    let here = sym (taken_here bound c.before.before.before) ∙ not-false b.result c.if-not-is_taken.false-raw in
+    omega (arith, taken_some (alts_at w c.args.path.now c.args.depth) (get_or c.args.nexts.now c.args.depth 0) (get_or c.args.atoms.now c.args.depth 0) here))  -- overflow_sub-j
     (λ c κs.
-    let s = c.before.before.before.before.before.before.before.before.before.before.before.before.before.before.before.before.before in
-    let w = magic_walker s.args.rules.now in
-    let g = c.before.before.before.before.before.before.before.before.before.found.given in
-    let at = reached_as w s.args.facts.now s.args.path.now s.args.depth s.args.done s.args.found (Split g.0.0) g.1 s.requires.1.1.1.0 in
+    let w = magic_walker c.args.rules.now in
+    let at = reached_as w c.args.facts.now c.args.path.now c.args.depth c.args.done c.args.found (Split c.in-Split.n) c.in-Split.is c.requires.1.1.1.0 in
     ((at.store, omega arith), (at.room, at.ready.1)))  -- rewind-requires
     (λ c κs.
-    let s = c.before.before.before.before.before.before.before.before.before.before.before.before.before.before.before.before.before.before.before.before.before.before.before in
-    let w = magic_walker s.args.rules.now in
-    let g = c.before.before.before.before.before.before.before.before.before.before.before.before.before.before.before.found.given in
-    let at = reached_as w s.args.facts.now s.args.path.now s.args.depth s.args.done s.args.found (Split g.0.0) g.1 s.requires.1.1.1.0 in
-    let b = c.before.before.before.before.before.before.before.before.before.is-taken in
-    let here = sym (taken_here bound c.before.before.before.before.before.before.before.before.before) ∙ not-false b.result c.before.before.before.before.before.before.before.before.if2.false in
-    let u = c.before.before.before.before.before.rewind in
-    let j : ℕ = get_or s.args.nexts.now s.args.depth 0 in
-    let t : Turned s.args.path.now s.args.depth (j - 1) u.new.1.0 = subst (Turned s.args.path.now s.args.depth (j - 1)) (sym u.ensures.1) (turned s.args.path.now s.args.depth at.room (j - 1)) in
-    let long : length u.new.1.0 ≡ 9227 = u.auto.1.0 ∙ at.room.size in
-    (again_parted w s.args.facts.now s.args.path.now s.args.depth s.args.done g.0.0 at u.new.0 u.ensures.0 j u.new.1.0 t long).room)  -- mark-requires
+    let w = magic_walker c.args.rules.now in
+    let at = reached_as w c.args.facts.now c.args.path.now c.args.depth c.args.done c.args.found (Split c.in-Split.n) c.in-Split.is c.requires.1.1.1.0 in
+    let b = c.is_taken in
+    let here = sym (taken_here bound c.before.before.before.before.before.before.before.before) ∙ not-false b.result c.if-not-is_taken.false-raw in
+    let u = c.rewind in
+    let j : ℕ = get_or c.args.nexts.now c.args.depth 0 in
+    let t : Turned c.args.path.now c.args.depth (j - 1) u.new.path = subst (Turned c.args.path.now c.args.depth (j - 1)) (sym u.ensures.1) (turned c.args.path.now c.args.depth at.room (j - 1)) in
+    let long : length u.new.path ≡ 9227 = u.auto.path ∙ at.room.size in
+    (again_parted w c.args.facts.now c.args.path.now c.args.depth c.args.done c.in-Split.n at u.new.facts u.ensures.0 j u.new.path t long).room)  -- mark-own-requires
     (λ c κs.
-    let s = c.before.before.before.before.before.before.before.before.before.before.before.before.before.before.before.before.before.before.before.before.before.before.before.before.before.before in
-    let w = magic_walker s.args.rules.now in
-    let g = c.before.before.before.before.before.before.before.before.before.before.before.before.before.before.before.before.before.before.found.given in
-    let at = reached_as w s.args.facts.now s.args.path.now s.args.depth s.args.done s.args.found (Split g.0.0) g.1 s.requires.1.1.1.0 in
-    let b = c.before.before.before.before.before.before.before.before.before.before.before.before.is-taken in
-    let here = sym (taken_here bound c.before.before.before.before.before.before.before.before.before.before.before.before) ∙ not-false b.result c.before.before.before.before.before.before.before.before.before.before.before.if2.false in
-    let u = c.before.before.before.before.before.before.before.before.rewind in
-    let j : ℕ = get_or s.args.nexts.now s.args.depth 0 in
-    let t : Turned s.args.path.now s.args.depth (j - 1) u.new.1.0 = subst (Turned s.args.path.now s.args.depth (j - 1)) (sym u.ensures.1) (turned s.args.path.now s.args.depth at.room (j - 1)) in
-    let long : length u.new.1.0 ≡ 9227 = u.auto.1.0 ∙ at.room.size in
-    (s.requires.1.0, (s.requires.1.1.0, (again_parted w s.args.facts.now s.args.path.now s.args.depth s.args.done g.0.0 at u.new.0 u.ensures.0 j u.new.1.0 t long, again_next w s.args.facts.now s.args.path.now s.args.depth s.args.done g.0.0 at u.new.0 u.ensures.0 j u.new.1.0 t long (get_or s.args.atoms.now s.args.depth 0) here))))  -- enter-requires
+    let w = magic_walker c.args.rules.now in
+    let at = reached_as w c.args.facts.now c.args.path.now c.args.depth c.args.done c.args.found (Split c.in-Split.n) c.in-Split.is c.requires.1.1.1.0 in
+    let b = c.is_taken in
+    let here = sym (taken_here bound c.before.before.before.before.before.before.before.before.before.before.before) ∙ not-false b.result c.if-not-is_taken.false-raw in
+    let u = c.rewind in
+    let j : ℕ = get_or c.args.nexts.now c.args.depth 0 in
+    let t : Turned c.args.path.now c.args.depth (j - 1) u.new.path = subst (Turned c.args.path.now c.args.depth (j - 1)) (sym u.ensures.1) (turned c.args.path.now c.args.depth at.room (j - 1)) in
+    let long : length u.new.path ≡ 9227 = u.auto.path ∙ at.room.size in
+    (c.requires.1.0, (c.requires.1.1.0, (again_parted w c.args.facts.now c.args.path.now c.args.depth c.args.done c.in-Split.n at u.new.facts u.ensures.0 j u.new.path t long, again_next w c.args.facts.now c.args.path.now c.args.depth c.args.done c.in-Split.n at u.new.facts u.ensures.0 j u.new.path t long (get_or c.args.atoms.now c.args.depth 0) here))))  -- enter-made-requires
     (λ c.
-    let s = c.before.before.before.before.before.before.before.before.before.before.before.before.before.before.before.before.before.before.before.before.before.before.before.before.before.before.before.before.before.before.before.before.before in
-    let w = magic_walker s.args.rules.now in
-    let g = c.before.before.before.before.before.before.before.before.before.before.before.before.before.before.before.before.before.before.before.before.before.before.before.before.before.found.given in
-    let at = reached_as w s.args.facts.now s.args.path.now s.args.depth s.args.done s.args.found (Split g.0.0) g.1 s.requires.1.1.1.0 in
-    omega (arith, at.room.deep))  -- add-resume
+    let w = magic_walker c.args.rules.now in
+    let at = reached_as w c.args.facts.now c.args.path.now c.args.depth c.args.done c.args.found (Split c.in-Split.n) c.in-Split.is c.requires.1.1.1.0 in
+    omega (arith, at.room.deep))  -- overflow_add-depth
     (λ c κs.
-    let s = c.before.before.before.before.before.before.before.before.before.before.before.before.before.before.before.before.before.before.before.before.before.before.before.before.before.before.before.before.before.before.before.before.before in
-    let w = magic_walker s.args.rules.now in
-    let g = c.before.before.before.before.before.before.before.before.before.before.before.before.before.before.before.before.before.before.before.before.before.before.before.before.before.found.given in
-    let at = reached_as w s.args.facts.now s.args.path.now s.args.depth s.args.done s.args.found (Split g.0.0) g.1 s.requires.1.1.1.0 in
-    let b = c.before.before.before.before.before.before.before.before.before.before.before.before.before.before.before.before.before.before.before.is-taken in
-    let here = sym (taken_here bound c.before.before.before.before.before.before.before.before.before.before.before.before.before.before.before.before.before.before.before) ∙ not-false b.result c.before.before.before.before.before.before.before.before.before.before.before.before.before.before.before.before.before.before.if2.false in
-    let u = c.before.before.before.before.before.before.before.before.before.before.before.before.before.before.before.rewind in
-    let j : ℕ = get_or s.args.nexts.now s.args.depth 0 in
-    let t : Turned s.args.path.now s.args.depth (j - 1) u.new.1.0 = subst (Turned s.args.path.now s.args.depth (j - 1)) (sym u.ensures.1) (turned s.args.path.now s.args.depth at.room (j - 1)) in
-    let long : length u.new.1.0 ≡ 9227 = u.auto.1.0 ∙ at.room.size in
-    let m = c.before.before.before.before.before.before.before.before.before.mark in
-    let e = c.before.before.before.before.before.before.enter in
-    let from : s.args.steps - s.args.depth ≡ bound = s.requires.0 in
-    let more : s.args.depth < s.args.steps = omega (arith, s.requires.1.1.1.1.1.0.0, c.before.before.before.before.before.before.before.before.before.before.before.before.before.before.before.before.before.before.before.before.before.before.before.before.before.before.before.if1.false) in
-    let less : s.args.steps - (s.args.depth + 1) < bound = omega (arith, from, more) in (
+    let w = magic_walker c.args.rules.now in
+    let at = reached_as w c.args.facts.now c.args.path.now c.args.depth c.args.done c.args.found (Split c.in-Split.n) c.in-Split.is c.requires.1.1.1.0 in
+    let b = c.is_taken in
+    let here = sym (taken_here bound c.before.before.before.before.before.before.before.before.before.before.before.before.before.before.before.before.before.before) ∙ not-false b.result c.if-not-is_taken.false-raw in
+    let u = c.rewind in
+    let j : ℕ = get_or c.args.nexts.now c.args.depth 0 in
+    let t : Turned c.args.path.now c.args.depth (j - 1) u.new.path = subst (Turned c.args.path.now c.args.depth (j - 1)) (sym u.ensures.1) (turned c.args.path.now c.args.depth at.room (j - 1)) in
+    let long : length u.new.path ≡ 9227 = u.auto.path ∙ at.room.size in
+    let m = c.mark-own in
+    let e = c.enter-made in
+    let from : c.args.steps - c.args.depth ≡ bound = c.requires.0 in
+    let more : c.args.depth < c.args.steps = omega (arith, c.requires.1.1.1.1.1.0.0, c.if-depth-steps.false) in
+    let less : c.args.steps - (c.args.depth + 1) < bound = omega (arith, from, more) in (
       less,
       (
-        s.requires.1.0,
+        c.requires.1.0,
         (
-          s.requires.1.1.0,
+          c.requires.1.1.0,
           (
-            subst (λ (i : ℕ). Reached w e.new.1.1.0 e.new.1.1.1.0 (s.args.depth + 1) i e.result) (sym m.ensures) (e.ensures.0 0).reached,
+            subst (λ (i : ℕ). Reached w e.new.facts e.new.path (c.args.depth + 1) i e.result) (sym m.ensures) (e.ensures.0 0).reached,
             (
-              again_path w s.args.facts.now s.args.path.now s.args.depth s.args.done g.0.0 at u.new.0 u.ensures.0 j u.new.1.0 t long e.result e.new.1.1.0 e.new.1.1.1.0 (e.ensures.0 0) s.args.atoms.now s.args.nexts.now refl s.requires.1.1.1.1.0 here,
-              ((omega (arith, more), s.requires.1.1.1.1.1.0.1, s.requires.1.1.1.1.1.0.2), (omega (arith, same_figure bound c.before.before.before.before.before.before, s.requires.1.1.1.1.1.1.0), s.requires.1.1.1.1.1.1.1)),
+              again_path w c.args.facts.now c.args.path.now c.args.depth c.args.done c.in-Split.n at u.new.facts u.ensures.0 j u.new.path t long e.result e.new.facts e.new.path (e.ensures.0 0) c.args.atoms.now c.args.nexts.now refl c.requires.1.1.1.1.0 here,
+              ((omega (arith, more), c.requires.1.1.1.1.1.0.1, c.requires.1.1.1.1.1.0.2), (omega (arith, same_figure bound c.before.before.before.before.before.before, c.requires.1.1.1.1.1.1.0), c.requires.1.1.1.1.1.1.1)),
             ),
           ),
         ),
       ),
-    ))  -- resume-requires
-    (λ c. search rules)  -- enum-known-below
-    (λ c. search rules)  -- enum-told
-    (λ c. search rules)  -- same-length-4
-    (λ c. search rules)  -- same-length-5
+    ))  -- resume-below-requires
+    (λ c. search rules)  -- enum_known-below
+    (λ c. search rules)  -- enum_told-1
+    (λ c. search rules)  -- shape_of-facts-in_default-below
+    (λ c. search rules)  -- shape_of-path-in_default-below
     (λ c.
-    let s = c.before.before.before.before.before.before.before.before.before.before.before.before.before.before.before.before.before.before.before.before.before.before.before.before.before.before.before.before.before.before.before.before.before.before.before.before.before.before.before.before in
-    let w = magic_walker s.args.rules.now in
-    let g = c.before.before.before.before.before.before.before.before.before.before.before.before.before.before.before.before.before.before.before.before.before.before.before.before.before.before.before.before.before.before.before.before.found.given in
-    let at = reached_as w s.args.facts.now s.args.path.now s.args.depth s.args.done s.args.found (Split g.0.0) g.1 s.requires.1.1.1.0 in
-    let b = c.before.before.before.before.before.before.before.before.before.before.before.before.before.before.before.before.before.before.before.before.before.before.before.before.before.before.is-taken in
-    let here = sym (taken_here bound c.before.before.before.before.before.before.before.before.before.before.before.before.before.before.before.before.before.before.before.before.before.before.before.before.before.before) ∙ not-false b.result c.before.before.before.before.before.before.before.before.before.before.before.before.before.before.before.before.before.before.before.before.before.before.before.before.before.if2.false in
-    let u = c.before.before.before.before.before.before.before.before.before.before.before.before.before.before.before.before.before.before.before.before.before.before.rewind in
-    let j : ℕ = get_or s.args.nexts.now s.args.depth 0 in
-    let t : Turned s.args.path.now s.args.depth (j - 1) u.new.1.0 = subst (Turned s.args.path.now s.args.depth (j - 1)) (sym u.ensures.1) (turned s.args.path.now s.args.depth at.room (j - 1)) in
-    let long : length u.new.1.0 ≡ 9227 = u.auto.1.0 ∙ at.room.size in
-    let m = c.before.before.before.before.before.before.before.before.before.before.before.before.before.before.before.before.mark in
-    let e = c.before.before.before.before.before.before.before.before.before.before.before.before.before.enter in
-    let q = c.before.before.before.before.before.before.resume in
-    let place = place_of w.find (session_of s.args.on.standing s.args.on.count s.args.atoms.now s.args.nexts.now s.args.steps s.args.on.next (deepest_at s.args.path.now)) in
-    resumes_nowhere w place e.new.1.1.0 e.new.1.1.1.0 (s.args.depth + 1) m.result s.args.on.count s.args.on.limit q.new.1.1.0 q.new.1.1.1.0 q.result c.before.match2.keys2 (told_below bound c.before.before.before.before.before.before))  -- returns-4
-    (λ c. search rules)  -- enum-known-walked
-    (λ c. search rules)  -- same-length-6
-    (λ c. search rules)  -- same-length-7
+    let w = magic_walker c.args.rules.now in
+    let at = reached_as w c.args.facts.now c.args.path.now c.args.depth c.args.done c.args.found (Split c.in-Split.n) c.in-Split.is c.requires.1.1.1.0 in
+    let b = c.is_taken in
+    let here = sym (taken_here bound c.before.before.before.before.before.before.before.before.before.before.before.before.before.before.before.before.before.before.before.before.before.before.before.before) ∙ not-false b.result c.if-not-is_taken.false-raw in
+    let u = c.rewind in
+    let j : ℕ = get_or c.args.nexts.now c.args.depth 0 in
+    let t : Turned c.args.path.now c.args.depth (j - 1) u.new.path = subst (Turned c.args.path.now c.args.depth (j - 1)) (sym u.ensures.1) (turned c.args.path.now c.args.depth at.room (j - 1)) in
+    let long : length u.new.path ≡ 9227 = u.auto.path ∙ at.room.size in
+    let m = c.mark-own in
+    let e = c.enter-made in
+    let q = c.resume-below in
+    let place = place_of w.find (session_of c.args.on.standing c.args.on.count c.args.atoms.now c.args.nexts.now c.args.steps c.args.on.next (deepest_at c.args.path.now)) in
+    resumes_nowhere w place e.new.facts e.new.path (c.args.depth + 1) m.result c.args.on.count c.args.on.limit q.new.facts q.new.path q.result c.in_default-below.in_default-below-own.keys2 (told_below bound c.before.before.before.before.before))  -- returns-in_default-below
+    (λ c. search rules)  -- enum_known-walked
+    (λ c. search rules)  -- shape_of-facts-in_default-walked
+    (λ c. search rules)  -- shape_of-path-in_default-walked
     (λ c.
-    let s = c.before.before.before.before.before.before.before.before.before.before.before.before.before.before.before.before.before.before.before.before.before.before.before.before.before.before.before.before.before.before.before.before.before.before.before.before.before.before.before.before.before.before in
-    let w = magic_walker s.args.rules.now in
-    let g = c.before.before.before.before.before.before.before.before.before.before.before.before.before.before.before.before.before.before.before.before.before.before.before.before.before.before.before.before.before.before.before.before.before.before.found.given in
-    let at = reached_as w s.args.facts.now s.args.path.now s.args.depth s.args.done s.args.found (Split g.0.0) g.1 s.requires.1.1.1.0 in
-    let b = c.before.before.before.before.before.before.before.before.before.before.before.before.before.before.before.before.before.before.before.before.before.before.before.before.before.before.before.before.is-taken in
-    let here = sym (taken_here bound c.before.before.before.before.before.before.before.before.before.before.before.before.before.before.before.before.before.before.before.before.before.before.before.before.before.before.before.before) ∙ not-false b.result c.before.before.before.before.before.before.before.before.before.before.before.before.before.before.before.before.before.before.before.before.before.before.before.before.before.before.before.if2.false in
-    let u = c.before.before.before.before.before.before.before.before.before.before.before.before.before.before.before.before.before.before.before.before.before.before.before.before.rewind in
-    let j : ℕ = get_or s.args.nexts.now s.args.depth 0 in
-    let t : Turned s.args.path.now s.args.depth (j - 1) u.new.1.0 = subst (Turned s.args.path.now s.args.depth (j - 1)) (sym u.ensures.1) (turned s.args.path.now s.args.depth at.room (j - 1)) in
-    let long : length u.new.1.0 ≡ 9227 = u.auto.1.0 ∙ at.room.size in
-    let m = c.before.before.before.before.before.before.before.before.before.before.before.before.before.before.before.before.before.before.mark in
-    let e = c.before.before.before.before.before.before.before.before.before.before.before.before.before.before.before.enter in
-    let q = c.before.before.before.before.before.before.before.before.resume in
-    let place = place_of w.find (session_of s.args.on.standing s.args.on.count s.args.atoms.now s.args.nexts.now s.args.steps s.args.on.next (deepest_at s.args.path.now)) in
-    let h = c.before.before.below.given in
-    let below = resumes_on w place e.new.1.1.0 e.new.1.1.1.0 (s.args.depth + 1) m.result s.args.on.count s.args.on.limit q.new.1.1.0 q.new.1.1.1.0 q.result h.0.0 h.1 (told_below bound c.before.before.before.before.before.before.before.before) in
-    again_passes w s.args.facts.now s.args.path.now s.args.depth s.args.done g.0.0 at u.new.0 u.ensures.0 j u.new.1.0 t long e.result e.new.1.1.0 e.new.1.1.1.0 (e.ensures.0 0) place m.result s.args.on.count s.args.on.limit m.ensures h.0.0 q.new.1.1.0 q.new.1.1.1.0 below (deeper bound c.before.before.before.before.before.before.before.before.before.before.before.before.before.before.before) c.match3.keys2)  -- returns-5
+    let w = magic_walker c.args.rules.now in
+    let at = reached_as w c.args.facts.now c.args.path.now c.args.depth c.args.done c.args.found (Split c.in-Split.n) c.in-Split.is c.requires.1.1.1.0 in
+    let b = c.is_taken in
+    let here = sym (taken_here bound c.before.before.before.before.before.before.before.before.before.before.before.before.before.before.before.before.before.before.before.before.before.before.before.before.before) ∙ not-false b.result c.if-not-is_taken.false-raw in
+    let u = c.rewind in
+    let j : ℕ = get_or c.args.nexts.now c.args.depth 0 in
+    let t : Turned c.args.path.now c.args.depth (j - 1) u.new.path = subst (Turned c.args.path.now c.args.depth (j - 1)) (sym u.ensures.1) (turned c.args.path.now c.args.depth at.room (j - 1)) in
+    let long : length u.new.path ≡ 9227 = u.auto.path ∙ at.room.size in
+    let m = c.mark-own in
+    let e = c.enter-made in
+    let q = c.resume-below in
+    let place = place_of w.find (session_of c.args.on.standing c.args.on.count c.args.atoms.now c.args.nexts.now c.args.steps c.args.on.next (deepest_at c.args.path.now)) in
+    let below = resumes_on w place e.new.facts e.new.path (c.args.depth + 1) m.result c.args.on.count c.args.on.limit q.new.facts q.new.path q.result c.in-On.walked c.in-On.is (told_below bound c.before.before.before.before.before.before) in
+    again_passes w c.args.facts.now c.args.path.now c.args.depth c.args.done c.in-Split.n at u.new.facts u.ensures.0 j u.new.path t long e.result e.new.facts e.new.path (e.ensures.0 0) place m.result c.args.on.count c.args.on.limit m.ensures c.in-On.walked q.new.facts q.new.path below (deeper bound c.before.before.before.before.before.before.before.before.before.before.before.before.before) c.in_default-walked.in_default-walked-own.keys2)  -- returns-in_default-walked
     (λ c κs.
-    let s = c.before.before.before.before.before.before.before.before.before.before.before.before.before.before.before.before.before.before.before.before.before.before.before.before.before.before.before.before.before.before.before.before.before.before.before.before.before.before.before.before.before.before.before.before.before.before in
-    let w = magic_walker s.args.rules.now in
-    let g = c.before.before.before.before.before.before.before.before.before.before.before.before.before.before.before.before.before.before.before.before.before.before.before.before.before.before.before.before.before.before.before.before.before.before.before.before.before.before.found.given in
-    let at = reached_as w s.args.facts.now s.args.path.now s.args.depth s.args.done s.args.found (Split g.0.0) g.1 s.requires.1.1.1.0 in
-    let b = c.before.before.before.before.before.before.before.before.before.before.before.before.before.before.before.before.before.before.before.before.before.before.before.before.before.before.before.before.before.before.before.before.is-taken in
-    let here = sym (taken_here bound c.before.before.before.before.before.before.before.before.before.before.before.before.before.before.before.before.before.before.before.before.before.before.before.before.before.before.before.before.before.before.before.before) ∙ not-false b.result c.before.before.before.before.before.before.before.before.before.before.before.before.before.before.before.before.before.before.before.before.before.before.before.before.before.before.before.before.before.before.before.if2.false in
-    let u = c.before.before.before.before.before.before.before.before.before.before.before.before.before.before.before.before.before.before.before.before.before.before.before.before.before.before.before.before.rewind in
-    let j : ℕ = get_or s.args.nexts.now s.args.depth 0 in
-    let t : Turned s.args.path.now s.args.depth (j - 1) u.new.1.0 = subst (Turned s.args.path.now s.args.depth (j - 1)) (sym u.ensures.1) (turned s.args.path.now s.args.depth at.room (j - 1)) in
-    let long : length u.new.1.0 ≡ 9227 = u.auto.1.0 ∙ at.room.size in
-    let m = c.before.before.before.before.before.before.before.before.before.before.before.before.before.before.before.before.before.before.before.before.before.before.mark in
-    let e = c.before.before.before.before.before.before.before.before.before.before.before.before.before.before.before.before.before.before.before.enter in
-    let q = c.before.before.before.before.before.before.before.before.before.before.before.before.resume in
-    let place = place_of w.find (session_of s.args.on.standing s.args.on.count s.args.atoms.now s.args.nexts.now s.args.steps s.args.on.next (deepest_at s.args.path.now)) in
-    let h = c.before.before.before.before.before.before.below.given in
-    let below = resumes_on w place e.new.1.1.0 e.new.1.1.1.0 (s.args.depth + 1) m.result s.args.on.count s.args.on.limit q.new.1.1.0 q.new.1.1.1.0 q.result h.0.0 h.1 (told_below bound c.before.before.before.before.before.before.before.before.before.before.before.before) in
-    let k = c.before.before.before.walked.given in
-    (s.requires.1.0, (s.requires.1.1.0, (again_node w s.args.facts.now s.args.path.now s.args.depth s.args.done g.0.0 at u.new.0 u.ensures.0 j u.new.1.0 t long e.result e.new.1.1.0 e.new.1.1.1.0 (e.ensures.0 0) place m.result s.args.on.count s.args.on.limit m.ensures h.0.0 q.new.1.1.0 q.new.1.1.1.0 below k.0.0 k.1 (q.auto.1.1.1.0 ∙ (e.ensures.0 0).reached.room.size), (again_part w s.args.facts.now s.args.path.now s.args.depth s.args.done g.0.0 at u.new.0 u.ensures.0 j u.new.1.0 t long e.result e.new.1.1.0 e.new.1.1.1.0 (e.ensures.0 0) place m.result s.args.on.count s.args.on.limit m.ensures h.0.0 q.new.1.1.0 q.new.1.1.1.0 below k.0.0 k.1 (q.auto.1.1.1.0 ∙ (e.ensures.0 0).reached.room.size), again_within w s.args.facts.now s.args.path.now s.args.depth s.args.done g.0.0 at u.new.0 u.ensures.0 j u.new.1.0 t long e.result e.new.1.1.0 e.new.1.1.1.0 (e.ensures.0 0) place m.result s.args.on.count s.args.on.limit m.ensures h.0.0 q.new.1.1.0 q.new.1.1.1.0 below k.0.0 k.1 (q.auto.1.1.1.0 ∙ (e.ensures.0 0).reached.room.size))))))  -- work-off-requires
-    (λ c. c.before.before.before.before.work-off.auto.1.1.0 ∙ c.before.before.before.before.before.before.before.before.before.before.before.before.before.before.before.before.before.resume.auto.1.1.0 ∙ c.before.before.before.before.before.before.before.before.before.before.before.before.before.before.before.before.before.before.before.before.before.before.before.before.enter.auto.1.1.0 ∙ c.before.before.before.before.before.before.before.before.before.before.before.before.before.before.before.before.before.before.before.before.before.before.before.before.before.before.before.before.before.before.before.before.before.rewind.auto.0)  -- same-length-8
-    (λ c. c.before.before.before.before.work-off.auto.1.1.1.0 ∙ c.before.before.before.before.before.before.before.before.before.before.before.before.before.before.before.before.before.resume.auto.1.1.1.0 ∙ c.before.before.before.before.before.before.before.before.before.before.before.before.before.before.before.before.before.before.before.before.before.before.before.before.enter.auto.1.1.1.0 ∙ c.before.before.before.before.before.before.before.before.before.before.before.before.before.before.before.before.before.before.before.before.before.before.before.before.before.before.before.before.before.before.before.before.before.rewind.auto.1.0)  -- same-length-9
+    let w = magic_walker c.args.rules.now in
+    let at = reached_as w c.args.facts.now c.args.path.now c.args.depth c.args.done c.args.found (Split c.in-Split.n) c.in-Split.is c.requires.1.1.1.0 in
+    let b = c.is_taken in
+    let here = sym (taken_here bound c.before.before.before.before.before.before.before.before.before.before.before.before.before.before.before.before.before.before.before.before.before.before.before.before.before.before.before) ∙ not-false b.result c.if-not-is_taken.false-raw in
+    let u = c.rewind in
+    let j : ℕ = get_or c.args.nexts.now c.args.depth 0 in
+    let t : Turned c.args.path.now c.args.depth (j - 1) u.new.path = subst (Turned c.args.path.now c.args.depth (j - 1)) (sym u.ensures.1) (turned c.args.path.now c.args.depth at.room (j - 1)) in
+    let long : length u.new.path ≡ 9227 = u.auto.path ∙ at.room.size in
+    let m = c.mark-own in
+    let e = c.enter-made in
+    let q = c.resume-below in
+    let place = place_of w.find (session_of c.args.on.standing c.args.on.count c.args.atoms.now c.args.nexts.now c.args.steps c.args.on.next (deepest_at c.args.path.now)) in
+    let below = resumes_on w place e.new.facts e.new.path (c.args.depth + 1) m.result c.args.on.count c.args.on.limit q.new.facts q.new.path q.result c.in-On.walked c.in-On.is (told_below bound c.before.before.before.before.before.before.before.before) in
+    (c.requires.1.0, (c.requires.1.1.0, (again_node w c.args.facts.now c.args.path.now c.args.depth c.args.done c.in-Split.n at u.new.facts u.ensures.0 j u.new.path t long e.result e.new.facts e.new.path (e.ensures.0 0) place m.result c.args.on.count c.args.on.limit m.ensures c.in-On.walked q.new.facts q.new.path below c.in-Shut.shut c.in-Shut.is (q.auto.path ∙ (e.ensures.0 0).reached.room.size), (again_part w c.args.facts.now c.args.path.now c.args.depth c.args.done c.in-Split.n at u.new.facts u.ensures.0 j u.new.path t long e.result e.new.facts e.new.path (e.ensures.0 0) place m.result c.args.on.count c.args.on.limit m.ensures c.in-On.walked q.new.facts q.new.path below c.in-Shut.shut c.in-Shut.is (q.auto.path ∙ (e.ensures.0 0).reached.room.size), again_within w c.args.facts.now c.args.path.now c.args.depth c.args.done c.in-Split.n at u.new.facts u.ensures.0 j u.new.path t long e.result e.new.facts e.new.path (e.ensures.0 0) place m.result c.args.on.count c.args.on.limit m.ensures c.in-On.walked q.new.facts q.new.path below c.in-Shut.shut c.in-Shut.is (q.auto.path ∙ (e.ensures.0 0).reached.room.size))))))  -- work_off-rest-requires
+    (λ c. c.work_off-rest.auto.facts ∙ c.resume-below.auto.facts ∙ c.enter-made.auto.facts ∙ c.rewind.auto.facts)  -- shape_of-facts
+    (λ c. c.work_off-rest.auto.path ∙ c.resume-below.auto.path ∙ c.enter-made.auto.path ∙ c.rewind.auto.path)  -- shape_of-path
     (λ c.
-    let s = c.before.before.before.before.before.before.before.before.before.before.before.before.before.before.before.before.before.before.before.before.before.before.before.before.before.before.before.before.before.before.before.before.before.before.before.before.before.before.before.before.before.before.before.before.before.before.before.before.before.before.before in
-    let w = magic_walker s.args.rules.now in
-    let g = c.before.before.before.before.before.before.before.before.before.before.before.before.before.before.before.before.before.before.before.before.before.before.before.before.before.before.before.before.before.before.before.before.before.before.before.before.before.before.before.before.before.before.before.found.given in
-    let at = reached_as w s.args.facts.now s.args.path.now s.args.depth s.args.done s.args.found (Split g.0.0) g.1 s.requires.1.1.1.0 in
-    let b = c.before.before.before.before.before.before.before.before.before.before.before.before.before.before.before.before.before.before.before.before.before.before.before.before.before.before.before.before.before.before.before.before.before.before.before.before.before.is-taken in
-    let here = sym (taken_here bound c.before.before.before.before.before.before.before.before.before.before.before.before.before.before.before.before.before.before.before.before.before.before.before.before.before.before.before.before.before.before.before.before.before.before.before.before.before) ∙ not-false b.result c.before.before.before.before.before.before.before.before.before.before.before.before.before.before.before.before.before.before.before.before.before.before.before.before.before.before.before.before.before.before.before.before.before.before.before.before.if2.false in
-    let u = c.before.before.before.before.before.before.before.before.before.before.before.before.before.before.before.before.before.before.before.before.before.before.before.before.before.before.before.before.before.before.before.before.before.rewind in
-    let j : ℕ = get_or s.args.nexts.now s.args.depth 0 in
-    let t : Turned s.args.path.now s.args.depth (j - 1) u.new.1.0 = subst (Turned s.args.path.now s.args.depth (j - 1)) (sym u.ensures.1) (turned s.args.path.now s.args.depth at.room (j - 1)) in
-    let long : length u.new.1.0 ≡ 9227 = u.auto.1.0 ∙ at.room.size in
-    let m = c.before.before.before.before.before.before.before.before.before.before.before.before.before.before.before.before.before.before.before.before.before.before.before.before.before.before.before.mark in
-    let e = c.before.before.before.before.before.before.before.before.before.before.before.before.before.before.before.before.before.before.before.before.before.before.before.before.enter in
-    let q = c.before.before.before.before.before.before.before.before.before.before.before.before.before.before.before.before.before.resume in
-    let place = place_of w.find (session_of s.args.on.standing s.args.on.count s.args.atoms.now s.args.nexts.now s.args.steps s.args.on.next (deepest_at s.args.path.now)) in
-    let h = c.before.before.before.before.before.before.before.before.before.before.before.below.given in
-    let below = resumes_on w place e.new.1.1.0 e.new.1.1.1.0 (s.args.depth + 1) m.result s.args.on.count s.args.on.limit q.new.1.1.0 q.new.1.1.1.0 q.result h.0.0 h.1 (told_below bound c.before.before.before.before.before.before.before.before.before.before.before.before.before.before.before.before.before) in
-    let k = c.before.before.before.before.before.before.before.before.walked.given in
-    let y = c.before.before.before.before.work-off in
-    again_on w s.args.facts.now s.args.path.now s.args.depth s.args.done g.0.0 at u.new.0 u.ensures.0 j u.new.1.0 t long e.result e.new.1.1.0 e.new.1.1.1.0 (e.ensures.0 0) place m.result s.args.on.count s.args.on.limit m.ensures h.0.0 q.new.1.1.0 q.new.1.1.1.0 below k.0.0 k.1 (q.auto.1.1.1.0 ∙ (e.ensures.0 0).reached.room.size) (deeper bound c.before.before.before.before.before.before.before.before.before.before.before.before.before.before.before.before.before.before.before.before.before.before.before.before) y.result y.new.1.1.0 y.new.1.1.1.0 y.ensures.0 y.ensures.1))  -- returns-6
+    let w = magic_walker c.args.rules.now in
+    let at = reached_as w c.args.facts.now c.args.path.now c.args.depth c.args.done c.args.found (Split c.in-Split.n) c.in-Split.is c.requires.1.1.1.0 in
+    let b = c.is_taken in
+    let here = sym (taken_here bound c.before.before.before.before.before.before.before.before.before.before.before.before.before.before.before.before.before.before.before.before.before.before.before.before.before.before.before.before.before.before.before.before) ∙ not-false b.result c.if-not-is_taken.false-raw in
+    let u = c.rewind in
+    let j : ℕ = get_or c.args.nexts.now c.args.depth 0 in
+    let t : Turned c.args.path.now c.args.depth (j - 1) u.new.path = subst (Turned c.args.path.now c.args.depth (j - 1)) (sym u.ensures.1) (turned c.args.path.now c.args.depth at.room (j - 1)) in
+    let long : length u.new.path ≡ 9227 = u.auto.path ∙ at.room.size in
+    let m = c.mark-own in
+    let e = c.enter-made in
+    let q = c.resume-below in
+    let place = place_of w.find (session_of c.args.on.standing c.args.on.count c.args.atoms.now c.args.nexts.now c.args.steps c.args.on.next (deepest_at c.args.path.now)) in
+    let below = resumes_on w place e.new.facts e.new.path (c.args.depth + 1) m.result c.args.on.count c.args.on.limit q.new.facts q.new.path q.result c.in-On.walked c.in-On.is (told_below bound c.before.before.before.before.before.before.before.before.before.before.before.before.before) in
+    let y = c.work_off-rest in
+    again_on w c.args.facts.now c.args.path.now c.args.depth c.args.done c.in-Split.n at u.new.facts u.ensures.0 j u.new.path t long e.result e.new.facts e.new.path (e.ensures.0 0) place m.result c.args.on.count c.args.on.limit m.ensures c.in-On.walked q.new.facts q.new.path below c.in-Shut.shut c.in-Shut.is (q.auto.path ∙ (e.ensures.0 0).reached.room.size) (deeper bound c.before.before.before.before.before.before.before.before.before.before.before.before.before.before.before.before.before.before.before.before) y.result y.new.facts y.new.path y.ensures.0 y.ensures.1))  -- returns

@@ -17,41 +17,36 @@ pub work_off_spec : {M : Type 1} → statement M
 work_off_spec =
     tie.close
     (tie.spec
-    (λ c κs. let s = c.before.before.before.before in s.requires.1.1.0.room)  -- mark-requires
-    (λ c κs. let s = c.before.before.before.before.before.before.before in (s.requires.0, (s.requires.1.0, (s.requires.1.1.0, s.requires.1.1.1.1))))  -- try-next-requires
-    (λ c. search rules)  -- enum-known-walked
+    (λ c κs. c.requires.1.1.0.room)  -- mark-own-requires
+    (λ c κs. (c.requires.0, (c.requires.1.0, (c.requires.1.1.0, c.requires.1.1.1.1))))  -- try_next-walked-requires
+    (λ c. search rules)  -- enum_known-walked
     (λ c κs.
-    let s = c.before.before.before.before.before.before.before.before.before.before.before.before.before.before.before.before in
-    let w = magic_walker s.args.rules.now in
-    let y = c.before.before.before.before.before.before.before.before.try-next in
-    let k = c.before.before.walked.given in
-    let m = c.before.before.before.before.before.before.before.before.before.before.before.mark in
-    let own = mark_at s.args.path.now s.args.depth in
-    let shut : AllShut w s.args.facts.now s.args.path.now s.args.depth own s.args.count s.args.limit k.0.0 y.new.1.1.0 y.new.1.1.1.0 =
-    leaves_as w s.args.facts.now s.args.path.now s.args.depth own own s.args.count s.args.limit y.result (Shut k.0.0) y.new.1.1.0 y.new.1.1.1.0 refl k.1 y.ensures.0 in
-    (subst (λ (j : ℕ). Store 2050 y.new.1.1.0 j) (sym m.ensures) shut.undone.store, (omega (arith, s.requires.1.1.1.0, m.ensures), omega arith)))  -- undo-requires
-    (λ c. search rules)  -- same-length
-    (λ c. search rules)  -- same-length-2
+    let w = magic_walker c.args.rules.now in
+    let y = c.try_next-walked in
+    let m = c.mark-own in
+    let own = mark_at c.args.path.now c.args.depth in
+    let shut : AllShut w c.args.facts.now c.args.path.now c.args.depth own c.args.count c.args.limit c.in-Shut.shut y.new.facts y.new.path =
+    leaves_as w c.args.facts.now c.args.path.now c.args.depth own own c.args.count c.args.limit y.result (Shut c.in-Shut.shut) y.new.facts y.new.path refl c.in-Shut.is y.ensures.0 in
+    (subst (λ (j : ℕ). Store 2050 y.new.facts j) (sym m.ensures) shut.undone.store, (omega (arith, c.requires.1.1.1.0, m.ensures), omega arith)))  -- undo-requires
+    (λ c. search rules)  -- shape_of-facts-in-Shut
+    (λ c. search rules)  -- shape_of-path-in-Shut
     (λ c.
-    let s = c.before.before.before.before.before.before.before.before.before.before.before.before.before.before.before.before.before.before.before in
-    let w = magic_walker s.args.rules.now in
-    let y = c.before.before.before.before.before.before.before.before.before.before.before.try-next in
-    let k = c.before.before.before.before.before.walked.given in
-    let u = c.before.before.undo in
-    let own = mark_at s.args.path.now s.args.depth in
-    let shut : AllShut w s.args.facts.now s.args.path.now s.args.depth own s.args.count s.args.limit k.0.0 y.new.1.1.0 y.new.1.1.1.0 =
-    leaves_as w s.args.facts.now s.args.path.now s.args.depth own own s.args.count s.args.limit y.result (Shut k.0.0) y.new.1.1.0 y.new.1.1.1.0 refl k.1 y.ensures.0 in (
-      off_shut w s.args.facts.now s.args.path.now s.args.depth s.args.done s.args.count s.args.limit k.0.0 y.new.1.1.0 y.new.1.1.1.0 s.requires.1.1.1.0 shut u.new.0 u.ensures,
+    let w = magic_walker c.args.rules.now in
+    let y = c.try_next-walked in
+    let u = c.undo in
+    let own = mark_at c.args.path.now c.args.depth in
+    let shut : AllShut w c.args.facts.now c.args.path.now c.args.depth own c.args.count c.args.limit c.in-Shut.shut y.new.facts y.new.path =
+    leaves_as w c.args.facts.now c.args.path.now c.args.depth own own c.args.count c.args.limit y.result (Shut c.in-Shut.shut) y.new.facts y.new.path refl c.in-Shut.is y.ensures.0 in (
+      off_shut w c.args.facts.now c.args.path.now c.args.depth c.args.done c.args.count c.args.limit c.in-Shut.shut y.new.facts y.new.path c.requires.1.1.1.0 shut u.new.r u.ensures,
       λ r met due.
-          ended_as w r s.args.path.now s.args.depth y.result (Shut k.0.0) y.new.1.1.0 y.new.1.1.1.0 k.1 (y.ensures.1 r met due),
-    ))  -- returns
-    (λ c. search rules)  -- same-length-3
-    (λ c. search rules)  -- same-length-4
+          ended_as w r c.args.path.now c.args.depth y.result (Shut c.in-Shut.shut) y.new.facts y.new.path c.in-Shut.is (y.ensures.1 r met due),
+    ))  -- returns-in-Shut
+    (λ c. search rules)  -- shape_of-facts
+    (λ c. search rules)  -- shape_of-path
     (λ c.
-    let s = c.before.before.before.before.before.before.before.before.before.before.before.before.before in
-    let w = magic_walker s.args.rules.now in
-    let y = c.before.before.before.before.before.try-next in (
-      passes w y.new.1.1.0 y.new.1.1.1.0 s.args.limit s.args.facts.now s.args.path.now s.args.depth (mark_at s.args.path.now s.args.depth) s.args.count
-          s.args.facts.now s.args.path.now s.args.depth s.args.done s.args.count y.result c.match.keys2 y.ensures.0,
+    let w = magic_walker c.args.rules.now in
+    let y = c.try_next-walked in (
+      passes w y.new.facts y.new.path c.args.limit c.args.facts.now c.args.path.now c.args.depth (mark_at c.args.path.now c.args.depth) c.args.count
+          c.args.facts.now c.args.path.now c.args.depth c.args.done c.args.count y.result c.in_default.in_default-own.keys2 y.ensures.0,
       y.ensures.1,
-    )))  -- returns-2
+    )))  -- returns

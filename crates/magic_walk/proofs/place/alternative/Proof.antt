@@ -12,9 +12,8 @@ pub alternative_spec : {M : Type 1} → statement M
 alternative_spec =
     tie.close
     (tie.spec
-    (λ c κs. search rules)  -- next-requires
-    (λ c κs. search rules)  -- alternative-at-requires
+    (λ c κs. search rules)  -- next-j-requires
+    (λ c κs. search rules)  -- alternative_at-requires
     (λ c.
-    let s = c.before.before.before.before in
-    let b = c.alternative-at in
-    subst (λ (j : ℕ). NextOf (alts_at (magic_walker s.args.rules.now) s.args.path.now s.args.depth) j b.result) c.before.next.ensures b.ensures))  -- returns
+    let b = c.alternative_at in
+    subst (λ (j : ℕ). NextOf (alts_at (magic_walker c.args.rules.now) c.args.path.now c.args.depth) j b.result) c.next-j.ensures b.ensures))  -- returns

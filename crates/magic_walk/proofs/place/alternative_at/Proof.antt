@@ -14,33 +14,30 @@ begun c = c.before.before.before.before
 few : (c : tie.After-number) → c.number.result < 320
 few c =
     let s = begun c in
-    read_few s.args.rules.now s.pre.0 s.args.path.now s.args.depth s.pre.1.1 c.number.result c.number.ensures c.before.values.result c.before.values.ensures
+    read_few s.args.rules.now s.requires.0 s.args.path.now s.args.depth s.requires.1.1 c.number.result c.number.ensures c.values-four.result c.values-four.ensures
 
 pub alternative_at_spec : {M : Type 1} → statement M
 alternative_at_spec =
     tie.close
     (tie.spec
-    (λ c κs. search rules)  -- values-requires
+    (λ c κs. search rules)  -- values-four-requires
     (λ c κs. search rules)  -- number-requires
-    (λ c. omega (arith, few c))  -- mul-record
-    (λ c. omega (arith, few c))  -- add-record
-    (λ c. omega (arith, few c))  -- add-count
-    (λ c. omega (arith, few c.before, c.before.before.before.before.before.requires.0.size))  -- shared-slice-read-count
+    (λ c. omega (arith, few c))  -- overflow_mul-record
+    (λ c. omega (arith, few c))  -- overflow_add-record
+    (λ c. omega (arith, few c))  -- overflow_add-count
+    (λ c. omega (arith, few c.before, c.requires.0.size))  -- bounds-rules-record
     (λ c.
-    let k = c.before in
-    let s = begun k in
-    omega (arith, (read_slots s.args.rules.now s.pre.0 s.args.path.now s.args.depth s.pre.1.1 k.number.result k.number.ensures k.before.values.result k.before.values.ensures).few))  -- cast-count
-    (λ c. omega (arith, few c.before))  -- add-branch-after
-    (λ c. search rules)  -- slice-aggregate-branch-after
+    let s = begun c.before in
+    omega (arith, (read_slots s.args.rules.now s.requires.0 s.args.path.now s.args.depth s.requires.1.1 c.number.result c.number.ensures c.values-four.result c.values-four.ensures).few))  -- overflow_cast-count
+    (λ c. omega (arith, few c.before))  -- overflow_add-record-2
+    (λ c. search rules)  -- slice_bounds-branch_after-end
     (λ c κs.
-    let k = c.before.before in
-    let s = begun k in (
-      ruled_headed s.args.rules.now s.pre.0,
-      read_slots s.args.rules.now s.pre.0 s.args.path.now s.args.depth s.pre.1.1 k.number.result k.number.ensures k.before.values.result k.before.values.ensures,
-    ))  -- branch-after-requires
+    let s = begun c.before.before in (
+      ruled_headed s.args.rules.now s.requires.0,
+      read_slots s.args.rules.now s.requires.0 s.args.path.now s.args.depth s.requires.1.1 c.number.result c.number.ensures c.values-four.result c.values-four.ensures,
+    ))  -- branch_after-requires
     (λ c.
-    let k = c.before.before.before in
-    let s = begun k in
-    let b = c.branch-after in
-    read_next s.args.rules.now s.pre.0 s.args.path.now s.args.depth s.pre.1.1 k.number.result k.number.ensures k.before.values.result k.before.values.ensures
+    let s = begun c.before.before.before in
+    let b = c.branch_after in
+    read_next s.args.rules.now s.requires.0 s.args.path.now s.args.depth s.requires.1.1 c.number.result c.number.ensures c.values-four.result c.values-four.ensures
     s.args.j b.result b.ensures))  -- returns

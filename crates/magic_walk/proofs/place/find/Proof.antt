@@ -6,65 +6,57 @@ use Rattle.magic_walk.proofs.FindLaws.{settled_as, split_few, node_closed, node_
 use Rattle.magic_walk.proofs.place.find.Statement.{statement}
 use Rattle.magic_walk.proofs.place.find.Tie as tie
 
-abbrev begun : tie.After-settle → tie.Start
+abbrev begun : tie.After-settle-node → tie.Start
 begun z = z.before.before.before.before.before
 
 -- What settling ensures, said of the bytes of the buffers. A lemma, since the two forms are slow to compare.
-settled : (z : tie.After-settle) → let s = begun z in HeldSettled s.args.rules.now s.args.facts.now s.args.n z.settle.result z.settle.new.1.1.0
-settled z = z.settle.ensures
+settled : (z : tie.After-settle-node) → let s = begun z in HeldSettled s.args.rules.now s.args.facts.now s.args.n z.settle-node.result z.settle-node.new.r
+settled z = z.settle-node.ensures
 
 -- the node is split
-abbrev shut : tie.After-node → tie.After-settle
-shut c = c.before.before.before.before
+abbrev shut : tie.In-Split → tie.After-settle-node
+shut c = c.before.before.before
 
-parted : (c : tie.After-node) →
+parted : (c : tie.In-Split) →
     let z = shut c in
     let s = begun z in
-    let g = c.node.given.0 in
-    SplitByRules s.args.rules.now s.args.facts.now s.args.n g.0 g.1.0 g.1.1.0 g.1.1.1.0 g.1.1.1.1.0 g.1.1.1.1.1.0 z.settle.last.1.1.0
+    SplitByRules s.args.rules.now s.args.facts.now s.args.n c.in-Split.m c.in-Split.q c.in-Split.a c.in-Split.b c.in-Split.c c.in-Split.d z.settle-node.new.r
 parted c =
     let z = shut c in
     let s = begun z in
-    settled_as s.args.rules.now s.args.facts.now s.args.n z.settle.result _ z.settle.last.1.1.0 c.node.given.1 (settled z)
+    settled_as s.args.rules.now s.args.facts.now s.args.n z.settle-node.result _ z.settle-node.new.r c.in-Split.is (settled z)
 
 pub find_spec : {M : Type 1} → statement M
 find_spec =
     tie.close
     (tie.spec
-    (λ c κs. search rules)  -- settle-requires
-    (λ c. search rules)  -- enum-known-node
-    (λ c. search rules)  -- cast-note
+    (λ c κs. search rules)  -- settle-node-requires
+    (λ c. search rules)  -- enum_known-node
+    (λ c. search rules)  -- overflow_cast-q
     (λ c κs.
-    let k = c.before.before in
-    let s = begun (shut k) in
-    (s.pre.1.1.0, split_few s.args.rules.now s.pre.0 s.args.facts.now s.args.n _ _ _ _ _ _ (shut k).settle.new.1.1.0 (parted k)))  -- note-requires
-    (λ c. search rules)  -- same-length
-    (λ c. search rules)  -- same-length-2
+    let s = begun (shut c.before) in
+    (s.requires.1.1.0, split_few s.args.rules.now s.requires.0 s.args.facts.now s.args.n _ _ _ _ _ _ (shut c.before).settle-node.new.r (parted c.before)))  -- note-requires
+    (λ c. search rules)  -- shape_of-facts-in-Split
+    (λ c. search rules)  -- shape_of-path-in-Split
     (λ c.
-    let o = c.before.before in
-    let k = o.before.before.before in
-    let s = begun (shut k) in (
-      node_split s.args.rules.now s.pre.0 s.args.facts.now s.args.path.now s.args.depth s.args.n s.args.done s.args.from s.pre.1.1.0 s.pre.1.1.1
-          (shut k).settle.new.1.1.0 s.pre.1.1.2 _ _ _ _ _ _ (parted k) o.note.new.0 (o.note.auto.0 ∙ s.pre.1.1.0.size) o.note.ensures,
-      o.note.ensures.mark_is,
-    ))  -- returns
-    (λ c. search rules)  -- enum-known-node-2
-    (λ c. search rules)  -- same-length-3
+    let s = begun (shut c.before.before.before.before) in (
+      node_split s.args.rules.now s.requires.0 s.args.facts.now s.args.path.now s.args.depth s.args.n s.args.done s.args.from s.requires.1.1.0 s.requires.1.1.1
+          (shut c.before.before.before.before).settle-node.new.r s.requires.1.1.2 _ _ _ _ _ _ (parted c.before.before.before.before) c.note.new.path (c.note.auto.path ∙ s.requires.1.1.0.size) c.note.ensures,
+      c.note.ensures.mark_is,
+    ))  -- returns-in-Split
+    (λ c. search rules)  -- enum_known-node-in-Closed-1
+    (λ c. search rules)  -- shape_of-facts-in-Closed
     (λ c.
-    let g = c.before.node2.given in
-    let z = c.before.before.before.before.before in
-    let s = begun z in (
-      node_closed s.args.rules.now s.pre.0 s.args.facts.now s.args.path.now s.args.depth s.args.n s.args.done s.args.from s.pre.1.1.0 s.pre.1.1.1
-          z.settle.new.1.1.0 s.pre.1.1.2 g.0.0 (settled_as s.args.rules.now s.args.facts.now s.args.n z.settle.result _ z.settle.new.1.1.0 g.1 (settled z)),
+    let s = begun c.before.before.before in (
+      node_closed s.args.rules.now s.requires.0 s.args.facts.now s.args.path.now s.args.depth s.args.n s.args.done s.args.from s.requires.1.1.0 s.requires.1.1.1
+          c.settle-node.new.r s.requires.1.1.2 c.in-Closed.m (settled_as s.args.rules.now s.args.facts.now s.args.n c.settle-node.result _ c.settle-node.new.r c.in-Closed.is (settled c.before.before.before)),
       tt,
-    ))  -- returns-2
-    (λ c. search rules)  -- enum-known-node-3
-    (λ c. search rules)  -- same-length-4
+    ))  -- returns-in-Closed
+    (λ c. search rules)  -- enum_known-node-in-Open-1
+    (λ c. search rules)  -- shape_of-facts-in-Open
     (λ c.
-    let g = c.before.node3.given in
-    let z = c.before.before.before.before.before in
-    let s = begun z in (
-      node_open s.args.rules.now s.pre.0 s.args.facts.now s.args.path.now s.args.depth s.args.n s.args.done s.args.from s.pre.1.1.0 s.pre.1.1.1
-          z.settle.new.1.1.0 s.pre.1.1.2 g.0.0 (settled_as s.args.rules.now s.args.facts.now s.args.n z.settle.result _ z.settle.new.1.1.0 g.1 (settled z)),
+    let s = begun c.before.before.before in (
+      node_open s.args.rules.now s.requires.0 s.args.facts.now s.args.path.now s.args.depth s.args.n s.args.done s.args.from s.requires.1.1.0 s.requires.1.1.1
+          c.settle-node.new.r s.requires.1.1.2 c.in-Open.m (settled_as s.args.rules.now s.args.facts.now s.args.n c.settle-node.result _ c.settle-node.new.r c.in-Open.is (settled c.before.before.before)),
       tt,
-    )))  -- returns-3
+    )))  -- returns-in-Open

@@ -7,10 +7,9 @@ pub place_spec : {M : Type 1} → statement M
 place_spec =
     tie.close
     (tie.spec
-    (λ c κs. let s = c.before.before.before.before.before in (s.requires.0, (s.requires.1.0, (s.requires.1.1.0, s.requires.1.1.1.0))))  -- enter-requires
-    (λ c. search rules)  -- same-length
-    (λ c. search rules)  -- same-length-2
+    (λ c κs. (c.requires.0, (c.requires.1.0, (c.requires.1.1.0, c.requires.1.1.1.0))))  -- enter-requires
+    (λ c. search rules)  -- shape_of-facts
+    (λ c. search rules)  -- shape_of-path
     (λ c.
-    let s = c.before.before.before.before.before.before.before.before.before.before in
-    let e = c.before.before.before.before.enter in
-    (e.ensures.0 s.args.count, e.ensures.1)))  -- returns
+    let e = c.enter in
+    (e.ensures.0 c.args.count, e.ensures.1)))  -- returns

@@ -10,27 +10,22 @@ pub root_spec : {M : Type 1} → statement M
 root_spec =
     tie.close
     (tie.spec
-    (λ c κs. search rules)  -- start-requires
-    (λ c κs.
-    let g = c.before.before.before.before in
-    let s = g.before.before.before.before.before in (
-      s.requires.0,
+    (λ c κs. search rules)  -- start-n-requires
+    (λ c κs. (
+      c.requires.0,
       (
-        s.requires.1.0,
+        c.requires.1.0,
         (
-          s.requires.1.1.1,
-          root_opening s.args.rules.now g.start.new.1.0 s.args.path.now g.start.result g.start.ensures,
-          root_fresh s.args.rules.now g.start.new.1.0 s.args.path.now g.start.result g.start.ensures,
+          c.requires.1.1.1,
+          root_opening c.args.rules.now c.start-n.new.r c.args.path.now c.start-n.result c.start-n.ensures,
+          root_fresh c.args.rules.now c.start-n.new.r c.args.path.now c.start-n.result c.start-n.ensures,
         ),
       ),
     ))  -- find-requires
-    (λ c. search rules)  -- same-length
-    (λ c. search rules)  -- same-length-2
-    (λ c.
-    let f = c.before.before.before.before in
-    let g = f.before.before.before.before.before in
-    let s = g.before.before.before.before.before in (
-      root_made (magic_walker s.args.rules.now) g.start.new.1.0 s.args.path.now g.start.result f.find.result f.find.new.1.1.0 f.find.new.1.1.1.0 f.find.ensures.0,
-      f.find.ensures.1,
-      f.find.ensures.0.deepest_is,
+    (λ c. search rules)  -- shape_of-facts
+    (λ c. search rules)  -- shape_of-path
+    (λ c. (
+      root_made (magic_walker c.args.rules.now) c.start-n.new.r c.args.path.now c.start-n.result c.find.result c.find.new.facts c.find.new.path c.find.ensures.0,
+      c.find.ensures.1,
+      c.find.ensures.0.deepest_is,
     )))  -- returns

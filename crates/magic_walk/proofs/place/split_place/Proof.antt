@@ -10,19 +10,14 @@ pub split_place_spec : {M : Type 1} → statement M
 split_place_spec =
     tie.close
     (tie.spec
-    (λ c κs. search rules)  -- values-requires
+    (λ c κs. search rules)  -- values-four-requires
     (λ c κs. search rules)  -- number-requires
     (λ c.
-    let s = c.before.before.before.before in
-    let few = read_few s.args.rules.now s.requires.0 s.args.path.now s.args.depth s.requires.1.1 c.number.result c.number.ensures c.before.values.result c.before.values.ensures in
-    omega arith)  -- cast-place-at
-    (λ c. search rules)  -- slice-aggregate-place-at
+    let few = read_few c.args.rules.now c.requires.0 c.args.path.now c.args.depth c.requires.1.1 c.number.result c.number.ensures c.values-four.result c.values-four.ensures in
+    omega arith)  -- overflow_cast-number
+    (λ c. search rules)  -- slice_bounds-place_at-end
     (λ c κs.
-    let k = c.before in
-    let s = k.before.before.before.before in
-    (s.requires.0, read_applied s.args.rules.now s.requires.0 s.args.path.now s.args.depth s.requires.1.1 k.number.result k.number.ensures k.before.values.result k.before.values.ensures))  -- place-at-requires
+    (c.requires.0, read_applied c.args.rules.now c.requires.0 c.args.path.now c.args.depth c.requires.1.1 c.number.result c.number.ensures c.values-four.result c.values-four.ensures))  -- place_at-requires
     (λ c.
-    let k = c.before.before in
-    let s = k.before.before.before.before in
     c.place_at.ensures
-    ∙ read_place s.args.rules.now s.requires.0 s.args.path.now s.args.depth s.requires.1.1 k.number.result k.number.ensures k.before.values.result k.before.values.ensures))  -- returns
+    ∙ read_place c.args.rules.now c.requires.0 c.args.path.now c.args.depth c.requires.1.1 c.number.result c.number.ensures c.values-four.result c.values-four.ensures))  -- returns

@@ -14,15 +14,13 @@ from_root_spec =
     tie.close
     (tie.spec
     (λ c κs.
-    let s = c.before.before.before.before.before in
-    (s.requires.0, (s.requires.1.0, ((s.requires.1.1.0.reached, s.requires.1.1.1), omega arith))))  -- visit-requires
-    (λ c. search rules)  -- same-length
-    (λ c. search rules)  -- same-length-2
+    (c.requires.0, (c.requires.1.0, ((c.requires.1.1.0.reached, c.requires.1.1.1), omega arith))))  -- visit-requires
+    (λ c. search rules)  -- shape_of-facts
+    (λ c. search rules)  -- shape_of-path
     (λ c.
-    let s = c.before.before.before.before.before.before.before.before.before.before in
-    let a = s.args in
-    let v = c.before.before.before.before.visit in
+    let a = c.args in
+    let v = c.visit in
     let w = magic_walker a.rules.now in
     let r = from_root w (deepest_at a.path.now) a.limit in
-    root_walks w r a.facts.now a.path.now 0 0 v.result v.new.1.1.0 v.new.1.1.1.0 v.ensures.0
-    (v.ensures.1 r refl (start_visiting w a.limit a.facts.now a.path.now a.found s.requires.1.1.0))))  -- returns
+    root_walks w r a.facts.now a.path.now 0 0 v.result v.new.facts v.new.path v.ensures.0
+    (v.ensures.1 r refl (start_visiting w a.limit a.facts.now a.path.now a.found c.requires.1.1.0))))  -- returns

@@ -11,18 +11,16 @@ pub judge_line_spec : {M : Type 1} → statement M
 judge_line_spec =
     tie.close
     (tie.spec
-    (λ c. search rules)  -- slice-aggregate-put-line
-    (λ c κs. search rules)  -- put-line-requires
-    (λ c κs. search rules)  -- powers-requires
-    (λ c. search rules)  -- slice-aggregate-clause
-    (λ c κs. search rules)  -- weight-of-requires
+    (λ c. search rules)  -- slice_bounds-put_line-end
+    (λ c κs. search rules)  -- put_line-requires
+    (λ c κs. search rules)  -- powers-powers-requires
+    (λ c. search rules)  -- slice_bounds-clause-end
+    (λ c κs. search rules)  -- weight_of-requires
     (λ c κs.
-    let s = c.before.before.before.before.before.before.before.before.before.before.before in
-    let a = s.requires.1.0 in
-    let light : c.before.before.weight-of.result ≤ 16384 = omega (arith, c.before.before.weight-of.ensures, weights_small _ s.requires.0) in
-    (c.before.before.before.before.powers.ensures, (line_put _ a.2 a.0 a.1 c.before.before.before.before.before.before.put-line.ensures, (lawful_indexed _ s.requires.0, (omega arith, s.requires.1.1)))))  -- clause-requires
-    (λ c. search rules)  -- same-length
+    let a = c.requires.1.0 in
+    let light : c.weight_of.result ≤ 16384 = omega (arith, c.weight_of.ensures, weights_small _ c.requires.0) in
+    (c.powers-powers.ensures, (line_put _ a.2 a.0 a.1 c.put_line.ensures, (lawful_indexed _ c.requires.0, (omega arith, c.requires.1.1)))))  -- clause-requires
+    (λ c. search rules)  -- shape_of-rec
     (λ c.
-    let s = c.before.before.before.before.before.before.before.before.before.before.before.before.before.before in
-    let a = s.requires.1.0 in
-    judged_put _ a.2 a.0 a.1 c.before.before.before.before.before.before.before.before.before.put-line.ensures _ _ _ _ _ c.before.before.before.before.before.weight-of.ensures c.before.before.clause.ensures))  -- returns
+    let a = c.requires.1.0 in
+    judged_put _ a.2 a.0 a.1 c.put_line.ensures _ _ _ _ _ c.weight_of.ensures c.clause.ensures))  -- returns

@@ -13,29 +13,25 @@ pub judge_next_spec : {M : Type 1} → statement M
 judge_next_spec =
     tie.close
     (tie.spec
-    (λ c. let s = c.before.before.before.before in no_bytes _ _ _ (ap length s.requires.1) c.if1.true)  -- returns
-    (λ c. search rules)  -- shared-slice-read-match
-    (λ c. let s = c.before.before.before.before.before.before in other_kind _ _ _ (ap length s.requires.1) c.match.rest.1)  -- returns-2
-    (λ c. let s = c.before.before.before.before.before.before.before in omega (arith, table_size _ s.requires.0))  -- shared-slice-read-if2
-    (λ c. let s = c.before.before.before.before.before.before.before.before in full_table _ _ _ (ap length s.requires.1) s.requires.0 c.before.before.match.keys1 c.if2.true)  -- returns-3
-    (λ c. let s = c.before.before.before.before.before.before.before.before.before.before in sym (length-take-le 35 s.args.frame.now (omega arith)))  -- slice-aggregate-judge-line
+    (λ c. no_bytes _ _ _ (ap length c.requires.1) c.if-frame-eq0.true)  -- returns-then-frame-eq0
+    (λ c. search rules)  -- bounds-frame-0
+    (λ c. other_kind _ _ _ (ap length c.requires.1) c.in_default.in_default-own.rest.1)  -- returns-in_default
+    (λ c. omega (arith, table_size _ c.requires.0))  -- bounds-table-2
+    (λ c. full_table _ _ _ (ap length c.requires.1) c.requires.0 c.in-3.is c.if-table-eq64.true)  -- returns-then-table-eq64
+    (λ c. sym (length-take-le 35 c.args.frame.now (omega arith)))  -- slice_bounds-judge_line-end
     (λ c κs.
-    let s = c.before.before.before.before.before.before.before.before.before.before.before in
-    let f = s.args.frame.now in
+    let f = c.args.frame.now in
     let long : length (take 35 f) ≡ 35 = length-take-le 35 f (omega arith) in
-    (s.requires.0, ((omega arith, omega arith, front_bytes 35 f (all_bytes f (λ i. (c.before.before.before.before.before.before.shared-slice-known3.given i).fits))), s.requires.1)))  -- judge-line-requires
-    (λ c κs. search rules)  -- past-line-requires
-    (λ c. search rules)  -- same-length
+    (c.requires.0, ((omega arith, omega arith, front_bytes 35 f (all_bytes f (λ i. (c.shared_slice_known-3-1.given i).fits))), c.requires.1)))  -- judge_line-requires
+    (λ c κs. search rules)  -- past_line-requires
+    (λ c. search rules)  -- shape_of-rec-then-frame-gt35
     (λ c.
-    let s = c.before.before.before.before.before.before.before.before.before.before.before.before.before.before.before in
-    let judged = c.before.before.before.judge-line.ensures in
-    next_past _ _ _ judged.size s.requires.0 c.before.before.before.before.before.before.before.before.before.match.keys1 c.before.before.before.before.before.before.before.if2.false _ _ c.before.before.before.before.before.before.if3.true judged c.past-line.ensures)  -- returns-4
+    let judged = c.judge_line.ensures in
+    next_past _ _ _ judged.size c.requires.0 c.in-3.is c.if-table-eq64.false _ _ c.if-frame-gt35.true judged c.past_line.ensures)  -- returns-then-frame-gt35
     (λ c κs.
-    let s = c.before.before.before.before.before.before.before.before.before.before in
-    let f = s.args.frame.now in
-    (s.requires.0, ((omega arith, omega arith, all_bytes f (λ i. (c.before.before.before.before.before.shared-slice-known3.given i).fits)), s.requires.1)))  -- judge-line-requires-2
-    (λ c. search rules)  -- same-length-2
+    let f = c.args.frame.now in
+    (c.requires.0, ((omega arith, omega arith, all_bytes f (λ i. (c.shared_slice_known-3-1.given i).fits)), c.requires.1)))  -- judge_line-requires-2
+    (λ c. search rules)  -- shape_of-rec
     (λ c.
-    let s = c.before.before.before.before.before.before.before.before.before.before.before.before.before in
-    let judged = c.before.before.judge-line2.ensures in
-    next_filled _ _ _ judged.size s.requires.0 c.before.before.before.before.before.before.before.match.keys1 c.before.before.before.before.before.if2.false _ judged))  -- returns-5
+    let judged = c.judge_line-2.ensures in
+    next_filled _ _ _ judged.size c.requires.0 c.in-3.is c.if-table-eq64.false _ judged))  -- returns

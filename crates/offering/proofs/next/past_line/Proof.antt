@@ -8,9 +8,9 @@ pub past_line_spec : {M : Type 1} → statement M
 past_line_spec =
     tie.close
     (tie.spec
-    (λ c. search rules)  -- enum-known-judged
-    (λ c. past_kept _ _ c.before.before.before.judged.given.1 c.before.if1.true c.if2.true)  -- returns
-    (λ c. search rules)  -- enum_told
-    (λ c. past_high _ _ c.before.before.before.judged.given.1 c.if2.false)  -- returns-2
-    (λ c. past_low _ _ c.before.before.judged.given.1 c.if1.false)  -- returns-3
-    (λ c. past_found _ _ c.enum_told.given.1))  -- returns-4
+    (λ c. search rules)  -- enum_known-judged
+    (λ c. past_kept _ _ c.in-Fault.is c.if-e-ge5.true c.if-e-le7.true)  -- returns-then-e-le7
+    (λ c. search rules)  -- enum_told-1
+    (λ c. past_high _ _ c.in-Fault.is c.if-e-le7.false)  -- returns-else-e-le7
+    (λ c. past_low _ _ c.in-Fault.is c.if-e-ge5.false)  -- returns-else-e-ge5
+    (λ c. past_found _ _ c.in-Found.is))  -- returns-in-Found

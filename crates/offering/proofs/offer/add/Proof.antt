@@ -8,19 +8,17 @@ pub add_spec : {M : Type 1} → statement M
 add_spec =
     tie.close
     (tie.spec
-    (λ c. search rules)  -- slice-aggregate-judge-next
-    (λ c κs. search rules)  -- judge-next-requires
-    (λ c. search rules)  -- enum-known-judged
-    (λ c. search rules)  -- enum_told
-    (λ c. search rules)  -- slice-aggregate-append
+    (λ c. search rules)  -- slice_bounds-judge_next-end
+    (λ c κs. search rules)  -- judge_next-judged-requires
+    (λ c. search rules)  -- enum_known-judged
+    (λ c. search rules)  -- enum_told-1
+    (λ c. search rules)  -- slice_bounds-append-end
     (λ c κs.
-    let s = c.before.before.before.before.before.before.before.before.before.before in
-    let judged = c.before.before.before.before.before.judge-next.ensures in
-    (s.requires, (add_room _ _ s.requires _ judged.judged _ c.before.before.enum_told.given.1, judged.size)))  -- append-requires
-    (λ c. search rules)  -- same-length
-    (λ c. let s = c.before.before.before.before.before.before.before.before.before in add_fault _ _ s.requires _ c.before.before.before.before.judge-next.ensures.judged _ c.before.judged.given.1)  -- returns
-    (λ c. search rules)  -- same-length-2
+    let judged = c.judge_next-judged.ensures in
+    (c.requires, (add_room _ _ c.requires _ judged.judged _ c.in-Found.is, judged.size)))  -- append-requires
+    (λ c. search rules)  -- shape_of-table-in-Fault
+    (λ c. add_fault _ _ c.requires _ c.judge_next-judged.ensures.judged _ c.in-Fault.is)  -- returns-in-Fault
+    (λ c. search rules)  -- shape_of-table-in-Found
     (λ c.
-    let s = c.before.before.before.before.before.before.before.before.before.before.before.before.before in
-    let judged = c.before.before.before.before.before.before.before.before.judge-next.ensures in
-    add_done _ _ s.requires _ judged.judged _ c.before.before.before.before.before.enum_told.given.1 _ _ judged c.before.before.append.ensures))  -- returns-2
+    let judged = c.judge_next-judged.ensures in
+    add_done _ _ c.requires _ judged.judged _ c.in-Found.is _ _ judged c.append.ensures))  -- returns-in-Found

@@ -12,23 +12,21 @@ pub fill_spec : {M : Type 1} → statement M
 fill_spec =
     tie.close
     (tie.spec
-    (λ c. search rules)  -- slice-relend-prefix-zero
-    (λ c. let s = c.before.before.before in sym (length-take-le 37 s.args.slip.now s.requires.0))  -- slice-aggregate-zero
+    (λ c. search rules)  -- slice_bounds-zero-end
+    (λ c. sym (length-take-le 37 c.args.slip.now c.requires.0))  -- slice_bounds-zero-end-2
     (λ c κs. search rules)  -- zero-requires
-    (λ c. search rules)  -- slice-write-slip
-    (λ c. search rules)  -- cast-slip
-    (λ c. let s = c.before.before.before.before.before.before in simp length-set (omega (arith, blank_room s.args.slip.now c.before.before.zero.new.0 s.requires.0 c.before.before.zero.ensures)))  -- slice-write-slip-2
-    (λ c. search rules)  -- sub-copy
-    (λ c. search rules)  -- part-copy-start
-    (λ c. let s = c.before.before.before.before.before.before in simp length-set (omega (arith, blank_room s.args.slip.now c.before.before.zero.new.0 s.requires.0 c.before.before.zero.ensures)))  -- part-copy-end
+    (λ c. search rules)  -- bounds-slip-0
+    (λ c. search rules)  -- overflow_cast-slip
+    (λ c. simp length-set (omega (arith, blank_room c.args.slip.now c.zero.new.dst c.requires.0 c.zero.ensures)))  -- bounds-slip-1
+    (λ c. search rules)  -- slice_bounds-copy-count
+    (λ c. search rules)  -- slice_bounds-copy-start
+    (λ c. simp length-set (omega (arith, blank_room c.args.slip.now c.zero.new.dst c.requires.0 c.zero.ensures)))  -- slice_bounds-copy-end
     (λ c κs. search rules)  -- copy-requires
     (λ c.
-    let s = c.before.before.before.before.before.before.before.before.before.before in
-    let zero = c.before.before.before.before.before.before.zero in
-    let copy = c.before.before.copy in
-    slip_kept s.args.slip.now zero.new.0 s.requires.0 zero.ensures s.args.frame.now copy.new.0 s.args.count s.requires.1 copy.ensures)  -- same-length
+    let zero = c.zero in
+    let copy = c.copy in
+    slip_kept c.args.slip.now zero.new.dst c.requires.0 zero.ensures c.args.frame.now copy.new.dst c.args.count c.requires.1 copy.ensures)  -- shape_of-slip
     (λ c.
-    let s = c.before.before.before.before.before.before.before.before.before.before in
-    let zero = c.before.before.before.before.before.before.zero in
-    let copy = c.before.before.copy in
-    slip_filled s.args.slip.now zero.new.0 s.requires.0 zero.ensures s.args.frame.now copy.new.0 s.args.count s.requires.1 copy.ensures))  -- returns
+    let zero = c.zero in
+    let copy = c.copy in
+    slip_filled c.args.slip.now zero.new.dst c.requires.0 zero.ensures c.args.frame.now copy.new.dst c.args.count c.requires.1 copy.ensures))  -- returns

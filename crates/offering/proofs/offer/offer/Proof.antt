@@ -11,37 +11,31 @@ pub offer_spec : {M : Type 1} → statement M
 offer_spec =
     tie.close
     (tie.spec
-    (λ c κs. search rules)  -- refusal-requires
-    (λ c. let s = c.before.before.before.before.before in offer_refused s.args.table.now s.args.frame.now s.args.slip.now _ c.before.refusal.ensures (omega arith))  -- returns
+    (λ c κs. search rules)  -- refusal-e-requires
+    (λ c. offer_refused c.args.table.now c.args.frame.now c.args.slip.now _ c.refusal-e.ensures (omega arith))  -- returns-then-e-ne0
     (λ c.
-    let s = c.before.before.before.before.before.before in
-    let tb = s.args.table.now in
-    let refusal = c.before.before.refusal.ensures in sym (length-take-le 4096 tb (lent tb s.args.frame.now s.args.slip.now _ refusal c.before.if1.false).long))  -- slice-aggregate-own
-    (λ c. search rules)  -- slice-aggregate-judge-next
+    let tb = c.args.table.now in
+    let refusal = c.refusal-e.ensures in sym (length-take-le 4096 tb (lent tb c.args.frame.now c.args.slip.now _ refusal c.if-e-ne0.false).long))  -- slice_bounds-own-end
+    (λ c. search rules)  -- slice_bounds-judge_next-end
     (λ c κs.
-    let s = c.before.before.before.before.before.before.before in
-    let tb = s.args.table.now in
-    let refusal = c.before.before.before.refusal.ensures in (own_lawful tb s.args.slip.now (lent tb s.args.frame.now s.args.slip.now _ refusal c.before.before.if1.false), refl))  -- judge-next-requires
-    (λ c. search rules)  -- enum-known-judged
-    (λ c. search rules)  -- enum_told
+    let tb = c.args.table.now in
+    let refusal = c.refusal-e.ensures in (own_lawful tb c.args.slip.now (lent tb c.args.frame.now c.args.slip.now _ refusal c.if-e-ne0.false), refl))  -- judge_next-judged-requires
+    (λ c. search rules)  -- enum_known-judged
+    (λ c. search rules)  -- enum_told-1
     (λ c.
-    let s = c.before.before.before.before.before.before.before.before.before.before.before.before.before in
-    let tb = s.args.table.now in
-    let refusal = c.before.before.before.before.before.before.before.before.before.refusal.ensures in omega (arith, length-take-le 4096 tb (lent tb s.args.frame.now s.args.slip.now _ refusal c.before.before.before.before.before.before.before.before.if1.false).long))  -- shared-slice-read-fill
+    let tb = c.args.table.now in
+    let refusal = c.refusal-e.ensures in omega (arith, length-take-le 4096 tb (lent tb c.args.frame.now c.args.slip.now _ refusal c.if-e-ne0.false).long))  -- bounds-own-2
     (λ c κs.
-    let s = c.before.before.before.before.before.before.before.before.before.before.before.before.before in
-    let tb = s.args.table.now in
-    let refusal = c.before.before.before.before.before.before.before.before.before.refusal.ensures in
-    let judged = c.before.before.before.before.before.judge-next.ensures.judged in
-    (slip_room tb s.args.slip.now (lent tb s.args.frame.now s.args.slip.now _ refusal c.before.before.before.before.before.before.before.before.if1.false), offer_short tb s.args.frame.now s.args.slip.now _ refusal c.before.before.before.before.before.before.before.before.if1.false _ judged _ c.before.before.enum_told.given.1))  -- fill-requires
+    let tb = c.args.table.now in
+    let refusal = c.refusal-e.ensures in
+    let judged = c.judge_next-judged.ensures.judged in
+    (slip_room tb c.args.slip.now (lent tb c.args.frame.now c.args.slip.now _ refusal c.if-e-ne0.false), offer_short tb c.args.frame.now c.args.slip.now _ refusal c.if-e-ne0.false _ judged _ c.in-Found.is))  -- fill-requires
     (λ c.
-    let s = c.before.before.before.before.before.before.before.before.before.before.before.before in
-    let tb = s.args.table.now in
-    let refusal = c.before.before.before.before.before.before.before.before.refusal.ensures in
-    offer_fault tb s.args.frame.now s.args.slip.now _ refusal c.before.before.before.before.before.before.before.if1.false _ c.before.before.before.before.judge-next.ensures.judged _ c.before.judged.given.1)  -- returns-2
-    (λ c. search rules)  -- same-length
+    let tb = c.args.table.now in
+    let refusal = c.refusal-e.ensures in
+    offer_fault tb c.args.frame.now c.args.slip.now _ refusal c.if-e-ne0.false _ c.judge_next-judged.ensures.judged _ c.in-Fault.is)  -- returns-in-Fault
+    (λ c. search rules)  -- shape_of-slip
     (λ c.
-    let s = c.before.before.before.before.before.before.before.before.before.before.before.before.before.before.before.before in
-    let tb = s.args.table.now in
-    let refusal = c.before.before.before.before.before.before.before.before.before.before.before.before.refusal.ensures in
-    offer_done tb s.args.frame.now s.args.slip.now _ refusal c.before.before.before.before.before.before.before.before.before.before.before.if1.false _ c.before.before.before.before.before.before.before.before.judge-next.ensures.judged _ _ c.before.before.before.before.before.enum_told.given.1 c.before.before.fill.ensures))  -- returns-3
+    let tb = c.args.table.now in
+    let refusal = c.refusal-e.ensures in
+    offer_done tb c.args.frame.now c.args.slip.now _ refusal c.if-e-ne0.false _ c.judge_next-judged.ensures.judged _ _ c.in-Found.is c.fill.ensures))  -- returns-in-Found

@@ -14,73 +14,62 @@ pub set_spec : {M : Type 1} → statement M
 set_spec =
     tie.close
     (tie.spec
-    (λ c κs. search rules)  -- refusal-requires
-    (λ c. search rules)  -- same-length
-    (λ c. let s = c.before.before.before.before.before in set_refused s.args.table.now s.args.slip.now _ c.before.refusal.ensures (omega arith))  -- returns
+    (λ c κs. search rules)  -- refusal-e-requires
+    (λ c. search rules)  -- shape_of-table-then-e-ne0
+    (λ c. set_refused c.args.table.now c.args.slip.now _ c.refusal-e.ensures (omega arith))  -- returns-then-e-ne0
     (λ c.
-    let s = c.before.before.before.before.before.before in
-    let tb = s.args.table.now in
-    let slip = s.args.slip.now in
-    let refusal = c.before.before.refusal.ensures in omega (arith, slip_room tb slip (set_lent tb slip _ refusal c.before.if1.false)))  -- shared-slice-read-if2
+    let tb = c.args.table.now in
+    let slip = c.args.slip.now in
+    let refusal = c.refusal-e.ensures in omega (arith, slip_room tb slip (set_lent tb slip _ refusal c.if-e-ne0.false)))  -- bounds-slip-0
     (λ c.
-    let s = c.before.before.before.before.before.before.before in
-    let tb = s.args.table.now in
-    let slip = s.args.slip.now in
-    let refusal = c.before.before.before.refusal.ensures in omega (arith, (set_lent tb slip _ refusal c.before.before.if1.false).long))  -- slice-read-if2
-    (λ c. search rules)  -- same-length-2
+    let tb = c.args.table.now in
+    let slip = c.args.slip.now in
+    let refusal = c.refusal-e.ensures in omega (arith, (set_lent tb slip _ refusal c.if-e-ne0.false).long))  -- bounds-table-2
+    (λ c. search rules)  -- shape_of-table-then-slip-table
     (λ c.
-    let s = c.before.before.before.before.before.before.before.before in
-    let tb = s.args.table.now in
-    let slip = s.args.slip.now in
-    let refusal = c.before.before.before.before.refusal.ensures in set_stale tb slip _ refusal c.before.before.before.if1.false c.if2.true)  -- returns-2
+    let tb = c.args.table.now in
+    let slip = c.args.slip.now in
+    let refusal = c.refusal-e.ensures in set_stale tb slip _ refusal c.if-e-ne0.false c.if-slip-table.true)  -- returns-then-slip-table
     (λ c.
-    let s = c.before.before.before.before.before.before.before.before.before in
-    let tb = s.args.table.now in
-    let slip = s.args.slip.now in
-    let refusal = c.before.before.before.before.before.refusal.ensures in omega (arith, slip_room tb slip (set_lent tb slip _ refusal c.before.before.before.before.if1.false)))  -- shared-slice-read-if3
-    (λ c. search rules)  -- same-length-3
+    let tb = c.args.table.now in
+    let slip = c.args.slip.now in
+    let refusal = c.refusal-e.ensures in omega (arith, slip_room tb slip (set_lent tb slip _ refusal c.if-e-ne0.false)))  -- bounds-slip-1
+    (λ c. search rules)  -- shape_of-table-then-slip-gt35
     (λ c.
-    let s = c.before.before.before.before.before.before.before.before.before.before in
-    let tb = s.args.table.now in
-    let slip = s.args.slip.now in
-    let refusal = c.before.before.before.before.before.before.refusal.ensures in set_long tb slip _ refusal c.before.before.before.before.before.if1.false c.before.before.if2.false c.if3.true)  -- returns-3
+    let tb = c.args.table.now in
+    let slip = c.args.slip.now in
+    let refusal = c.refusal-e.ensures in set_long tb slip _ refusal c.if-e-ne0.false c.if-slip-table.false c.if-slip-gt35.true)  -- returns-then-slip-gt35
     (λ c.
-    let s = c.before.before.before.before.before.before.before.before.before.before.before in
-    let tb = s.args.table.now in
-    let slip = s.args.slip.now in
-    let refusal = c.before.before.before.before.before.before.before.refusal.ensures in omega (arith, slip_room tb slip (set_lent tb slip _ refusal c.before.before.before.before.before.before.if1.false)))  -- shared-slice-read-end
-    (λ c. search rules)  -- cast-end
-    (λ c. search rules)  -- add-end
+    let tb = c.args.table.now in
+    let slip = c.args.slip.now in
+    let refusal = c.refusal-e.ensures in omega (arith, slip_room tb slip (set_lent tb slip _ refusal c.if-e-ne0.false)))  -- bounds-slip-1-2
+    (λ c. search rules)  -- overflow_cast-end
+    (λ c. search rules)  -- overflow_add-end
     (λ c.
-    let s = c.before.before.before.before.before.before.before.before.before.before.before in
-    let tb = s.args.table.now in
-    let slip = s.args.slip.now in
-    let refusal = c.before.before.before.before.before.before.before.refusal.ensures in (set_lent tb slip _ refusal c.before.before.before.before.before.before.if1.false).long)  -- slice-relend-prefix-add
+    let tb = c.args.table.now in
+    let slip = c.args.slip.now in
+    let refusal = c.refusal-e.ensures in (set_lent tb slip _ refusal c.if-e-ne0.false).long)  -- slice_bounds-add-end
     (λ c.
-    let s = c.before.before.before.before.before.before.before.before.before.before.before.before in
-    let tb = s.args.table.now in
-    let slip = s.args.slip.now in
-    let refusal = c.before.before.before.before.before.before.before.before.refusal.ensures in sym (length-take-le 4096 tb (set_lent tb slip _ refusal c.before.before.before.before.before.before.before.if1.false).long))  -- slice-aggregate-add
-    (λ c. search rules)  -- sub-add
-    (λ c. search rules)  -- part-add-start
+    let tb = c.args.table.now in
+    let slip = c.args.slip.now in
+    let refusal = c.refusal-e.ensures in sym (length-take-le 4096 tb (set_lent tb slip _ refusal c.if-e-ne0.false).long))  -- slice_bounds-add-end-2
+    (λ c. search rules)  -- slice_bounds-add-count
+    (λ c. search rules)  -- slice_bounds-add-start
     (λ c.
-    let s = c.before.before.before.before.before.before.before.before.before.before.before.before in
-    let tb = s.args.table.now in
-    let slip = s.args.slip.now in
-    let refusal = c.before.before.before.before.before.before.before.before.refusal.ensures in omega (arith, slip_room tb slip (set_lent tb slip _ refusal c.before.before.before.before.before.before.before.if1.false)))  -- part-add-end
+    let tb = c.args.table.now in
+    let slip = c.args.slip.now in
+    let refusal = c.refusal-e.ensures in omega (arith, slip_room tb slip (set_lent tb slip _ refusal c.if-e-ne0.false)))  -- slice_bounds-add-end-3
     (λ c κs.
-    let s = c.before.before.before.before.before.before.before.before.before.before.before.before.before in
-    let tb = s.args.table.now in
-    let slip = s.args.slip.now in
-    let refusal = c.before.before.before.before.before.before.before.before.before.refusal.ensures in own_lawful tb slip (set_lent tb slip _ refusal c.before.before.before.before.before.before.before.before.if1.false))  -- add-requires
-    (λ c. search rules)  -- same-length-4
+    let tb = c.args.table.now in
+    let slip = c.args.slip.now in
+    let refusal = c.refusal-e.ensures in own_lawful tb slip (set_lent tb slip _ refusal c.if-e-ne0.false))  -- add-requires
+    (λ c. search rules)  -- shape_of-table
     (λ c.
-    let s = c.before.before.before.before.before.before.before.before.before.before.before.before.before.before.before.before in
-    let tb = s.args.table.now in
-    let slip = s.args.slip.now in
-    let refusal = c.before.before.before.before.before.before.before.before.before.before.before.before.refusal.ensures in
+    let tb = c.args.table.now in
+    let slip = c.args.slip.now in
+    let refusal = c.refusal-e.ensures in
     let n : ℕ = get_or slip 1 0 in
     let whole : 2 + n - 2 ≡ n = omega arith in
-    let add = c.before.before.add in
-    set_added tb slip _ refusal c.before.before.before.before.before.before.before.before.before.before.before.if1.false c.before.before.before.before.before.before.before.before.if2.false (omega arith) _ _
-    (subst (λ (m : ℕ). Added (take 4096 tb) (take m (drop 2 slip)) add.result add.new.0) whole add.ensures)))  -- returns-4
+    let add = c.add in
+    set_added tb slip _ refusal c.if-e-ne0.false c.if-slip-table.false (omega arith) _ _
+    (subst (λ (m : ℕ). Added (take 4096 tb) (take m (drop 2 slip)) add.result add.new.table) whole add.ensures)))  -- returns

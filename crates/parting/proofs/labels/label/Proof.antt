@@ -12,10 +12,10 @@ use Rattle.parting.proofs.MergeLaws.{labels_start, clauses_more}
 use Rattle.parting.proofs.labels.label.Statement.{statement}
 use Rattle.parting.proofs.labels.label.Tie as tie
 
-abbrev invariant-loop : tie.invariant-loop
+abbrev invariant-loop : tie.invariant-loop-k
 invariant-loop table labels₀ k₀ labels k = (k ≤ get_or table 2 0) × (labels ≡ labels_upto table k) × (length labels ≡ 33)
 
-abbrev decreases-loop : tie.decreases-loop
+abbrev decreases-loop : tie.decreases-loop-k
 decreases-loop table labels₀ k₀ labels k = get_or table 2 0 - k
 
 pub label_spec : {M : Type 1} → statement M
@@ -25,20 +25,19 @@ label_spec =
     invariant-loop
     decreases-loop
     (λ c κs. search rules)  -- number-requires
-    (λ c. (omega arith, c.before.before.number.ensures ∙ labels_start c.before.before.before.before.before.before.args.table.now, c.before.before.number.auto.0 ∙ c.before.before.before.before.before.before.requires.1))  -- loop-holds
-    (λ c. let s = c.before.before.before.before.before.before.before.before in omega (arith, table_size s.args.table.now s.requires.0))  -- shared-slice-read-if1
-    (λ c κs. let s = c.before.before.before.before.before.before.before.before.before.before in (s.requires.0, (clause_listed s.args.table.now s.requires.0 c.before.before.before.loop.k c.before.if1.true, c.before.before.before.loop.invariant.2)))  -- merge-clause-requires
-    (λ c. let s = c.before.before.before.before.before.before.before.before.before.before.before.before.before in omega (arith, c.before.before.before.before.if1.true, clauses_byte s.args.table.now s.requires.0, s.requires.0.fits.clauses_fit))  -- add-k
-    (λ c. omega (arith, c.before.before.before.before.if1.true))  -- loop-less
+    (λ c. (omega arith, c.number.ensures ∙ labels_start c.args.table.now, c.number.auto.labels ∙ c.requires.1))  -- loop-k-init
+    (λ c. omega (arith, table_size c.args.table.now c.requires.0))  -- bounds-table-2
+    (λ c κs. (c.requires.0, (clause_listed c.args.table.now c.requires.0 c.loop-k.k c.loop-k-test.true, c.loop-k.invariant.2)))  -- merge_clause-requires
+    (λ c. omega (arith, c.loop-k-test.true, clauses_byte c.args.table.now c.requires.0, c.requires.0.fits.clauses_fit))  -- overflow_add-k
+    (λ c. omega (arith, c.loop-k-test.true))  -- loop-k-smaller
     (λ c.
-    let s = c.before.before.before.before.before.before.before.before.before.before.before.before.before in
-    let l = c.before.before.before.before.before.before.loop in
-    let tb : List ℕ = s.args.table.now in
-    let now : c.before.before.merge-clause.new.1.1.0 ≡ labels_upto tb (l.k + 1) = c.before.before.merge-clause.ensures ∙ ap (merged_clause tb l.k) l.invariant.1 ∙ clauses_more tb l.k in
-    (omega (arith, c.before.before.before.before.if1.true), now, c.before.before.merge-clause.auto.1.1.0 ∙ l.invariant.2))  -- loop-again
-    (λ c. c.before.before.loop.invariant.2 ∙ sym c.before.before.before.before.before.before.before.before.before.requires.1)  -- same-length
+    let l = c.loop-k in
+    let tb : List ℕ = c.args.table.now in
+    let now : c.merge_clause.new.labels ≡ labels_upto tb (l.k + 1) = c.merge_clause.ensures ∙ ap (merged_clause tb l.k) l.invariant.1 ∙ clauses_more tb l.k in
+    (omega (arith, c.loop-k-test.true), now, c.merge_clause.auto.labels ∙ l.invariant.2))  -- loop-k-preserved
+    (λ c. c.loop-k.invariant.2 ∙ sym c.requires.1)  -- shape_of-labels
     (λ c.
-    let tb : List ℕ = c.before.before.before.before.before.before.before.before.before.args.table.now in
-    let l = c.before.before.loop in
-    let all : l.k ≡ get_or tb 2 0 = omega (arith, l.invariant.0, c.if1.false) in
+    let tb : List ℕ = c.args.table.now in
+    let l = c.loop-k in
+    let all : l.k ≡ get_or tb 2 0 = omega (arith, l.invariant.0, c.loop-k-test.false) in
     l.invariant.1 ∙ ap (labels_upto tb) all))  -- returns

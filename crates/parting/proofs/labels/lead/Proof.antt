@@ -22,15 +22,15 @@ pub lead_spec : {M : Type 1} → statement M
 lead_spec =
     tie.close
     (tie.spec
-    (λ c. search rules)  -- mul-at
-    (λ c. search rules)  -- add-at
-    (λ c. let s = c.before in omega (arith, room s))  -- shared-slice-read-if1
-    (λ c. search rules)  -- add-result
-    (λ c. let s = c.before.before.before in omega (arith, room s))  -- shared-slice-read-result
-    (λ c. let s = c.before.before.before in small s _ (rw (lt-ltb 0 _ c.before.if1.true)))  -- returns
-    (λ c. search rules)  -- add-if2
-    (λ c. let s = c.before.before.before in omega (arith, room s))  -- shared-slice-read-if2
-    (λ c. search rules)  -- add-result-2
-    (λ c. let s = c.before.before.before.before.before in omega (arith, room s))  -- shared-slice-read-result-2
-    (λ c. let s = c.before.before.before.before.before in small s _ (rw (le-ltb 0 _ c.before.before.before.if1.false, lt-ltb 0 _ c.before.if2.true)))  -- returns-2
-    (λ c. let s = c.before.before.before.before in small s _ (rw (le-ltb 0 _ c.before.before.if1.false, le-ltb 0 _ c.if2.false))))  -- returns-3
+    (λ c. search rules)  -- overflow_mul-at
+    (λ c. search rules)  -- overflow_add-at
+    (λ c. omega (arith, room c.before))  -- bounds-table-at
+    (λ c. search rules)  -- overflow_add-result
+    (λ c. omega (arith, room c.before.before.before))  -- bounds-table-at-then-table-at-gt0
+    (λ c. small c.before.before.before _ (rw (lt-ltb 0 _ c.if-table-at-gt0.true)))  -- returns-then-table-at-gt0
+    (λ c. search rules)  -- overflow_add-at-2
+    (λ c. omega (arith, room c.before.before.before))  -- bounds-table-at-2
+    (λ c. search rules)  -- overflow_add-result-then-table-at-gt0-2
+    (λ c. omega (arith, room c.before.before.before.before.before))  -- bounds-table-at-then-table-at-gt0-2
+    (λ c. small c.before.before.before.before.before _ (rw (le-ltb 0 _ c.if-table-at-gt0.false, lt-ltb 0 _ c.if-table-at-gt0-2.true)))  -- returns-then-table-at-gt0-2
+    (λ c. small c.before.before.before.before _ (rw (le-ltb 0 _ c.if-table-at-gt0.false, le-ltb 0 _ c.if-table-at-gt0-2.false))))  -- returns

@@ -9,11 +9,11 @@ pub merge_spec : {M : Type 1} → statement M
 merge_spec =
     tie.close
     (tie.spec
-    (λ c. search rules)  -- slice-read-a
-    (λ c. search rules)  -- slice-read-b
+    (λ c. search rules)  -- bounds-labels-p
+    (λ c. search rules)  -- bounds-labels-r
     (λ c κs. search rules)  -- rename-requires
-    (λ c. search rules)  -- same-length
-    (λ c. let a = c.before.before.before.before.before.before.before.before.args in c.before.before.rename.ensures ∙ merged_first a.p a.r a.labels.now c.before.before.before.before.if1.true)  -- returns
+    (λ c. search rules)  -- shape_of-labels-then-a-b
+    (λ c. let a = c.args in c.rename.ensures ∙ merged_first a.p a.r a.labels.now c.if-a-b.true)  -- returns-then-a-b
     (λ c κs. search rules)  -- rename-requires-2
-    (λ c. search rules)  -- same-length-2
-    (λ c. let a = c.before.before.before.before.before.before.before.before.args in c.before.before.rename2.ensures ∙ merged_second a.p a.r a.labels.now c.before.before.before.before.if1.false))  -- returns-2
+    (λ c. search rules)  -- shape_of-labels
+    (λ c. let a = c.args in c.rename-2.ensures ∙ merged_second a.p a.r a.labels.now c.if-a-b.false))  -- returns

@@ -19,27 +19,25 @@ pub merge_clause_spec : {M : Type 1} → statement M
 merge_clause_spec =
     tie.close
     (tie.spec
-    (λ c. search rules)  -- mul-at
-    (λ c. search rules)  -- add-at
-    (λ c κs. search rules)  -- lead-requires
-    (λ c. search rules)  -- add-merge-slots
-    (λ c. let r = room (c.before.before.before.before) in omega (arith, r.size, r.few))  -- shared-slice-read-merge-slots
+    (λ c. search rules)  -- overflow_mul-at
+    (λ c. search rules)  -- overflow_add-at
+    (λ c κs. search rules)  -- lead-p-requires
+    (λ c. search rules)  -- overflow_add-at-2
+    (λ c. let r = room c.before.before.before.before in omega (arith, r.size, r.few))  -- bounds-table-at
     (λ c κs.
-    let s = c.before.before.before.before.before in
-    let r = room s in
-    ((omega (arith, r.size, r.few, r.few_conds), s.requires.1.1, c.before.before.lead.ensures.1), r.conds_small))  -- merge-slots-requires
-    (λ c. search rules)  -- add-merge-slots-2
-    (λ c. search rules)  -- add-merge-slots-3
-    (λ c. let r = room (c.before.before.before.before.before.before.before.before.before) in omega (arith, r.size, r.few))  -- shared-slice-read-merge-slots-2
+    let r = room c.before.before.before.before.before in
+    ((omega (arith, r.size, r.few, r.few_conds), c.requires.1.1, c.lead-p.ensures.1), r.conds_small))  -- merge_slots-requires
+    (λ c. search rules)  -- overflow_add-at-3
+    (λ c. search rules)  -- overflow_add-at-4
+    (λ c. let r = room c.before.before.before.before.before.before.before.before.before in omega (arith, r.size, r.few))  -- bounds-table-at-2
     (λ c κs.
-    let s = c.before.before.before.before.before.before.before.before.before.before in
-    let r = room s in
-    let first : length c.before.before.before.before.merge-slots.new.1.1.1.1.0 ≡ 33 = c.before.before.before.before.merge-slots.auto.1.1.1.1.0 ∙ s.requires.1.1 in
-    ((omega (arith, r.size, r.few, r.few_alts), first, c.before.before.before.before.before.before.before.lead.ensures.1), r.alts_small))  -- merge-slots-requires-2
-    (λ c. search rules)  -- same-length
+    let r = room c.before.before.before.before.before.before.before.before.before.before in
+    let first : length c.merge_slots.new.labels ≡ 33 = c.merge_slots.auto.labels ∙ c.requires.1.1 in
+    ((omega (arith, r.size, r.few, r.few_alts), first, c.lead-p.ensures.1), r.alts_small))  -- merge_slots-requires-2
+    (λ c. search rules)  -- shape_of-labels
     (λ c.
-    let a = c.before.before.before.before.before.before.before.before.before.before.before.before.before.args in
-    let e : c.before.before.before.before.before.before.before.before.before.before.lead.result ≡ lead_at a.table.now a.k = c.before.before.before.before.before.before.before.before.before.before.lead.ensures.0 in
-    c.before.before.merge-slots2.ensures
-    ∙ ap (λ (ls : List ℕ). merged_slots a.table.now (clause_at a.k + 32) c.before.before.before.before.before.before.before.before.before.before.lead.result (get_or a.table.now (clause_at a.k + 1) 0) ls) c.before.before.before.before.before.before.before.merge-slots.ensures
+    let a = c.args in
+    let e : c.lead-p.result ≡ lead_at a.table.now a.k = c.lead-p.ensures.0 in
+    c.merge_slots-2.ensures
+    ∙ ap (λ (ls : List ℕ). merged_slots a.table.now (clause_at a.k + 32) c.lead-p.result (get_or a.table.now (clause_at a.k + 1) 0) ls) c.merge_slots.ensures
     ∙ ap (λ (p : ℕ). merged_slots a.table.now (clause_at a.k + 32) p (get_or a.table.now (clause_at a.k + 1) 0) (merged_slots a.table.now (clause_at a.k + 8) p (get_or a.table.now (clause_at a.k) 0) a.labels.now)) e))  -- returns

@@ -9,10 +9,10 @@ use Rattle.parting.proofs.LoopLaws.{filled, filled_more, filled_all}
 use Rattle.parting.proofs.labels.number.Statement.{statement}
 use Rattle.parting.proofs.labels.number.Tie as tie
 
-abbrev invariant-loop : tie.invariant-loop
+abbrev invariant-loop : tie.invariant-loop-p
 invariant-loop labels₀ p₀ labels p = (p ≤ 33) × (labels ≡ filled (λ a. a) labels₀ p) × (length labels ≡ length labels₀)
 
-abbrev decreases-loop : tie.decreases-loop
+abbrev decreases-loop : tie.decreases-loop-p
 decreases-loop labels₀ p₀ labels p = 33 - p
 
 pub number_spec : {M : Type 1} → statement M
@@ -21,21 +21,20 @@ number_spec =
     (tie.spec
     invariant-loop
     decreases-loop
-    (λ c. (omega arith, refl, refl))  -- loop-holds
-    (λ c. omega arith)  -- cast-labels
-    (λ c. omega arith)  -- slice-write-labels
-    (λ c. omega arith)  -- add-p
-    (λ c. omega arith)  -- loop-less
+    (λ c. (omega arith, refl, refl))  -- loop-p-init
+    (λ c. omega arith)  -- overflow_cast-labels
+    (λ c. omega arith)  -- bounds-labels-p
+    (λ c. omega arith)  -- overflow_add-p
+    (λ c. omega arith)  -- loop-p-smaller
     (λ c.
-    let l = c.before.loop in
-    let d : List ℕ = c.before.before.args.labels.now in (
+    let l = c.loop-p in
+    let d : List ℕ = c.args.labels.now in (
       omega arith,
       ap (λ (r : List ℕ). set r l.p l.p) l.invariant.1 ∙ filled_more (λ a. a) d l.p (omega arith),
       simp length-set l.invariant.2,
-    ))  -- loop-again
-    (λ c. c.before.loop.invariant.2)  -- same-length
+    ))  -- loop-p-preserved
+    (λ c. c.loop-p.invariant.2)  -- shape_of-labels
     (λ c.
-    let l = c.before.loop in
-    let s = c.before.before in
-    let e : l.p ≡ length s.args.labels.now = omega arith in
-    l.invariant.1 ∙ filled_all (λ a. a) s.args.labels.now l.p e ∙ ap (tabulate (λ a. a)) s.requires))  -- returns
+    let l = c.loop-p in
+    let e : l.p ≡ length c.args.labels.now = omega arith in
+    l.invariant.1 ∙ filled_all (λ a. a) c.args.labels.now l.p e ∙ ap (tabulate (λ a. a)) c.requires))  -- returns

@@ -12,10 +12,10 @@ use Rattle.parting.proofs.labels.rename.Tie as tie
 abbrev rule : List ℕ → ℕ → ℕ → ℕ → ℕ
 rule d from to a = renamed from to (get_or d a 0)
 
-abbrev invariant-loop : tie.invariant-loop
+abbrev invariant-loop : tie.invariant-loop-i
 invariant-loop labels₀ from to i₀ labels i = (i ≤ length labels₀) × (labels ≡ filled (rule labels₀ from to) labels₀ i) × (length labels ≡ length labels₀)
 
-abbrev decreases-loop : tie.decreases-loop
+abbrev decreases-loop : tie.decreases-loop-i
 decreases-loop labels₀ from to i₀ labels i = length labels₀ - i
 
 pub rename_spec : {M : Type 1} → statement M
@@ -24,15 +24,15 @@ rename_spec =
     (tie.spec
     invariant-loop
     decreases-loop
-    (λ c. (omega arith, refl, refl))  -- loop-holds
-    (λ c. omega arith)  -- slice-read-renamed
+    (λ c. (omega arith, refl, refl))  -- loop-i-init
+    (λ c. omega arith)  -- bounds-labels-i
     (λ c κs. tt)  -- renamed-requires
-    (λ c. omega arith)  -- slice-write-labels
-    (λ c. omega arith)  -- add-i
-    (λ c. omega arith)  -- loop-less
+    (λ c. omega arith)  -- bounds-labels-i-in-loop-i
+    (λ c. omega arith)  -- overflow_add-i
+    (λ c. omega arith)  -- loop-i-smaller
     (λ c.
-    let l = c.before.before.before.loop in
-    let a = c.before.before.before.before.before.args in
+    let l = c.loop-i in
+    let a = c.args in
     let d : List ℕ = a.labels.now in
     let f : ℕ → ℕ = rule d a.from a.to in
     let here : l.i < length d = omega arith in
@@ -41,11 +41,11 @@ rename_spec =
       omega arith,
       ap (λ (x : ℕ). set l.labels l.i x) said ∙ ap (λ (r : List ℕ). set r l.i (f l.i)) l.invariant.1 ∙ filled_more f d l.i here,
       simp length-set l.invariant.2,
-    ))  -- loop-again
-    (λ c. c.before.loop.invariant.2)  -- same-length
+    ))  -- loop-i-preserved
+    (λ c. c.loop-i.invariant.2)  -- shape_of-labels
     (λ c.
-    let l = c.before.loop in
-    let a = c.before.before.before.args in
+    let l = c.loop-i in
+    let a = c.args in
     let d : List ℕ = a.labels.now in
     let e : l.i ≡ length d = omega arith in
     l.invariant.1 ∙ filled_all (rule d a.from a.to) d l.i e ∙ tabulate_mapped (renamed a.from a.to) d))  -- returns

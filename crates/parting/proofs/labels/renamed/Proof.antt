@@ -8,5 +8,5 @@ pub renamed_spec : {M : Type 1} → statement M
 renamed_spec =
     tie.close
     (tie.spec
-    (λ c. rw (eq-eqb _ _ c.if1.true))  -- returns
-    (λ c. rw (ne_eqb _ _ c.if1.false)))  -- returns-2
+    (λ c. rw (eq-eqb _ _ c.if-x-from.true))  -- returns-then-x-from
+    (λ c. rw (ne_eqb _ _ c.if-x-from.false)))  -- returns

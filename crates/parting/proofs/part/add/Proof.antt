@@ -34,18 +34,17 @@ pub add_spec : {M : Type 1} → statement M
 add_spec =
     tie.close
     (tie.spec
-    (λ c. let s = c.before.before.before in by s false (not-true _ c.if1.true) s.args.own.now (added_none s.args.own.now s.args.table.now s.requires.0 s.requires.1.0.0 s.args.k s.requires.1.0.1 s.requires.1.1.0 s.requires.1.1.1))  -- returns
-    (λ c. search rules)  -- mul-at
-    (λ c. search rules)  -- add-at
-    (λ c. search rules)  -- add-to
-    (λ c. search rules)  -- sub-append
-    (λ c. search rules)  -- part-append-start
-    (λ c. omega (arith, room (c.before.before.before.before)))  -- part-append-end
-    (λ c κs. let s = c.before.before.before.before.before in (s.requires.0, (add_room s.args.own.now s.args.table.now s.requires.0 s.requires.1.0.0 s.args.k s.requires.1.0.1 s.requires.1.1.0 s.requires.1.1.1, wide s)))  -- append-requires
-    (λ c. search rules)  -- same-length
+    (λ c. by c.before.before.before false (not-true _ c.if-not-mine.true-raw) c.args.own.now (added_none c.args.own.now c.args.table.now c.requires.0 c.requires.1.0.0 c.args.k c.requires.1.0.1 c.requires.1.1.0 c.requires.1.1.1))  -- returns-then-not-mine
+    (λ c. search rules)  -- overflow_mul-at
+    (λ c. search rules)  -- overflow_add-at
+    (λ c. search rules)  -- overflow_add-to
+    (λ c. search rules)  -- slice_bounds-append-count
+    (λ c. search rules)  -- slice_bounds-append-start
+    (λ c. omega (arith, room c.before.before.before.before))  -- slice_bounds-append-end
+    (λ c κs. (c.requires.0, (add_room c.args.own.now c.args.table.now c.requires.0 c.requires.1.0.0 c.args.k c.requires.1.0.1 c.requires.1.1.0 c.requires.1.1.1, wide c.before.before.before.before.before)))  -- append-requires
+    (λ c. search rules)  -- shape_of-own
     (λ c.
-    let s = c.before.before.before.before.before.before.before.before in
-    let part : 144 + 56 * s.args.k + 56 - (144 + 56 * s.args.k) ≡ 56 = omega arith in
-    by s true (not-false _ c.before.before.before.before.before.if1.false) _
-    (added s.args.own.now s.args.table.now s.requires.0 s.requires.1.0.0 s.args.k s.requires.1.0.1 s.requires.1.1.0 s.requires.1.1.1 _ _
-    (record_at s.args.table.now s.requires.1.0.0 s.args.k _ s.requires.1.0.1 part) c.before.before.append.ensures)))  -- returns-2
+    let part : 144 + 56 * c.args.k + 56 - (144 + 56 * c.args.k) ≡ 56 = omega arith in
+    by c.before.before.before.before.before.before.before.before true (not-false _ c.if-not-mine.false-raw) _
+    (added c.args.own.now c.args.table.now c.requires.0 c.requires.1.0.0 c.args.k c.requires.1.0.1 c.requires.1.1.0 c.requires.1.1.1 _ _
+    (record_at c.args.table.now c.requires.1.0.0 c.args.k _ c.requires.1.0.1 part) c.append.ensures)))  -- returns

@@ -20,11 +20,10 @@ belongs_spec =
     tie.close
     (tie.spec
     (λ c κs. search rules)  -- lead-requires
-    (λ c. search rules)  -- cast-result
-    (λ c. omega (arith, size (c.before.before.before.before.before), c.before.lead.ensures.1))  -- shared-slice-read-result
+    (λ c. search rules)  -- overflow_cast-result
+    (λ c. omega (arith, size c.before.before.before.before.before, c.lead.ensures.1))  -- bounds-labels-lead
     (λ c.
-    let s = c.before.before.before.before.before in
-    ap (λ (i : ℕ). eqb (get_or s.args.labels.now i 0) s.args.x) c.before.lead.ensures.0
-    ∙ rw (s.requires.1.0, lt-ltb s.args.x 32 c.before.before.if1.true))  -- returns
-    (λ c. search rules)  -- add-result
-    (λ c. let s = c.before.before.before in rw (le-ltb s.args.x 32 c.if1.false)))  -- returns-2
+    ap (λ (i : ℕ). eqb (get_or c.args.labels.now i 0) c.args.x) c.lead.ensures.0
+    ∙ rw (c.requires.1.0, lt-ltb c.args.x 32 c.if-x-lt32.true))  -- returns-then-x-lt32
+    (λ c. search rules)  -- overflow_add-result
+    (λ c. rw (le-ltb c.args.x 32 c.if-x-lt32.false)))  -- returns

@@ -9,5 +9,5 @@ pub chosen_spec : {M : Type 1} → statement M
 chosen_spec =
     tie.close
     (tie.spec
-    (λ c. let a = c.before.args in ap (λ (b : Bool). cond b a.new a.old) (sym (eq-eqb a.mark a.x c.if1.true)))  -- returns
-    (λ c. let a = c.before.args in ap (λ (b : Bool). cond b a.new a.old) (sym (ne_eqb a.mark a.x c.if1.false))))  -- returns-2
+    (λ c. let a = c.args in ap (λ (b : Bool). cond b a.new a.old) (sym (eq-eqb a.mark a.x c.if-mark-x.true)))  -- returns-then-mark-x
+    (λ c. let a = c.args in ap (λ (b : Bool). cond b a.new a.old) (sym (ne_eqb a.mark a.x c.if-mark-x.false))))  -- returns

@@ -19,14 +19,13 @@ pub head_spec : {M : Type 1} → statement M
 head_spec =
     tie.close
     (tie.spec
-    (λ c. sym (long (c.before.before.before.before)).1)  -- slice-aggregate-copy
-    (λ c κs. omega (arith, long (c.before.before.before.before)))  -- copy-requires
-    (λ c. omega (arith, long (c.before.before.before.before.before.before.before), c.before.before.copy.auto.0))  -- slice-write-own
-    (λ c. search rules)  -- same-length
+    (λ c. sym (long c.before.before.before).1)  -- slice_bounds-copy-end
+    (λ c κs. omega (arith, long c.before.before.before))  -- copy-requires
+    (λ c. omega (arith, long c.before.before.before.before.before.before, c.copy.auto.dst))  -- bounds-own-2
+    (λ c. search rules)  -- shape_of-own
     (λ c.
-    let s = c.before.before.before.before.before.before.before in
-    let tb : List ℕ = s.args.table.now in
-    let own : List ℕ = s.args.own.now in
-    ap (λ (l : List ℕ). set l 2 0) (c.before.before.copy.ensures ∙ ap (λ (n : ℕ). take 144 tb ++ drop n own) (long s).1)
-    ∙ ap (λ (l : List ℕ). set (take 144 l ++ drop 144 own) 2 0) (sym s.requires.0.laid)
-    ∙ head_laid (problem_in tb) s.requires.0.fits own s.requires.1))  -- returns
+    let tb : List ℕ = c.args.table.now in
+    let own : List ℕ = c.args.own.now in
+    ap (λ (l : List ℕ). set l 2 0) (c.copy.ensures ∙ ap (λ (n : ℕ). take 144 tb ++ drop n own) (long c.before.before.before.before.before.before).1)
+    ∙ ap (λ (l : List ℕ). set (take 144 l ++ drop 144 own) 2 0) (sym c.requires.0.laid)
+    ∙ head_laid (problem_in tb) c.requires.0.fits own c.requires.1))  -- returns

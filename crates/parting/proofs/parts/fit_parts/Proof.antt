@@ -16,28 +16,27 @@ begun p = p.before.before.before.before.before.before.before.before.before.befor
 
 -- as many bytes are given as there are atoms
 atoms_are : (p : tie.After-pair) → let s = begun p in p.pair.result ≡ atom_count (problem_in s.args.table.now).constants (problem_in s.args.table.now).arities
-atoms_are p = let s = begun p in p.pair.ensures ∙ atoms_bytes s.args.table.now s.pre.0
+atoms_are p = let s = begun p in p.pair.ensures ∙ atoms_bytes s.args.table.now s.requires.0
 
 pub fit_parts_spec : {M : Type 1} → statement M
 fit_parts_spec =
     tie.close
     (tie.spec
-    (λ c. search rules)  -- slice-aggregate-run-parts
-    (λ c κs. search rules)  -- run-parts-requires
-    (λ c. search rules)  -- slice-aggregate-give
-    (λ c. let s = c.before.before.before.before.before.before.before.before.before.before.before in omega (arith, table_size s.args.table.now s.requires.0))  -- shared-slice-read-pair
-    (λ c. let s = c.before.before.before.before.before.before.before.before.before.before.before.before in omega (arith, table_size s.args.table.now s.requires.0))  -- shared-slice-read-pair-2
+    (λ c. search rules)  -- slice_bounds-run_parts-end
+    (λ c κs. search rules)  -- run_parts-tally-requires
+    (λ c. search rules)  -- slice_bounds-give-end
+    (λ c. omega (arith, table_size c.args.table.now c.requires.0))  -- bounds-table-8
+    (λ c. omega (arith, table_size c.args.table.now c.requires.0))  -- bounds-table-9
     (λ c κs. search rules)  -- pair-requires
-    (λ c κs. let s = c.before.before.before.before.before.before.before.before.before.before.before.before.before.before in (omega (arith, atoms_are c.before, s.requires.0.fits.atoms_fit), c.before.before.before.before.before.before.before.before.run-parts.ensures.0.size, s.requires.1.0))  -- give-requires
-    (λ c κs. search rules)  -- said-requires
-    (λ c. search rules)  -- same-length
-    (λ c. search rules)  -- same-length-2
+    (λ c κs. (omega (arith, atoms_are c.before, c.requires.0.fits.atoms_fit), c.run_parts-tally.ensures.0.size, c.requires.1.0))  -- give-requires
+    (λ c κs. search rules)  -- said-parting-requires
+    (λ c. search rules)  -- shape_of-answer
+    (λ c. search rules)  -- shape_of-work
     (λ c.
-    let s = c.before.before.before.before.before.before.before.before.before.before.before.before.before.before.before.before.before.before in
-    let u = c.before.before.before.before.before.before.before.before.before.before.before.before.run-parts in
-    let q = problem_in s.args.table.now in (
-      c.said.ensures ∙ said_all s.args.magic q _ u.result.verdict u.result.count u.ensures.0,
+    let u = c.run_parts-tally in
+    let q = problem_in c.args.table.now in (
+      c.said-parting.ensures ∙ said_all c.args.magic q _ u.result.verdict u.result.count u.ensures.0,
       u.ensures.0.tallied.sum,
-      c.before.before.before.give.ensures ∙ answer_all s.args.magic q _ u.result.verdict u.result.count u.ensures.0 c.before.before.before.before.before.pair.result (atoms_are c.before.before.before.before.before) s.args.answer.now,
+      c.give.ensures ∙ answer_all c.args.magic q _ u.result.verdict u.result.count u.ensures.0 c.pair.result (atoms_are c.before.before.before.before.before) c.args.answer.now,
       u.ensures.1,
     )))  -- returns

@@ -16,8 +16,8 @@ pub give_spec : {M : Type 1} → statement M
 give_spec =
     tie.close
     (tie.spec
-    (λ c. let a = c.before.before.before.args in not_given a.verdict a.atoms a.joined.now a.answer.now c.if1.true)  -- returns
-    (λ c. let s = c.before.before.before.before.before in sym (length-take-le s.args.atoms s.args.joined.now (room s)))  -- slice-aggregate-copy
-    (λ c κs. let s = c.before.before.before.before.before in omega (arith, length-take-le s.args.atoms s.args.joined.now (room s), s.requires.0, s.requires.2))  -- copy-requires
-    (λ c. search rules)  -- same-length
-    (λ c. let s = c.before.before.before.before.before.before.before.before in given_all s.args.verdict s.args.atoms s.args.joined.now s.args.answer.now c.before.before.before.before.before.if1.false (room s) _ c.before.before.copy.ensures))  -- returns-2
+    (λ c. let a = c.args in not_given a.verdict a.atoms a.joined.now a.answer.now c.if-verdict-ne1.true)  -- returns-then-verdict-ne1
+    (λ c. sym (length-take-le c.args.atoms c.args.joined.now (room c.before.before.before.before)))  -- slice_bounds-copy-end
+    (λ c κs. omega (arith, length-take-le c.args.atoms c.args.joined.now (room c.before.before.before.before), c.requires.0, c.requires.2))  -- copy-requires
+    (λ c. search rules)  -- shape_of-answer
+    (λ c. given_all c.args.verdict c.args.atoms c.args.joined.now c.args.answer.now c.if-verdict-ne1.false (room c.before.before.before.before.before.before.before) _ c.copy.ensures))  -- returns

@@ -7,6 +7,6 @@ pub said_spec : {M : Type 1} → statement M
 said_spec =
     tie.close
     (tie.spec
-    (λ c. rw (eq-eqb _ 0 c.if1.true))  -- returns
-    (λ c. rw (ne_eqb _ 0 c.before.if1.false, eq-eqb _ 1 c.if2.true))  -- returns-2
-    (λ c. rw (ne_eqb _ 0 c.before.if1.false, ne_eqb _ 1 c.if2.false)))  -- returns-3
+    (λ c. rw (eq-eqb _ 0 c.if-verdict-eq0.true))  -- returns-then-verdict-eq0
+    (λ c. rw (ne_eqb _ 0 c.if-verdict-eq0.false, eq-eqb _ 1 c.if-verdict-eq1.true))  -- returns-then-verdict-eq1
+    (λ c. rw (ne_eqb _ 0 c.if-verdict-eq0.false, ne_eqb _ 1 c.if-verdict-eq1.false)))  -- returns

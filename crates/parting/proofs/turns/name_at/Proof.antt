@@ -11,24 +11,24 @@ use Rattle.parting.proofs.turns.name_at.Statement.{statement}
 use Rattle.parting.proofs.turns.name_at.Tie as tie
 
 -- the record of the clause of the turn
-room : (t : tie.Then1) → let s = t.before.before in ClauseRoom s.args.table.now s.args.i
-room t = let s = t.before.before in turn_clause s.args.table.now s.requires.0 s.args.i t.if1.true
+room : (t : tie.Then-i-count) → ClauseRoom t.args.table.now t.args.i
+room t = turn_clause t.args.table.now t.requires.0 t.args.i t.if-i-count.true
 
 pub name_at_spec : {M : Type 1} → statement M
 name_at_spec =
     tie.close
     (tie.spec
-    (λ c. let s = c.before in omega (arith, table_size s.args.table.now s.requires.0))  -- shared-slice-read-count
-    (λ c. search rules)  -- mul-at
-    (λ c. search rules)  -- add-at
-    (λ c. let r = room c.before in omega (arith, r.size, r.few))  -- shared-slice-read-if2
-    (λ c. search rules)  -- add-if2
-    (λ c. let r = room c.before.before in omega (arith, r.size, r.few))  -- shared-slice-read-if2-2
-    (λ c. let r = room c.before.before in omega (arith, r.few_conds, r.few_alts))  -- add-if2-2
-    (λ c. let r = room c.before.before.before in omega (arith, r.few))  -- add-result
-    (λ c. let s = c.before.before.before.before.before in name_bare s.args.table.now s.args.i c.before.before.before.if1.true c.if2.true)  -- returns
-    (λ c. let s = c.before.before.before.before.before in name_full s.args.table.now s.args.i c.before.before.before.if1.true c.if2.false)  -- returns-2
-    (λ c. search rules)  -- cast-if3
-    (λ c. let s = c.before.before.before in turn_label s.args.table.now s.requires.0 s.args.labels.now s.requires.1.0 s.args.i s.requires.1.1)  -- shared-slice-read-if3
-    (λ c. let s = c.before.before.before.before in name_lowest s.args.table.now s.args.i s.args.labels.now s.requires.1.0 c.before.before.if1.false c.if3.true)  -- returns-3
-    (λ c. let s = c.before.before.before.before in name_later s.args.table.now s.args.i s.args.labels.now s.requires.1.0 c.before.before.if1.false c.if3.false))  -- returns-4
+    (λ c. omega (arith, table_size c.args.table.now c.requires.0))  -- bounds-table-2
+    (λ c. search rules)  -- overflow_mul-at
+    (λ c. search rules)  -- overflow_add-at
+    (λ c. let r = room c.before in omega (arith, r.size, r.few))  -- bounds-table-at
+    (λ c. search rules)  -- overflow_add-at-then-i-count
+    (λ c. let r = room c.before.before in omega (arith, r.size, r.few))  -- bounds-table-at-then-i-count
+    (λ c. let r = room c.before.before in omega (arith, r.few_conds, r.few_alts))  -- overflow_add-table
+    (λ c. let r = room c.before.before.before in omega (arith, r.few))  -- overflow_add-result
+    (λ c. name_bare c.args.table.now c.args.i c.if-i-count.true c.if-table-at-eq0.true)  -- returns-then-table-at-eq0
+    (λ c. name_full c.args.table.now c.args.i c.if-i-count.true c.if-table-at-eq0.false)  -- returns-then-i-count
+    (λ c. search rules)  -- overflow_cast-p
+    (λ c. turn_label c.args.table.now c.requires.0 c.args.labels.now c.requires.1.0 c.args.i c.requires.1.1)  -- bounds-labels-p
+    (λ c. name_lowest c.args.table.now c.args.i c.args.labels.now c.requires.1.0 c.if-i-count.false c.if-labels-p.true)  -- returns-then-labels-p
+    (λ c. name_later c.args.table.now c.args.i c.args.labels.now c.requires.1.0 c.if-i-count.false c.if-labels-p.false))  -- returns

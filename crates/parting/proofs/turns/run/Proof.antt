@@ -19,20 +19,18 @@ pub run_spec : {M : Type 1} → statement M
 run_spec =
     tie.close
     (tie.spec
-    (λ c. search rules)  -- slice-aggregate-run
-    (λ c κs. let s = c.before.before.before.before.before.before.before in (s.requires.0, (length-replicate {A = ℕ} 16384 0, omega (arith, s.requires.1.0), s.requires.1.1)))  -- run-requires
-    (λ c. search rules)  -- same-length
-    (λ c. search rules)  -- same-length-2
+    (λ c. search rules)  -- slice_bounds-run-end
+    (λ c κs. (c.requires.0, (length-replicate {A = ℕ} 16384 0, omega (arith, c.requires.1.0), c.requires.1.1)))  -- run-reply-requires
+    (λ c. search rules)  -- shape_of-answer-then-magic
+    (λ c. search rules)  -- shape_of-work-then-magic
     (λ c.
-    let s = c.before.before.before.before.before.before.before.before.before.before.before.before.before in
-    let u = c.before.before.before.before.before.run in
-    let same : magic_outcome s.args.table.now (replicate 16384 0) ≡ run_by s.args.magic (problem_in s.args.table.now) = ran_magic s.args.magic c.before.before.before.before.before.before.before.before.before.if1.true s.args.table.now s.requires.0 (replicate 16384 0) in
-    (u.ensures.0 ∙ ap verdict_of same, u.ensures.3 ∙ ap (λ (o : Outcome). answer_of o s.args.answer.now) same, u.ensures.4))  -- returns
-    (λ c κs. search rules)  -- run-requires-2
-    (λ c. search rules)  -- same-length-3
-    (λ c. search rules)  -- same-length-4
+    let u = c.run-reply in
+    let same : magic_outcome c.args.table.now (replicate 16384 0) ≡ run_by c.args.magic (problem_in c.args.table.now) = ran_magic c.args.magic c.if-magic.true c.args.table.now c.requires.0 (replicate 16384 0) in
+    (u.ensures.0 ∙ ap verdict_of same, u.ensures.3 ∙ ap (λ (o : Outcome). answer_of o c.args.answer.now) same, u.ensures.4))  -- returns-then-magic
+    (λ c κs. search rules)  -- run-reply-requires-2
+    (λ c. search rules)  -- shape_of-answer
+    (λ c. search rules)  -- shape_of-work
     (λ c.
-    let s = c.before.before.before.before.before.before.before.before.before.before.before in
-    let u = c.before.before.before.before.run2 in
-    let same : outcome_in s.args.table.now ≡ run_by s.args.magic (problem_in s.args.table.now) = ran_relevancy s.args.magic c.before.before.before.before.before.before.before.if1.false s.args.table.now in
-    (u.ensures.0 ∙ ap verdict_of same, u.ensures.2 ∙ ap (λ (o : Outcome). answer_of o s.args.answer.now) same, u.ensures.3)))  -- returns-2
+    let u = c.run-reply-2 in
+    let same : outcome_in c.args.table.now ≡ run_by c.args.magic (problem_in c.args.table.now) = ran_relevancy c.args.magic c.if-magic.false c.args.table.now in
+    (u.ensures.0 ∙ ap verdict_of same, u.ensures.2 ∙ ap (λ (o : Outcome). answer_of o c.args.answer.now) same, u.ensures.3)))  -- returns

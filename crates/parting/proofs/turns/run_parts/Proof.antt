@@ -10,15 +10,15 @@ pub run_parts_spec : {M : Type 1} → statement M
 run_parts_spec =
     tie.close
     (tie.spec
-    (λ c. search rules)  -- slice-aggregate-label
+    (λ c. search rules)  -- slice_bounds-label-end
     (λ c κs. search rules)  -- label-requires
-    (λ c. search rules)  -- slice-aggregate-mark
-    (λ c. search rules)  -- slice-aggregate-mark-2
+    (λ c. search rules)  -- slice_bounds-mark-end
+    (λ c. search rules)  -- slice_bounds-mark-end-2
     (λ c κs. search rules)  -- mark-requires
     (λ c κs. search rules)  -- zero-requires
-    (λ c. search rules)  -- slice-aggregate-run-turns
-    (λ c. search rules)  -- slice-aggregate-run-turns-2
-    (λ c κs. let s = c.before.before.before.before.before.before.before.before.before.before.before.before.before.before.before.before.before.before in (s.requires.0, ((c.before.before.before.before.before.before.before.before.before.before.before.before.before.label.ensures, c.before.before.before.before.before.before.before.before.before.mark.ensures), (s.requires.1.0, c.before.before.before.before.before.before.zero.ensures ∙ ap (λ (m : ℕ). replicate m 0) s.requires.1.1))))  -- run-turns-requires
-    (λ c. search rules)  -- same-length
-    (λ c. search rules)  -- same-length-2
+    (λ c. search rules)  -- slice_bounds-run_turns-end
+    (λ c. search rules)  -- slice_bounds-run_turns-end-2
+    (λ c κs. (c.requires.0, ((c.label.ensures, c.mark.ensures), (c.requires.1.0, c.zero.ensures ∙ ap (λ (m : ℕ). replicate m 0) c.requires.1.1))))  -- run_turns-requires
+    (λ c. search rules)  -- shape_of-joined
+    (λ c. search rules)  -- shape_of-work
     (λ c. search rules))  -- returns

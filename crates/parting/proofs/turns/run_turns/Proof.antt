@@ -12,11 +12,11 @@ use Rattle.parting.proofs.TurnLaws.{turns_start, turns_stop, turns_end}
 use Rattle.parting.proofs.turns.run_turns.Statement.{statement}
 use Rattle.parting.proofs.turns.run_turns.Tie as tie
 
-abbrev invariant-loop : tie.invariant-loop
+abbrev invariant-loop : tie.invariant-loop-i
 invariant-loop table labels marks magic joined₀ work₀ turns tally₀ i₀ joined work tally i =
     (i ≤ get_or table 2 0 + get_or table 1 0) × Running magic table joined i tally.verdict tally.count × (work ≡ replicate 65536 0)
 
-abbrev decreases-loop : tie.decreases-loop
+abbrev decreases-loop : tie.decreases-loop-i
 decreases-loop table labels marks magic joined₀ work₀ turns tally₀ i₀ joined work tally i = get_or table 2 0 + get_or table 1 0 - i
 
 pub run_turns_spec : {M : Type 1} → statement M
@@ -25,21 +25,20 @@ run_turns_spec =
     (tie.spec
     invariant-loop
     decreases-loop
-    (λ c. let s = c.before.before.before.before.before.before in omega (arith, table_size s.args.table.now s.requires.0))  -- shared-slice-read-turns
-    (λ c. let s = c.before.before.before.before.before.before.before in omega (arith, table_size s.args.table.now s.requires.0))  -- shared-slice-read-turns-2
-    (λ c. let s = c.before.before.before.before.before.before.before in omega (arith, turns_few s.args.table.now s.requires.0))  -- add-turns
-    (λ c. let s = c.before.before.before.before.before.before.before in (omega arith, turns_start s.args.magic s.args.table.now s.requires.0 s.args.joined.now s.requires.1.1.0, s.requires.1.1.1))  -- loop-holds
-    (λ c κs. let s = c.before.before.before.before.before.before.before.before.before.before.before in let l = c.before.before.before.loop in (s.requires.0, ((s.requires.1.0.0, c.before.before.loop-test.true), ((s.requires.1.0.1, l.invariant.2), l.invariant.1))))  -- turn-requires
-    (λ c. let s = c.before.before.before.before.before.before.before.before.before.before.before.before.before.before.before.before.before.before in c.before.before.before.before.before.before.turn.ensures.0.size ∙ sym s.requires.1.1.0)  -- same-length
-    (λ c. let s = c.before.before.before.before.before.before.before.before.before.before.before.before.before.before.before.before.before.before in ap length c.before.before.before.before.before.before.turn.ensures.1 ∙ sym (ap length s.requires.1.1.1))  -- same-length-2
-    (λ c. let s = c.before.before.before.before.before.before.before.before.before.before.before.before.before.before.before.before.before.before in let u = c.before.before.before.before.before.before.turn in (turns_stop s.args.magic s.args.table.now s.requires.0 _ (c.before.before.before.before.before.before.before.before.before.before.loop.i + 1) _ _ u.ensures.0 c.if1.true, u.ensures.1))  -- returns
-    (λ c. let s = c.before.before.before.before.before.before.before.before.before.before.before.before.before.before.before.before.before.before in omega (arith, c.before.before.before.before.before.before.before.before.before.loop-test.true, turns_few s.args.table.now s.requires.0))  -- add-i
-    (λ c. omega (arith, c.before.before.before.before.before.before.before.before.before.loop-test.true))  -- loop-less
-    (λ c. let u = c.before.before.before.before.before.before.turn in (omega (arith, c.before.before.before.before.before.before.before.before.before.loop-test.true), u.ensures.0.goes_on c.if1.false, u.ensures.1))  -- loop-again
-    (λ c. let s = c.before.before.before.before.before.before.before.before.before in c.before.loop.invariant.1.size ∙ sym s.requires.1.1.0)  -- same-length-3
-    (λ c. let s = c.before.before.before.before.before.before.before.before.before in ap length c.before.loop.invariant.2 ∙ sym (ap length s.requires.1.1.1))  -- same-length-4
+    (λ c. omega (arith, table_size c.args.table.now c.requires.0))  -- bounds-table-2
+    (λ c. omega (arith, table_size c.args.table.now c.requires.0))  -- bounds-table-1
+    (λ c. omega (arith, turns_few c.args.table.now c.requires.0))  -- overflow_add-turns
+    (λ c. (omega arith, turns_start c.args.magic c.args.table.now c.requires.0 c.args.joined.now c.requires.1.1.0, c.requires.1.1.1))  -- loop-i-init
+    (λ c κs. let l = c.loop-i in (c.requires.0, ((c.requires.1.0.0, c.loop-i-test.true), ((c.requires.1.0.1, l.invariant.2), l.invariant.1))))  -- turn-tally-requires
+    (λ c. c.turn-tally.ensures.0.size ∙ sym c.requires.1.1.0)  -- shape_of-joined-then-tally-eq0
+    (λ c. ap length c.turn-tally.ensures.1 ∙ sym (ap length c.requires.1.1.1))  -- shape_of-work-then-tally-eq0
+    (λ c. let u = c.turn-tally in (turns_stop c.args.magic c.args.table.now c.requires.0 _ (c.loop-i.i + 1) _ _ u.ensures.0 c.if-tally-eq0.true, u.ensures.1))  -- returns-then-tally-eq0
+    (λ c. omega (arith, c.loop-i-test.true, turns_few c.args.table.now c.requires.0))  -- overflow_add-i
+    (λ c. omega (arith, c.loop-i-test.true))  -- loop-i-smaller
+    (λ c. let u = c.turn-tally in (omega (arith, c.loop-i-test.true), u.ensures.0.goes_on c.if-tally-eq0.false, u.ensures.1))  -- loop-i-preserved
+    (λ c. c.loop-i.invariant.1.size ∙ sym c.requires.1.1.0)  -- shape_of-joined
+    (λ c. ap length c.loop-i.invariant.2 ∙ sym (ap length c.requires.1.1.1))  -- shape_of-work
     (λ c.
-    let s = c.before.before.before.before.before.before.before.before.before in
-    let l = c.before.loop in
-    let all : l.i ≡ get_or s.args.table.now 2 0 + get_or s.args.table.now 1 0 = omega (arith, l.invariant.0, c.loop-test.false) in
-    (turns_end s.args.magic s.args.table.now s.requires.0 l.joined l.i _ _ all l.invariant.1, l.invariant.2)))  -- returns-2
+    let l = c.loop-i in
+    let all : l.i ≡ get_or c.args.table.now 2 0 + get_or c.args.table.now 1 0 = omega (arith, l.invariant.0, c.loop-i-test.false) in
+    (turns_end c.args.magic c.args.table.now c.requires.0 l.joined l.i _ _ all l.invariant.1, l.invariant.2)))  -- returns

@@ -14,22 +14,20 @@ pub turn_spec : {M : Type 1} → statement M
 turn_spec =
     tie.close
     (tie.spec
-    (λ c κs. search rules)  -- name-at-requires
+    (λ c κs. search rules)  -- name_at-x-requires
     (λ c.
-    let s = c.before.before.before.before.before.before.before in
-    let a = s.args in (
-      turn_skipped a.magic a.table.now s.requires.0 a.joined.now a.i a.tally.verdict a.tally.count s.requires.1.1.1 s.requires.1.0.1 (sym c.before.name-at.ensures ∙ c.if1.true),
-      s.requires.1.1.0.1,
-    ))  -- returns
-    (λ c κs. let s = c.before.before.before.before.before.before.before.before.before in (s.requires.0, ((s.requires.1.0.0, s.requires.1.1.0.0.size), (s.requires.1.1.1.size, ap length s.requires.1.1.0.1 ∙ length-replicate {A = ℕ} 65536 0))))  -- run-part-requires
-    (λ c κs. let s = c.before.before.before.before.before.before.before.before.before.before.before.before.before.before in omega (arith, s.requires.1.1.1.small, s.requires.1.0.1, turns_few s.args.table.now s.requires.0))  -- counted-requires
-    (λ c. search rules)  -- same-length
-    (λ c. search rules)  -- same-length-2
+    let a = c.args in (
+      turn_skipped a.magic a.table.now c.requires.0 a.joined.now a.i a.tally.verdict a.tally.count c.requires.1.1.1 c.requires.1.0.1 (sym c.name_at-x.ensures ∙ c.if-x.true),
+      c.requires.1.1.0.1,
+    ))  -- returns-then-x
+    (λ c κs. (c.requires.0, ((c.requires.1.0.0, c.requires.1.1.0.0.size), (c.requires.1.1.1.size, ap length c.requires.1.1.0.1 ∙ length-replicate {A = ℕ} 65536 0))))  -- run_part-verdict-requires
+    (λ c κs. omega (arith, c.requires.1.1.1.small, c.requires.1.0.1, turns_few c.args.table.now c.requires.0))  -- counted-requires
+    (λ c. search rules)  -- shape_of-joined
+    (λ c. search rules)  -- shape_of-work
     (λ c.
-    let s = c.before.before.before.before.before.before.before.before.before.before.before.before.before.before.before in
-    let a = s.args in
-    let u = c.before.before.before.before.before.run-part in (
-      turn_run a.magic a.table.now s.requires.0 a.joined.now a.i a.tally.verdict a.tally.count s.requires.1.1.1 s.requires.1.0.1
-          a.marks.now s.requires.1.1.0.0 c.before.before.before.before.before.before.before.before.before.name-at.result c.before.before.before.before.before.before.before.before.before.name-at.ensures c.before.before.before.before.before.before.before.before.if1.false u.result u.ensures.0 _ u.ensures.1 _ _ c.counted.ensures,
+    let a = c.args in
+    let u = c.run_part-verdict in (
+      turn_run a.magic a.table.now c.requires.0 a.joined.now a.i a.tally.verdict a.tally.count c.requires.1.1.1 c.requires.1.0.1
+          a.marks.now c.requires.1.1.0.0 c.name_at-x.result c.name_at-x.ensures c.if-x.false u.result u.ensures.0 _ u.ensures.1 _ _ c.counted.ensures,
       u.ensures.2,
-    )))  -- returns-2
+    )))  -- returns

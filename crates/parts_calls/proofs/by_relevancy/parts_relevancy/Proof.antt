@@ -11,34 +11,34 @@ use Rattle.parting.proofs.CallLaws.{RelevancyLent, relevancy_refused, relevancy_
 use Rattle.parts_calls.proofs.by_relevancy.parts_relevancy.Statement.{statement}
 use Rattle.parts_calls.proofs.by_relevancy.parts_relevancy.Tie as tie
 
-abbrev begun : tie.After-refusal → tie.Start
+abbrev begun : tie.After-refusal-e → tie.Start
 begun c = c.before.before.before.before.before
 
 -- the number that it is refused by, or 0
-lent : (c : tie.After-refusal) → (let a = (begun c).args in c.refusal.result ≡ refusal_of a.table.now (ltb (length a.answer.now) 1024 || ltb (length a.work.now) 65536))
-lent c = let a = (begun c).args in c.refusal.ensures ∙ ap (refusal_of a.table.now) c.before.too_small.ensures
+lent : (c : tie.After-refusal-e) → (let a = (begun c).args in c.refusal-e.result ≡ refusal_of a.table.now (ltb (length a.answer.now) 1024 || ltb (length a.work.now) 65536))
+lent c = let a = (begun c).args in c.refusal-e.ensures ∙ ap (refusal_of a.table.now) c.too_small.ensures
 
 -- all is taken
-good : (c : tie.Else1) → (let a = (begun c.before).args in RelevancyLent a.table.now a.answer.now a.work.now)
-good c = let a = (begun c.before).args in relevancy_lent a.table.now a.answer.now a.work.now a.count.now c.before.refusal.result (lent c.before) c.if1.false
+good : (c : tie.Else-e-gt0) → (let a = (begun c.before).args in RelevancyLent a.table.now a.answer.now a.work.now)
+good c = let a = (begun c.before).args in relevancy_lent a.table.now a.answer.now a.work.now a.count.now c.refusal-e.result (lent c.before) c.if-e-gt0.false
 
 pub parts_relevancy_spec : {M : Type 1} → statement M
 parts_relevancy_spec =
     tie.close
     (tie.spec
-    (λ c κs. search rules)  -- too-small-requires
-    (λ c κs. search rules)  -- refusal-requires
-    (λ c. let a = c.before.before.before.before.before.before.args in relevancy_refused a.table.now a.answer.now a.work.now a.count.now c.before.refusal.result (lent c.before) c.if1.true)  -- returns
-    (λ c. sym (length-take-le 4096 c.before.before.before.before.before.before.before.args.table.now (good c.before).table_long))  -- slice-aggregate-fit-parts
-    (λ c. (good c.before.before).work_long)  -- slice-relend-prefix-fit-parts
-    (λ c. sym (length-take-le 65536 c.before.before.before.before.before.before.before.before.before.args.work.now (good c.before.before.before).work_long))  -- slice-aggregate-fit-parts-2
+    (λ c κs. search rules)  -- too_small-requires
+    (λ c κs. search rules)  -- refusal-e-requires
+    (λ c. let a = c.args in relevancy_refused a.table.now a.answer.now a.work.now a.count.now c.refusal-e.result (lent c.before) c.if-e-gt0.true)  -- returns-then-e-gt0
+    (λ c. sym (length-take-le 4096 c.args.table.now (good c).table_long))  -- slice_bounds-fit_parts-end
+    (λ c. (good c.before).work_long)  -- slice_bounds-fit_parts-end-2
+    (λ c. sym (length-take-le 65536 c.args.work.now (good c.before.before).work_long))  -- slice_bounds-fit_parts-end-3
     (λ c κs.
-    let a = c.before.before.before.before.before.before.before.before.before.args in
-    let t = good c.before.before.before in
-    (valid_table (take 4096 a.table.now) t.valid, (t.answer_long, length-take-le 65536 a.work.now t.work_long)))  -- fit-parts-requires
-    (λ c. search rules)  -- same-length
-    (λ c. search rules)  -- same-length-2
+    let a = c.args in
+    let t = good c.before.before in
+    (valid_table (take 4096 a.table.now) t.valid, (t.answer_long, length-take-le 65536 a.work.now t.work_long)))  -- fit_parts-counted-requires
+    (λ c. search rules)  -- shape_of-answer
+    (λ c. search rules)  -- shape_of-work
     (λ c.
-    let a = c.before.before.before.before.before.before.before.before.before.before.before.before.before.before.args in
-    let u = c.before.before.before.before.Fit-Parts in
-    relevancy_parts a.table.now a.answer.now a.work.now a.count.now c.before.before.before.before.before.before.before.before.before.refusal.result (lent c.before.before.before.before.before.before.before.before.before) c.before.before.before.before.before.before.before.before.if1.false u.result.parting u.result.count _ _ u.ensures))  -- returns-2
+    let a = c.args in
+    let u = c.fit_parts-counted in
+    relevancy_parts a.table.now a.answer.now a.work.now a.count.now c.refusal-e.result (lent c.before.before.before.before.before.before.before.before) c.if-e-gt0.false u.result.parting u.result.count _ _ u.ensures))  -- returns

@@ -15,17 +15,16 @@ pub decide_spec : {M : Type 1} → statement M
 decide_spec =
     tie.close
     (tie.spec
-    (λ c κs. let s = c.before.before.before in table_size s.args.table.now s.requires.0)  -- limit-in-requires
-    (λ c. search rules)  -- slice-aggregate-walk-whole
-    (λ c κs. let s = c.before.before.before.before.before.before in (s.requires.0, (no_facts, s.requires.1.1)))  -- walk-whole-requires
-    (λ c. search rules)  -- slice-aggregate-reply
+    (λ c κs. table_size c.args.table.now c.requires.0)  -- limit_in-limit-requires
+    (λ c. search rules)  -- slice_bounds-walk_whole-end
+    (λ c κs. (c.requires.0, (no_facts, c.requires.1.1)))  -- walk_whole-whole-requires
+    (λ c. search rules)  -- slice_bounds-reply-end
     (λ c κs.
-    let s = c.before.before.before.before.before.before.before.before.before.before.before.before.before in
-    let w = c.before.before.before.before.before.before.walk-whole in
-    (s.requires.0, ((s.requires.1.0, w.auto.1.0 ∙ length-replicate {A = ℕ} 6150 0, w.auto.1.1.0 ∙ s.requires.1.1), w.ensures.1)))  -- reply-requires
-    (λ c. search rules)  -- same-length
-    (λ c. search rules)  -- same-length-2
+    let w = c.walk_whole-whole in
+    (c.requires.0, ((c.requires.1.0, w.auto.facts ∙ length-replicate {A = ℕ} 6150 0, w.auto.path ∙ c.requires.1.1), w.ensures.1)))  -- reply-requires
+    (λ c. search rules)  -- shape_of-answer
+    (λ c. search rules)  -- shape_of-path
     (λ c.
-    let a = c.before.before.before.before.before.before.before.before.before.before.before.before.before.before.before.before.args in
-    let r = c.before.before.reply in
-    subst (λ (n : ℕ). Replied (relevancy_walker a.table.now) n a.answer.now r.result r.new.1.1.1.0) (c.before.before.before.before.before.before.before.before.before.before.before.before.limit-in.ensures ∙ limit_of_lem a.table.now) r.ensures))  -- returns
+    let a = c.args in
+    let r = c.reply in
+    subst (λ (n : ℕ). Replied (relevancy_walker a.table.now) n a.answer.now r.result r.new.answer) (c.limit_in-limit.ensures ∙ limit_of_lem a.table.now) r.ensures))  -- returns

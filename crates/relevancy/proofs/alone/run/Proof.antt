@@ -18,16 +18,15 @@ pub run_spec : {M : Type 1} → statement M
 run_spec =
     tie.close
     (tie.spec
-    (λ c. search rules)  -- sub-decide
-    (λ c. search rules)  -- part-decide-start
-    (λ c. let s = c.before.before.before.before in omega (arith, s.requires.1.1))  -- part-decide-end
-    (λ c κs. let s = c.before.before.before.before.before in (s.requires.0, (s.requires.1.0, part s)))  -- decide-requires
+    (λ c. search rules)  -- slice_bounds-decide-count
+    (λ c. search rules)  -- slice_bounds-decide-start
+    (λ c. omega (arith, c.requires.1.1))  -- slice_bounds-decide-end
+    (λ c κs. (c.requires.0, (c.requires.1.0, part c.before.before.before.before.before)))  -- decide-reply-requires
     (λ c κs. search rules)  -- zero-requires
-    (λ c. search rules)  -- same-length
-    (λ c. search rules)  -- same-length-2
+    (λ c. search rules)  -- shape_of-answer
+    (λ c. search rules)  -- shape_of-work
     (λ c.
-    let s = c.before.before.before.before.before.before.before.before.before.before.before.before.before.before in
-    let d = c.before.before.before.before.before.before.before.before.decide in
-    let told = run_replied s.args.table.now s.args.answer.now d.result d.new.1.0 d.ensures in
-    let size = put_size 9227 65536 (omega arith) s.args.work.now s.requires.1.1 d.new.1.1.0 (d.auto.1.1.0 ∙ part s) in
-    (told.0, told.1, told.2, c.before.before.zero.ensures ∙ ap (λ (m : ℕ). replicate m 0) size)))  -- returns
+    let d = c.decide-reply in
+    let told = run_replied c.args.table.now c.args.answer.now d.result d.new.answer d.ensures in
+    let size = put_size 9227 65536 (omega arith) c.args.work.now c.requires.1.1 d.new.path (d.auto.path ∙ part c.before.before.before.before.before.before.before.before.before.before.before.before.before.before) in
+    (told.0, told.1, told.2, c.zero.ensures ∙ ap (λ (m : ℕ). replicate m 0) size)))  -- returns

@@ -16,32 +16,30 @@ use Rattle.relevancy.proofs.end.conclude.Statement.{statement}
 use Rattle.relevancy.proofs.end.conclude.Tie as tie
 
 -- the number of atoms is read from the table
-atoms_are : (c : tie.After-pair) → c.pair.result ≡ (ground_in c.before.before.before.before.before.before.before.args.table.now).atoms
-atoms_are c = let s = c.before.before.before.before.before.before.before in c.pair.ensures ∙ false_bytes s.args.table.now s.requires.0
+atoms_are : (c : tie.After-pair-atoms) → c.pair-atoms.result ≡ (ground_in c.args.table.now).atoms
+atoms_are c = c.pair-atoms.ensures ∙ false_bytes c.args.table.now c.requires.0
 
 pub conclude_spec : {M : Type 1} → statement M
 conclude_spec =
     tie.close
     (tie.spec
-    (λ c. let s = c.before.before.before.before.before in omega (arith, table_size s.args.table.now s.requires.0))  -- shared-slice-read-pair
-    (λ c. let s = c.before.before.before.before.before.before in omega (arith, table_size s.args.table.now s.requires.0))  -- shared-slice-read-pair-2
-    (λ c κs. search rules)  -- pair-requires
+    (λ c. omega (arith, table_size c.args.table.now c.requires.0))  -- bounds-table-8
+    (λ c. omega (arith, table_size c.args.table.now c.requires.0))  -- bounds-table-9
+    (λ c κs. search rules)  -- pair-atoms-requires
     (λ c κs.
-    let s = c.before.before.before.before.before.before.before.before in
     let n = atoms_are c.before in
-    let few = atoms_few (problem_in s.args.table.now) s.requires.0.fits in
-    let sizes = s.requires.1.1.1.0 in
-    (omega (arith, n, few), omega (arith, n, few, sizes.0), omega (arith, sizes.1)))  -- give-model-requires
-    (λ c κs. let s = c.before.before.before.before.before.before.before.before.before.before.before in let run = s.requires.1.1.1.1 in (s.requires.0, (s.requires.1.0, (s.requires.1.1.0, (s.args.facts.now, (run.0, run.1.1))))))  -- path-left-requires
+    let few = atoms_few (problem_in c.args.table.now) c.requires.0.fits in
+    let sizes = c.requires.1.1.1.0 in
+    (omega (arith, n, few), omega (arith, n, few, sizes.0), omega (arith, sizes.1)))  -- give_model-requires
+    (λ c κs. let run = c.requires.1.1.1.1 in (c.requires.0, (c.requires.1.0, (c.requires.1.1.0, (c.args.facts.now, (run.0, run.1.1))))))  -- path_left-left-requires
     (λ c κs.
-    let s = c.before.before.before.before.before.before.before.before.before.before.before.before in
-    let run = s.requires.1.1.1.1 in
-    ends_within (relevancy_walker s.args.table.now) run.0 s.args.walked s.args.facts.now s.args.path.now run.1.1)  -- moved-requires
-    (λ c. search rules)  -- same-length
+    let run = c.requires.1.1.1.1 in
+    ends_within (relevancy_walker c.args.table.now) run.0 c.args.walked c.args.facts.now c.args.path.now run.1.1)  -- moved-requires
+    (λ c. search rules)  -- shape_of-answer
     (λ c.
-    let a = c.before.before.before.before.before.before.before.before.before.before.before.before.before.args in
+    let a = c.args in
     let tb : List ℕ = a.table.now in
-    let give = c.before.before.before.before.give-model in
-    let left = c.before.path-left in
-    concluded (relevancy_walker tb) (tied tb) a.walked a.limit a.facts.now a.path.now a.answer.now left.result c.moved.result give.new.1.1.0 left.ensures
-    c.moved.ensures c.before.before.before.before.before.before.pair.result (atoms_are c.before.before.before.before.before.before) give.ensures))  -- returns
+    let give = c.give_model in
+    let left = c.path_left-left in
+    concluded (relevancy_walker tb) (tied tb) a.walked a.limit a.facts.now a.path.now a.answer.now left.result c.moved.result give.new.answer left.ensures
+    c.moved.ensures c.pair-atoms.result (atoms_are c.before.before.before.before.before.before) give.ensures))  -- returns

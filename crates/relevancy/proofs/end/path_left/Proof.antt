@@ -14,60 +14,49 @@ pub path_left_spec : {M : Type 1} → statement M
 path_left_spec =
     tie.close
     (tie.spec
-    (λ c κs. let s = c.before.before in s.requires.1.0)  -- deepest-requires
-    (λ c. let k = c.before.shared-slice-known2 in omega (arith, c.deepest.ensures, k.given 9225, k.given 9226))  -- cast-longest
-    (λ c. search rules)  -- enum-known-walked
-    (λ c. search rules)  -- slice-aggregate-steps
-    (λ c. search rules)  -- slice-aggregate-steps-2
+    (λ c κs. c.requires.1.0)  -- deepest-longest-requires
+    (λ c. let k = c.shared_slice_known-2-1 in omega (arith, c.deepest-longest.ensures, k.given 9225, k.given 9226))  -- overflow_cast-longest
+    (λ c. search rules)  -- enum_known-walked
+    (λ c. search rules)  -- slice_bounds-steps-end
+    (λ c. search rules)  -- slice_bounds-steps-end-in-Opened
     (λ c κs.
-    let s = c.before.before.before.before.before.before.before.before in
-    let a = s.args in
-    let run = s.requires.1.1.1 in
-    let g = c.before.before.before.walked.given in
-    (s.requires.0, (open_path (relevancy_walker a.table.now) run.1.0 a.walked g.0.0 g.0.1.0 g.1 run.0 a.path.now run.1.1, (refl, refl))))  -- steps-requires
+    let a = c.args in
+    let run = c.requires.1.1.1 in
+    (c.requires.0, (open_path (relevancy_walker a.table.now) run.1.0 a.walked c.in-Opened.field-0 c.in-Opened.depth c.in-Opened.is run.0 a.path.now run.1.1, (refl, refl))))  -- steps-requires
     (λ c.
-    let s = c.before.before.before.before.before.before.before.before.before.before.before in
-    let a = s.args in
+    let a = c.args in
     let w = relevancy_walker a.table.now in
-    let run = s.requires.1.1.1 in
-    let g = c.before.before.before.before.before.before.walked.given in
-    let st = c.before.before.steps in
-    let o = c.before.before.before.before.before.before.before.before.deepest in
-    let x : Left = record { next = 0; atoms = st.new.1.1.1.0; nexts = st.new.1.1.1.1.0; deepest = o.result } in
-    let at = open_path w run.1.0 a.walked g.0.0 g.0.1.0 g.1 run.0 a.path.now run.1.1 in
-    left_open w a.walked a.path.now x o.ensures g.0.1.0 at.0.deep (st.auto.1.1.1.0 ∙ length-replicate {A = ℕ} 1024 0) (st.auto.1.1.1.1.0 ∙ length-replicate {A = ℕ} 1024 0) st.ensures
-    g.0.0 g.1 refl)  -- returns
-    (λ c. search rules)  -- enum-known-walked-2
-    (λ c. search rules)  -- slice-aggregate-steps-3
-    (λ c. search rules)  -- slice-aggregate-steps-4
+    let run = c.requires.1.1.1 in
+    let st = c.steps in
+    let o = c.deepest-longest in
+    let x : Left = record { next = 0; atoms = st.new.atoms; nexts = st.new.nexts; deepest = o.result } in
+    let at = open_path w run.1.0 a.walked c.in-Opened.field-0 c.in-Opened.depth c.in-Opened.is run.0 a.path.now run.1.1 in
+    left_open w a.walked a.path.now x o.ensures c.in-Opened.depth at.0.deep (st.auto.atoms ∙ length-replicate {A = ℕ} 1024 0) (st.auto.nexts ∙ length-replicate {A = ℕ} 1024 0) st.ensures
+    c.in-Opened.field-0 c.in-Opened.is refl)  -- returns-in-Opened
+    (λ c. search rules)  -- enum_known-walked-in-Exhausted-1
+    (λ c. search rules)  -- slice_bounds-steps-end-in-Exhausted
+    (λ c. search rules)  -- slice_bounds-steps-end-in-Exhausted-2
     (λ c κs.
-    let s = c.before.before.before.before.before.before.before.before in
-    let a = s.args in
-    let run = s.requires.1.1.1 in
-    let g = c.before.before.before.walked2.given in
-    (s.requires.0, (due_path (relevancy_walker a.table.now) run.1.0 a.walked g.0.0 g.1 run.0 a.path.now run.1.1, (refl, refl))))  -- steps-requires-2
+    let a = c.args in
+    let run = c.requires.1.1.1 in
+    (c.requires.0, (due_path (relevancy_walker a.table.now) run.1.0 a.walked c.in-Exhausted.depth c.in-Exhausted.is run.0 a.path.now run.1.1, (refl, refl))))  -- steps-requires-in-Exhausted
     (λ c κs.
-    let s = c.before.before.before.before.before.before.before.before.before.before.before in
-    let a = s.args in
-    let run = s.requires.1.1.1 in
-    let g = c.before.before.before.before.before.before.walked2.given in
-    (due_path (relevancy_walker a.table.now) run.1.0 a.walked g.0.0 g.1 run.0 a.path.now run.1.1).0)  -- next-requires
+    let a = c.args in
+    let run = c.requires.1.1.1 in
+    (due_path (relevancy_walker a.table.now) run.1.0 a.walked c.in-Exhausted.depth c.in-Exhausted.is run.0 a.path.now run.1.1).0)  -- next-requires
     (λ c.
-    let s = c.before.before.before.before.before.before.before.before.before.before.before.before in
-    let a = s.args in
+    let a = c.args in
     let w = relevancy_walker a.table.now in
-    let run = s.requires.1.1.1 in
-    let g = c.before.before.before.before.before.before.before.walked2.given in
-    let st = c.before.before.before.steps2 in
-    let o = c.before.before.before.before.before.before.before.before.before.deepest in
-    let x : Left = record { next = c.next.result; atoms = st.new.1.1.1.0; nexts = st.new.1.1.1.1.0; deepest = o.result } in
-    let at = due_path w run.1.0 a.walked g.0.0 g.1 run.0 a.path.now run.1.1 in
-    left_due w a.walked a.path.now x o.ensures g.0.0 at.0.deep (st.auto.1.1.1.0 ∙ length-replicate {A = ℕ} 1024 0) (st.auto.1.1.1.1.0 ∙ length-replicate {A = ℕ} 1024 0) st.ensures
-    g.1 c.next.ensures)  -- returns-2
-    (λ c. search rules)  -- enum-told
+    let run = c.requires.1.1.1 in
+    let st = c.steps-in-Exhausted in
+    let o = c.deepest-longest in
+    let x : Left = record { next = c.next.result; atoms = st.new.atoms; nexts = st.new.nexts; deepest = o.result } in
+    let at = due_path w run.1.0 a.walked c.in-Exhausted.depth c.in-Exhausted.is run.0 a.path.now run.1.1 in
+    left_due w a.walked a.path.now x o.ensures c.in-Exhausted.depth at.0.deep (st.auto.atoms ∙ length-replicate {A = ℕ} 1024 0) (st.auto.nexts ∙ length-replicate {A = ℕ} 1024 0) st.ensures
+    c.in-Exhausted.is c.next.ensures)  -- returns-in-Exhausted
+    (λ c. search rules)  -- enum_told-1
     (λ c.
-    let s = c.before.before.before.before.before in
-    let a = s.args in
-    let o = c.before.before.deepest in
+    let a = c.args in
+    let o = c.deepest-longest in
     let x : Left = record { next = a.used; atoms = replicate 1024 0; nexts = replicate 1024 0; deepest = o.result } in
-    left_shut (relevancy_walker a.table.now) a.walked a.path.now x o.ensures c.before.match.keys3 refl refl s.requires.1.1.0))  -- returns-3
+    left_shut (relevancy_walker a.table.now) a.walked a.path.now x o.ensures c.in_default.in_default-own.keys3 refl refl c.requires.1.1.0))  -- returns

@@ -30,8 +30,8 @@ kept : (s : tie.Start) → is_kept_over (atoms s) s.args.session ≡ true
 kept s = is_kept_lem (atoms s) s.args.session s.requires.1.1.0.0 s.requires.1.1.0.1 s.requires.1.1.1.0 s.requires.1.1.1.1
 
 -- the longest path entered is the record's
-brings : (c : tie.After-root) → deepest_at c.root.new.1.1.1.1.0 ≡ c.before.before.before.before.before.before.before.before.before.before.before.before.before.before.before.before.before.before.args.session.deepest
-brings c = c.root.ensures.1 ∙ c.before.before.before.before.before.before.bring.ensures.0
+brings : (c : tie.After-root-found) → deepest_at c.root-found.new.path ≡ c.args.session.deepest
+brings c = c.root-found.ensures.1 ∙ c.bring.ensures.0
 
 zeros_long : (xs : List ℕ) (n : ℕ) → length xs ≡ length {A = ℕ} (replicate n 0) → length xs ≡ n
 zeros_long xs n e = e ∙ length-replicate n 0
@@ -47,88 +47,77 @@ pub further_run_spec : {M : Type 1} → statement M
 further_run_spec =
     tie.close
     (tie.spec
-    (λ c κs. search rules)  -- build-requires
-    (λ c κs. search rules)  -- build-requires-2
-    (λ c. search rules)  -- cast-steps
-    (λ c. search rules)  -- add-limit
-    (λ c. search rules)  -- slice-aggregate-bring
-    (λ c. search rules)  -- cast-bring
-    (λ c κs. let s = c.before.before.before.before.before.before.before.before.before.before.before in (length-replicate {A = ℕ} 9227 0, omega (arith, s.requires.1.1.1.1, atoms_few (problem_in s.args.table.now) s.requires.0.fits)))  -- bring-requires
-    (λ c. search rules)  -- slice-aggregate-root
-    (λ c. search rules)  -- slice-aggregate-root-2
-    (λ c κs.
-    let s = c.before.before.before.before.before.before.before.before.before.before.before.before.before.before.before.before.before in (
-      s.requires.0,
+    (λ c κs. search rules)  -- build-conds-requires
+    (λ c κs. search rules)  -- build-alts-requires
+    (λ c. search rules)  -- overflow_cast-steps
+    (λ c. search rules)  -- overflow_add-limit
+    (λ c. search rules)  -- slice_bounds-bring-end
+    (λ c. search rules)  -- overflow_cast-session
+    (λ c κs. (length-replicate {A = ℕ} 9227 0, omega (arith, c.requires.1.1.1.1, atoms_few (problem_in c.args.table.now) c.requires.0.fits)))  -- bring-requires
+    (λ c. search rules)  -- slice_bounds-root-end
+    (λ c. search rules)  -- slice_bounds-root-end-2
+    (λ c κs. (
+      c.requires.0,
       (
-        (c.before.before.before.before.before.before.before.before.before.before.before.before.before.build.ensures, c.before.before.before.before.before.before.before.before.before.before.before.before.build2.ensures),
-        (no_facts, record { size = c.before.before.before.before.before.bring.auto.0 ∙ length-replicate {A = ℕ} 9227 0; deep = omega arith }),
+        (c.build-conds.ensures, c.build-alts.ensures),
+        (no_facts, record { size = c.bring.auto.path ∙ length-replicate {A = ℕ} 9227 0; deep = omega arith }),
       ),
-    ))  -- root-requires
-    (λ c. search rules)  -- slice-aggregate-root-alternatives
-    (λ c κs. let s = c.before.before.before.before.before.before.before.before.before.before.before.before.before.before.before.before.before.before.before.before.before in let b = c.before.before.before.root in (s.requires.0, (b.new.1.1.1.0, b.ensures.0)))  -- root-alternatives-requires
-    (λ c. search rules)  -- slice-aggregate-build
-    (λ c. search rules)  -- slice-aggregate-build-2
+    ))  -- root-found-requires
+    (λ c. search rules)  -- slice_bounds-root_alternatives-end
+    (λ c κs. let b = c.root-found in (c.requires.0, (b.new.facts, b.ensures.0)))  -- root_alternatives-used-requires
+    (λ c. search rules)  -- slice_bounds-build-end
+    (λ c. search rules)  -- slice_bounds-build-end-2
     (λ c κs.
-    let s = c.before.before.before.before.before.before.before.before.before.before.before.before.before.before.before.before.before.before.before.before.before.before.before.before in
-    let b = c.before.before.before.before.before.before.root in
-    (s.requires.0, ((zeros_long b.new.1.1.1.0 6150 b.auto.1.1.1.0, root_flags s.args.table.now s.requires.0 _ b.new.1.1.1.0 b.new.1.1.1.1.0 b.ensures.0), refl)))  -- build-requires-3
-    (λ c. search rules)  -- slice-aggregate-go-on
-    (λ c. search rules)  -- slice-aggregate-go-on-2
-    (λ c. sym (long_atoms c.before.before.before.before.before.before.before.before.before.before.before.before.before.before.before.before.before.before.before.before.before.before.before.before.before.before.before.before.before.before.before.before))  -- slice-aggregate-go-on-3
-    (λ c. sym (long_nexts c.before.before.before.before.before.before.before.before.before.before.before.before.before.before.before.before.before.before.before.before.before.before.before.before.before.before.before.before.before.before.before.before.before))  -- slice-aggregate-go-on-4
+    let b = c.root-found in
+    (c.requires.0, ((zeros_long b.new.facts 6150 b.auto.facts, root_flags c.args.table.now c.requires.0 _ b.new.facts b.new.path b.ensures.0), refl)))  -- build-requires
+    (λ c. search rules)  -- slice_bounds-go_on-end
+    (λ c. search rules)  -- slice_bounds-go_on-end-2
+    (λ c. sym (long_atoms c.before.before.before.before.before.before.before.before.before.before.before.before.before.before.before.before.before.before.before.before.before.before.before.before.before.before.before.before.before.before.before.before))  -- slice_bounds-go_on-end-3
+    (λ c. sym (long_nexts c.before.before.before.before.before.before.before.before.before.before.before.before.before.before.before.before.before.before.before.before.before.before.before.before.before.before.before.before.before.before.before.before.before))  -- slice_bounds-go_on-end-4
     (λ c κs.
-    let s = c.before.before.before.before.before.before.before.before.before.before.before.before.before.before.before.before.before.before.before.before.before.before.before.before.before.before.before.before.before.before.before.before.before in
-    let few = s.requires.1.1.0 in (
-      s.requires.0,
+    let few = c.requires.1.1.0 in (
+      c.requires.0,
       (
-        (c.before.before.before.before.before.before.before.before.before.before.before.before.before.before.before.before.before.before.before.before.before.before.before.before.before.before.before.before.before.build.ensures, c.before.before.before.before.before.before.before.before.before.before.before.before.before.before.before.before.before.before.before.before.before.before.before.before.before.before.before.before.build2.ensures, c.before.before.before.before.before.before.before.before.build3.ensures),
-        (c.before.before.before.before.before.before.before.before.before.before.before.before.before.before.before.root.ensures.0, ((omega (arith, few.1, long_atoms s), omega (arith, few.1, long_nexts s)), (omega (arith, s.requires.1.1.1.0, brings c.before.before.before.before.before.before.before.before.before.before.before.before.before.before.before), omega arith))),
+        (c.build-conds.ensures, c.build-alts.ensures, c.build.ensures),
+        (c.root-found.ensures.0, ((omega (arith, few.1, long_atoms c.before.before.before.before.before.before.before.before.before.before.before.before.before.before.before.before.before.before.before.before.before.before.before.before.before.before.before.before.before.before.before.before.before), omega (arith, few.1, long_nexts c.before.before.before.before.before.before.before.before.before.before.before.before.before.before.before.before.before.before.before.before.before.before.before.before.before.before.before.before.before.before.before.before.before)), (omega (arith, c.requires.1.1.1.0, brings c.before.before.before.before.before.before.before.before.before.before.before.before.before.before.before), omega arith))),
       ),
-    ))  -- go-on-requires
-    (λ c. search rules)  -- enum-known-went
-    (λ c. search rules)  -- enum-told
+    ))  -- go_on-went-requires
+    (λ c. search rules)  -- enum_known-went
+    (λ c. search rules)  -- enum_told-1
     (λ c κs. search rules)  -- refused-requires
     (λ c.
-    let s = c.before.before.before.before.before.before.before.before.before.before.before.before.before.before.before.before.before.before.before.before.before.before.before.before.before.before.before.before.before.before.before.before.before.before.before.before.before.before.before in
-    let a = s.args in
-    let b = c.before.before.before.before.before.before.before.before.before.before.before.before.before.before.before.before.before.before.before.before.before in
-    let q = c.before.before.before.before.before.go_on in
-    left_refused (called s) a.session a.answer.now a.work.now 42
-    (further_nowhere (relevancy_walker a.table.now) (atoms s) a.session a.further (kept s) s.requires.1.1.0.2 (deepest_at b.root.new.1.1.1.1.0) (brings b) (a.session.count + a.further)
-    q.result q.new.1.1.1.1.0 q.new.1.1.1.1.1.0 q.ensures c.before.before.match.keys2)
-    c.refused.result c.refused.ensures)  -- returns
+    let a = c.args in
+    let q = c.go_on-went in
+    left_refused (called c.before.before.before.before.before.before.before.before.before.before.before.before.before.before.before.before.before.before.before.before.before.before.before.before.before.before.before.before.before.before.before.before.before.before.before.before.before.before) a.session a.answer.now a.work.now 42
+    (further_nowhere (relevancy_walker a.table.now) (atoms c.before.before.before.before.before.before.before.before.before.before.before.before.before.before.before.before.before.before.before.before.before.before.before.before.before.before.before.before.before.before.before.before.before.before.before.before.before.before) a.session a.further (kept c.before.before.before.before.before.before.before.before.before.before.before.before.before.before.before.before.before.before.before.before.before.before.before.before.before.before.before.before.before.before.before.before.before.before.before.before.before.before) c.requires.1.1.0.2 (deepest_at c.root-found.new.path) (brings c.before.before.before.before.before.before.before.before.before.before.before.before.before.before.before.before.before.before.before.before) (a.session.count + a.further)
+    q.result q.new.facts q.new.path q.ensures c.in_default.in_default-own.keys2)
+    c.refused.result c.refused.ensures)  -- returns-in_default
     (λ c κs. search rules)  -- zero-requires
-    (λ c. search rules)  -- slice-aggregate-conclude
-    (λ c. search rules)  -- slice-aggregate-conclude-2
+    (λ c. search rules)  -- slice_bounds-conclude-end
+    (λ c. search rules)  -- slice_bounds-conclude-end-2
     (λ c κs.
-    let s = c.before.before.before.before.before.before.before.before.before.before.before.before.before.before.before.before.before.before.before.before.before.before.before.before.before.before.before.before.before.before.before.before.before.before.before.before.before.before.before.before.before.before.before.before.before.before in
-    let a = s.args in
-    let b = c.before.before.before.before.before.before.before.before.before.before.before.before.before.before.before.before.before.before.before.before.before.before.before.before.before.before.before.before in
-    let q = c.before.before.before.before.before.before.before.before.before.before.before.before.go_on in
-    let g = c.before.before.before.before.before.before.before.before.went.given in (
-      s.requires.0,
+    let a = c.args in
+    let q = c.go_on-went in (
+      c.requires.0,
       (
-        zeros_long q.new.1.1.1.1.1.0 9227 (q.auto.1.1.1.1.1.0 ∙ b.root.auto.1.1.1.1.0 ∙ c.before.before.before.before.before.before.before.before.before.before.before.before.before.before.before.before.before.before.before.before.before.before.before.before.before.before.before.before.before.before.before.before.before.before.bring.auto.0),
+        zeros_long q.new.path 9227 (q.auto.path ∙ c.root-found.auto.path ∙ c.bring.auto.path),
         (
-          c.before.before.before.before.before.before.before.before.before.before.before.before.before.before.before.before.before.before.before.before.before.before.before.before.root-alternatives.ensures,
+          c.root_alternatives-used.ensures,
           (
-            (s.requires.1.0.0, zeros_long q.new.1.1.1.1.0 6150 (q.auto.1.1.1.1.0 ∙ b.root.auto.1.1.1.0)),
-            further_walks (relevancy_walker a.table.now) (atoms s) a.session a.further (kept s) s.requires.1.1.0.2 (deepest_at b.root.new.1.1.1.1.0) (brings b) (a.session.count + a.further)
-                q.result q.new.1.1.1.1.0 q.new.1.1.1.1.1.0 q.ensures g.0.0 g.1,
+            (c.requires.1.0.0, zeros_long q.new.facts 6150 (q.auto.facts ∙ c.root-found.auto.facts)),
+            further_walks (relevancy_walker a.table.now) (atoms c.before.before.before.before.before.before.before.before.before.before.before.before.before.before.before.before.before.before.before.before.before.before.before.before.before.before.before.before.before.before.before.before.before.before.before.before.before.before.before.before.before.before.before.before) a.session a.further (kept c.before.before.before.before.before.before.before.before.before.before.before.before.before.before.before.before.before.before.before.before.before.before.before.before.before.before.before.before.before.before.before.before.before.before.before.before.before.before.before.before.before.before.before.before) c.requires.1.1.0.2 (deepest_at c.root-found.new.path) (brings c.before.before.before.before.before.before.before.before.before.before.before.before.before.before.before.before.before.before.before.before.before.before.before.before.before.before) (a.session.count + a.further)
+                q.result q.new.facts q.new.path q.ensures c.in-On.walked c.in-On.is,
           ),
         ),
       ),
     ))  -- conclude-requires
-    (λ c. search rules)  -- same-length
-    (λ c. search rules)  -- same-length-2
+    (λ c. search rules)  -- shape_of-answer
+    (λ c. search rules)  -- shape_of-work
     (λ c.
-    let s = c.before.before.before.before.before.before.before.before.before.before.before.before.before.before.before.before.before.before.before.before.before.before.before.before.before.before.before.before.before.before.before.before.before.before.before.before.before.before.before.before.before.before.before.before.before.before.before.before.before in
-    let a = s.args in
-    let b = c.before.before.before.before.before.before.before.before.before.before.before.before.before.before.before.before.before.before.before.before.before.before.before.before.before.before.before.before.before.before.before in
-    let q = c.before.before.before.before.before.before.before.before.before.before.before.before.before.before.before.go_on in
-    let g = c.before.before.before.before.before.before.before.before.before.before.before.went.given in
-    let z = c.before.before.before.before.before.before.before.before.zero in
-    let d = c.before.before.conclude in
-    further-Concluded (relevancy_walker a.table.now) (atoms s) a.session a.further (kept s) s.requires.1.1.0.2 (deepest_at b.root.new.1.1.1.1.0) (brings b) (a.session.count + a.further)
-    q.result q.new.1.1.1.1.0 q.new.1.1.1.1.1.0 q.ensures g.0.0 g.1 refl
-    a.answer.now a.work.now s.requires.1.0.1 d.result d.new.1.1.1.0 z.new.0 d.ensures z.ensures))  -- returns-2
+    let a = c.args in
+    let q = c.go_on-went in
+    let z = c.zero in
+    let d = c.conclude in
+    further-Concluded (relevancy_walker a.table.now) (atoms c.before.before.before.before.before.before.before.before.before.before.before.before.before.before.before.before.before.before.before.before.before.before.before.before.before.before.before.before.before.before.before.before.before.before.before.before.before.before.before.before.before.before.before.before.before.before.before) a.session a.further (kept c.before.before.before.before.before.before.before.before.before.before.before.before.before.before.before.before.before.before.before.before.before.before.before.before.before.before.before.before.before.before.before.before.before.before.before.before.before.before.before.before.before.before.before.before.before.before.before) c.requires.1.1.0.2 (deepest_at c.root-found.new.path) (brings c.before.before.before.before.before.before.before.before.before.before.before.before.before.before.before.before.before.before.before.before.before.before.before.before.before.before.before.before.before) (a.session.count + a.further)
+    q.result q.new.facts q.new.path q.ensures c.in-On.walked c.in-On.is refl
+    a.answer.now a.work.now c.requires.1.0.1 d.result d.new.answer z.new.dst d.ensures z.ensures))  -- returns

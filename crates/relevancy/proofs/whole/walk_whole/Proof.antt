@@ -14,27 +14,24 @@ pub walk_whole_spec : {M : Type 1} → statement M
 walk_whole_spec =
     tie.close
     (tie.spec
-    (λ c. search rules)  -- slice-aggregate-slots
-    (λ c κs. let s = c.before.before.before.before in (s.requires.0, refl))  -- slots-requires
-    (λ c. search rules)  -- slice-aggregate-slots-2
-    (λ c κs. let s = c.before.before.before.before.before.before.before in (s.requires.0, refl))  -- slots-requires-2
-    (λ c κs. let s = c.before.before.before.before.before.before.before.before.before.before in (s.requires.1.1, omega arith))  -- bring-requires
+    (λ c. search rules)  -- slice_bounds-slots-end
+    (λ c κs. (c.requires.0, refl))  -- slots-requires
+    (λ c. search rules)  -- slice_bounds-slots-end-2
+    (λ c κs. (c.requires.0, refl))  -- slots-requires-2
+    (λ c κs. (c.requires.1.1, omega arith))  -- bring-requires
     (λ c κs.
-    let s = c.before.before.before.before.before.before.before.before.before.before.before.before.before.before.before.before.before in
-    (s.requires.0, ((c.before.before.before.before.before.before.before.before.before.before.before.before.slots.ensures, c.before.before.before.before.before.before.before.before.before.slots2.ensures), (s.requires.1.0, record { size = c.before.before.before.before.before.before.bring.auto.0 ∙ s.requires.1.1; deep = omega arith }))))  -- root-requires
-    (λ c κs. let s = c.before.before.before.before.before.before.before.before.before.before.before.before.before.before.before.before.before.before.before.before.before.before.before in let b = c.before.before.before.before.before.root in (s.requires.0, (b.new.1.1.1.0, b.ensures.0)))  -- root-alternatives-requires
-    (λ c. search rules)  -- slice-aggregate-build
+    (c.requires.0, ((c.slots.ensures, c.slots-2.ensures), (c.requires.1.0, record { size = c.bring.auto.path ∙ c.requires.1.1; deep = omega arith }))))  -- root-found-requires
+    (λ c κs. let b = c.root-found in (c.requires.0, (b.new.facts, b.ensures.0)))  -- root_alternatives-used-requires
+    (λ c. search rules)  -- slice_bounds-build-end
     (λ c κs.
-    let s = c.before.before.before.before.before.before.before.before.before.before.before.before.before.before.before.before.before.before.before.before.before.before.before.before.before.before in
-    let b = c.before.before.before.before.before.before.before.before.root in
-    (s.requires.0, ((b.auto.1.1.1.0 ∙ s.requires.1.0.room, root_flags s.args.table.now s.requires.0 _ b.new.1.1.1.0 b.new.1.1.1.1.0 b.ensures.0), refl)))  -- build-requires
-    (λ c κs. let s = c.before.before.before.before.before.before.before.before.before.before.before.before.before.before.before.before.before.before.before.before.before.before.before.before.before.before.before.before.before.before.before.before.before in (s.requires.0, ((c.before.before.before.before.before.before.before.before.before.before.before.before.before.before.before.before.before.before.before.before.before.before.before.before.before.before.before.before.slots.ensures, c.before.before.before.before.before.before.before.before.before.before.before.before.before.before.before.before.before.before.before.before.before.before.before.before.before.slots2.ensures, c.before.before.before.before.before.before.build.ensures), c.before.before.before.before.before.before.before.before.before.before.before.before.before.before.before.root.ensures.0)))  -- from-root-requires
-    (λ c. c.before.before.before.before.from-root.auto.1.1.1.1.0 ∙ c.before.before.before.before.before.before.before.before.before.before.before.before.before.before.before.before.before.before.before.before.root.auto.1.1.1.0)  -- same-length
-    (λ c. c.before.before.before.before.from-root.auto.1.1.1.1.1.0 ∙ c.before.before.before.before.before.before.before.before.before.before.before.before.before.before.before.before.before.before.before.before.root.auto.1.1.1.1.0 ∙ c.before.before.before.before.before.before.before.before.before.before.before.before.before.before.before.before.before.before.before.before.before.before.before.before.before.before.before.bring.auto.0)  -- same-length-2
+    let b = c.root-found in
+    (c.requires.0, ((b.auto.facts ∙ c.requires.1.0.room, root_flags c.args.table.now c.requires.0 _ b.new.facts b.new.path b.ensures.0), refl)))  -- build-requires
+    (λ c κs. (c.requires.0, ((c.slots.ensures, c.slots-2.ensures, c.build.ensures), c.root-found.ensures.0)))  -- from_root-walked-requires
+    (λ c. c.from_root-walked.auto.facts ∙ c.root-found.auto.facts)  -- shape_of-facts
+    (λ c. c.from_root-walked.auto.path ∙ c.root-found.auto.path ∙ c.bring.auto.path)  -- shape_of-path
     (λ c.
-    let s = c.before.before.before.before.before.before.before.before.before.before.before.before.before.before.before.before.before.before.before.before.before.before.before.before.before.before.before.before.before.before.before.before.before.before.before.before.before.before in
-    let w = relevancy_walker s.args.table.now in
-    let f = c.before.before.before.before.from-root in (
-      c.before.before.before.before.before.before.before.before.before.before.before.before.before.before.root-alternatives.ensures,
-      subst (λ (d : ℕ). Walks w (from_root w d s.args.limit) f.result f.new.1.1.1.1.0 f.new.1.1.1.1.1.0) (c.before.before.before.before.before.before.before.before.before.before.before.before.before.before.before.before.before.before.before.before.root.ensures.1 ∙ c.before.before.before.before.before.before.before.before.before.before.before.before.before.before.before.before.before.before.before.before.before.before.before.before.before.before.before.bring.ensures.0) f.ensures,
+    let w = relevancy_walker c.args.table.now in
+    let f = c.from_root-walked in (
+      c.root_alternatives-used.ensures,
+      subst (λ (d : ℕ). Walks w (from_root w d c.args.limit) f.result f.new.facts f.new.path) (c.root-found.ensures.1 ∙ c.bring.ensures.0) f.ensures,
     )))  -- returns

@@ -13,38 +13,37 @@ use Rattle.relevancy_calls.proofs.fit.begin.Statement.{statement}
 use Rattle.relevancy_calls.proofs.fit.begin.Tie as tie
 
 -- the number that it is refused by, or 0
-lent : (c : tie.After-refusal) → (
-    let a = c.before.before.before.before.before.args in
-    c.refusal.result ≡ refusal_of a.table.now (ltb (length a.answer.now) 1024 || ltb (length a.work.now) 65536))
-lent c = let a = c.before.before.before.before.before.args in c.refusal.ensures ∙ ap (refusal_of a.table.now) c.before.too_small.ensures
+lent : (c : tie.After-refusal-e) → (
+    let a = c.args in
+    c.refusal-e.result ≡ refusal_of a.table.now (ltb (length a.answer.now) 1024 || ltb (length a.work.now) 65536))
+lent c = let a = c.args in c.refusal-e.ensures ∙ ap (refusal_of a.table.now) c.too_small.ensures
 
 -- all is taken
-good : (c : tie.Else1) → (let a = c.before.before.before.before.before.before.args in AllTaken a.table.now a.answer.now a.work.now)
+good : (c : tie.Else-e-gt0) → (let a = c.args in AllTaken a.table.now a.answer.now a.work.now)
 good c =
-    let a = c.before.before.before.before.before.before.args in
-    unrefused a.table.now a.answer.now a.work.now c.before.refusal.result (lent c.before) c.if1.false
+    let a = c.args in
+    unrefused a.table.now a.answer.now a.work.now c.refusal-e.result (lent c.before) c.if-e-gt0.false
 
 pub begin_spec : {M : Type 1} → statement M
 begin_spec =
     tie.close
     (tie.spec
-    (λ c κs. search rules)  -- too-small-requires
-    (λ c κs. search rules)  -- refusal-requires
+    (λ c κs. search rules)  -- too_small-requires
+    (λ c κs. search rules)  -- refusal-e-requires
     (λ c κs. search rules)  -- refused-requires
     (λ c.
-    let a = c.before.before.before.before.before.before.before.args in
-    let e = c.before.before in
-    begin_refused a.table.now a.answer.now a.work.now a.session e.refusal.result (lent e) c.before.if1.true c.refused.result c.refused.ensures)  -- returns
-    (λ c. sym (length-take-le 4096 c.before.before.before.before.before.before.before.args.table.now (good c.before).table_long))  -- slice-aggregate-run
-    (λ c. (good c.before.before).work_long)  -- slice-relend-prefix-run
-    (λ c. sym (length-take-le 65536 c.before.before.before.before.before.before.before.before.before.args.work.now (good c.before.before.before).work_long))  -- slice-aggregate-run-2
+    let a = c.args in
+    begin_refused a.table.now a.answer.now a.work.now a.session c.refusal-e.result (lent c.before.before) c.if-e-gt0.true c.refused.result c.refused.ensures)  -- returns-then-e-gt0
+    (λ c. sym (length-take-le 4096 c.args.table.now (good c).table_long))  -- slice_bounds-run-end
+    (λ c. (good c.before).work_long)  -- slice_bounds-run-end-2
+    (λ c. sym (length-take-le 65536 c.args.work.now (good c.before.before).work_long))  -- slice_bounds-run-end-3
     (λ c κs.
-    let a = c.before.before.before.before.before.before.before.before.before.args in
-    let t = good c.before.before.before in
+    let a = c.args in
+    let t = good c.before.before in
     (valid_table (take 4096 a.table.now) t.valid, (t.answer_long, length-take-le 65536 a.work.now t.work_long)))  -- run-requires
-    (λ c. search rules)  -- same-length
-    (λ c. search rules)  -- same-length-2
+    (λ c. search rules)  -- shape_of-answer
+    (λ c. search rules)  -- shape_of-work
     (λ c.
-    let a = c.before.before.before.before.before.before.before.before.before.before.before.before.before.before.args in
-    let u = c.before.before.before.before.run in
-    begin_runs a.table.now a.answer.now a.work.now a.session (good c.before.before.before.before.before.before.before.before) u.result u.new.1.0 u.new.1.1.0 u.ensures))  -- returns-2
+    let a = c.args in
+    let u = c.run in
+    begin_runs a.table.now a.answer.now a.work.now a.session (good c.before.before.before.before.before.before.before) u.result u.new.answer u.new.work u.ensures))  -- returns

@@ -15,24 +15,23 @@ pub decide_spec : {M : Type 1} → statement M
 decide_spec =
     tie.close
     (tie.spec
-    (λ c κs. let s = c.before.before.before in table_size s.args.table.now s.requires.0)  -- limit-in-requires
-    (λ c. search rules)  -- slice-aggregate-walk-whole
-    (λ c κs. let s = c.before.before.before.before.before.before in (s.requires.0, (no_facts, s.requires.1.1)))  -- walk-whole-requires
-    (λ c. search rules)  -- slice-aggregate-conclude
+    (λ c κs. table_size c.args.table.now c.requires.0)  -- limit_in-limit-requires
+    (λ c. search rules)  -- slice_bounds-walk_whole-end
+    (λ c κs. (c.requires.0, (no_facts, c.requires.1.1)))  -- walk_whole-whole-requires
+    (λ c. search rules)  -- slice_bounds-conclude-end
     (λ c κs.
-    let s = c.before.before.before.before.before.before.before.before.before.before.before.before.before in
-    let w = c.before.before.before.before.before.before.walk-whole in (
-      s.requires.0,
+    let w = c.walk_whole-whole in (
+      c.requires.0,
       (
-        w.auto.1.1.0 ∙ s.requires.1.1,
-        (w.ensures.0, ((s.requires.1.0, w.auto.1.0 ∙ length-replicate {A = ℕ} 6150 0), (from_root (relevancy_walker s.args.table.now) 0 c.before.before.before.before.before.before.before.before.before.limit-in.result, (refl, w.ensures.1)))),
+        w.auto.path ∙ c.requires.1.1,
+        (w.ensures.0, ((c.requires.1.0, w.auto.facts ∙ length-replicate {A = ℕ} 6150 0), (from_root (relevancy_walker c.args.table.now) 0 c.limit_in-limit.result, (refl, w.ensures.1)))),
       ),
     ))  -- conclude-requires
-    (λ c. search rules)  -- same-length
-    (λ c. search rules)  -- same-length-2
+    (λ c. search rules)  -- shape_of-answer
+    (λ c. search rules)  -- shape_of-path
     (λ c.
-    let a = c.before.before.before.before.before.before.before.before.before.before.before.before.before.before.before.before.args in
-    let l = c.before.before.before.before.before.before.before.before.before.before.before.before.limit-in in
-    let d = c.before.before.conclude in
-    first_run a.table.now l.result (l.ensures ∙ limit_of_lem a.table.now) a.answer.now d.result d.new.1.1.1.0
-    (d.ensures (from_root (relevancy_walker a.table.now) 0 l.result) refl c.before.before.before.before.before.before.before.before.before.walk-whole.ensures.1)))  -- returns
+    let a = c.args in
+    let l = c.limit_in-limit in
+    let d = c.conclude in
+    first_run a.table.now l.result (l.ensures ∙ limit_of_lem a.table.now) a.answer.now d.result d.new.answer
+    (d.ensures (from_root (relevancy_walker a.table.now) 0 l.result) refl c.walk_whole-whole.ensures.1)))  -- returns

@@ -20,21 +20,18 @@ can_split_spec =
     tie.close
     (tie.spec
     (λ c κs. search rules)  -- holding-requires
-    (λ c κs. let s = c.before.before.before.before in (s.requires.0, s.requires.1.0.known))  -- atoms-of-requires
+    (λ c κs. (c.requires.0, c.requires.1.0.known))  -- atoms_of-requires
     (λ c.
-    let s = c.before.before.before.before.before.before in
-    let a = c.before.atoms-of in
+    let a = c.atoms_of in
     sym
-    (split_short s.args.table.now s.args.r.now s.args.k s.args.values.now (two s) _ a.result c.before.before.holding.ensures a.ensures c.if1.true))  -- returns
-    (λ c κs. search rules)  -- none-holds-requires
+    (split_short c.args.table.now c.args.r.now c.args.k c.args.values.now (two c.before.before.before.before.before.before) _ a.result c.holding.ensures a.ensures c.if-holding-atoms_of.true))  -- returns-then-holding-atoms_of
+    (λ c κs. search rules)  -- none_holds-requires
     (λ c.
-    let s = c.before.before.before.before.before.before.before.before in
-    let n = c.before.none-holds in
-    sym (split_held s.args.table.now s.args.r.now s.args.k s.args.values.now (two s) _ n.ensures (not-true n.result c.if2.true)))  -- returns-2
-    (λ c κs. search rules)  -- alternatives-relevant-requires
+    let n = c.none_holds in
+    sym (split_held c.args.table.now c.args.r.now c.args.k c.args.values.now (two c.before.before.before.before.before.before.before.before) _ n.ensures (not-true n.result c.if-not-none_holds.true-raw)))  -- returns-then-not-none_holds
+    (λ c κs. search rules)  -- alternatives_relevant-requires
     (λ c.
-    let s = c.before.before.before.before.before.before.before.before.before in
-    let a = c.before.before.before.before.atoms-of in
-    let n = c.before.before.none-holds in
-    split_rest s.args.table.now s.args.r.now s.args.k s.args.values.now (two s) _ a.result c.before.before.before.before.before.holding.ensures a.ensures c.before.before.before.if1.false
-    _ n.ensures (not-false n.result c.before.if2.false) _ c.alternatives_relevant.ensures))  -- returns-3
+    let a = c.atoms_of in
+    let n = c.none_holds in
+    split_rest c.args.table.now c.args.r.now c.args.k c.args.values.now (two c.before.before.before.before.before.before.before.before.before) _ a.result c.holding.ensures a.ensures c.if-holding-atoms_of.false
+    _ n.ensures (not-false n.result c.if-not-none_holds.false-raw) _ c.alternatives_relevant.ensures))  -- returns

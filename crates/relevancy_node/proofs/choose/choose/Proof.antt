@@ -11,10 +11,10 @@ use Rattle.relevancy_rule.proofs.ChooseLaws.{choice_other, choose_on, choose_sto
 use Rattle.relevancy_node.proofs.choose.choose.Statement.{statement}
 use Rattle.relevancy_node.proofs.choose.choose.Tie as tie
 
-abbrev invariant-loop : tie.invariant-loop
+abbrev invariant-loop : tie.invariant-loop-k
 invariant-loop table r count k₀ k = (k ≤ count) × Undecided (problem_in table) (splittable_in table r) k
 
-abbrev decreases-loop : tie.decreases-loop
+abbrev decreases-loop : tie.decreases-loop-k
 decreases-loop table r count k₀ k = count - k
 
 pub choose_spec : {M : Type 1} → statement M
@@ -24,39 +24,30 @@ choose_spec =
     invariant-loop
     decreases-loop
     (λ c.
-    let s = c.before.before.before in
-    omega (arith, table_size s.args.table.now s.requires.0))  -- shared-slice-read-count
+    omega (arith, table_size c.args.table.now c.requires.0))  -- bounds-table-2
     (λ c.
-    let s = c.before.before.before in
-    (omega arith, clauses_start (problem_in s.args.table.now) (splittable_in s.args.table.now s.args.r.now)))  -- loop-holds
+    (omega arith, clauses_start (problem_in c.args.table.now) (splittable_in c.args.table.now c.args.r.now)))  -- loop-k-init
     (λ c κs.
-    let s = c.before.before.before.before.before in
-    (s.requires.0, (c.loop-test.true, s.requires.1)))  -- choose-of-requires
-    (λ c. search rules)  -- enum-known-choice
+    (c.requires.0, (c.loop-k-test.true, c.requires.1)))  -- choose_of-choice-requires
+    (λ c. search rules)  -- enum_known-choice
     (λ c.
-    let r = c.before.before.before in
-    let l = r.before.before.loop in
-    let s = r.before.before.before.before.before.before in
-    let tb = s.args.table.now in
+    let l = c.loop-k in
+    let tb = c.args.table.now in
     sym
-    (choose_stop tb s.args.r.now l.k (clause_listed tb s.requires.0 l.k r.before.loop-test.true) l.invariant.1 _ _ _ _ _
-    (sym r.choose-of.ensures ∙ c.before.choice.given.1)))  -- returns
-    (λ c. search rules)  -- enum-told
+    (choose_stop tb c.args.r.now l.k (clause_listed tb c.requires.0 l.k c.loop-k-test.true) l.invariant.1 _ _ _ _ _
+    (sym c.choose_of-choice.ensures ∙ c.in-At.is)))  -- returns-in-At
+    (λ c. search rules)  -- enum_told-1
     (λ c.
-    let s = c.before.before.before.before.before.before.before.before in
-    omega (arith, clauses_byte s.args.table.now s.requires.0, s.requires.0.fits.clauses_fit))  -- add-k
-    (λ c. omega arith)  -- loop-less
+    omega (arith, clauses_byte c.args.table.now c.requires.0, c.requires.0.fits.clauses_fit))  -- overflow_add-k
+    (λ c. omega arith)  -- loop-k-smaller
     (λ c.
-    let r = c.before.before in
-    let l = r.before.before.loop in
-    let s = r.before.before.before.before.before.before in
-    let tb = s.args.table.now in (
+    let l = c.loop-k in
+    let tb = c.args.table.now in (
       omega arith,
-      choose_on tb s.args.r.now l.k (clause_listed tb s.requires.0 l.k r.before.loop-test.true) l.invariant.1
-          (sym r.choose-of.ensures ∙ choice_other r.choose-of.result c.before.match.keys2),
-    ))  -- loop-again
+      choose_on tb c.args.r.now l.k (clause_listed tb c.requires.0 l.k c.loop-k-test.true) l.invariant.1
+          (sym c.choose_of-choice.ensures ∙ choice_other c.choose_of-choice.result c.in_default.in_default-own.keys2),
+    ))  -- loop-k-preserved
     (λ c.
-    let l = c.before.loop in
-    let s = c.before.before.before.before.before in
-    let tb = s.args.table.now in
-    sym (choose_end tb s.args.r.now l.k (omega (arith, clauses_byte tb s.requires.0)) l.invariant.1)))  -- returns-2
+    let l = c.loop-k in
+    let tb = c.args.table.now in
+    sym (choose_end tb c.args.r.now l.k (omega (arith, clauses_byte tb c.requires.0)) l.invariant.1)))  -- returns

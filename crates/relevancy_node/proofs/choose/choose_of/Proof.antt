@@ -19,10 +19,10 @@ use Rattle.relevancy_rule.proofs.RowLaws.{RowsTried, choose_nowhere, clause_boxe
 use Rattle.relevancy_node.proofs.choose.choose_of.Statement.{statement}
 use Rattle.relevancy_node.proofs.choose.choose_of.Tie as tie
 
-abbrev invariant-loop : tie.invariant-loop
+abbrev invariant-loop : tie.invariant-loop-bounds
 invariant-loop table k r at bounds z steps values₀ values = RowsTried table r k bounds z values
 
-abbrev decreases-loop : tie.decreases-loop
+abbrev decreases-loop : tie.decreases-loop-bounds
 decreases-loop table k r at bounds z steps values₀ values = volume bounds - rank bounds values
 
 -- clause k is one of the table's
@@ -33,36 +33,33 @@ known : (s : tie.Start invariant-loop decreases-loop) → ClauseKnown s.args.tab
 known s = clause_known s.args.table.now s.requires.0 s.args.k (listed s)
 
 -- it has two alternatives or more
-several : (e : tie.Else1 invariant-loop decreases-loop) → (let s = e.before.before.before.before in Splitting s.args.table.now s.args.k)
+several : (e : tie.Else-table-at-lt2 invariant-loop decreases-loop) → (Splitting e.args.table.now e.args.k)
 several e =
-    let s = e.before.before.before.before in
-    record { known = listed s; several = omega (arith, alts_count s.args.table.now s.requires.0 s.args.k (listed s), e.if1.false) }
+    record { known = listed e.before.before.before.before; several = omega (arith, alts_count e.args.table.now e.requires.0 e.args.k (listed e.before.before.before.before), e.if-table-at-lt2.false) }
 
 -- how many instances it has
 counted : (p : tie.After-pair invariant-loop decreases-loop) → (
-    let s = p.before.before.before.before.before.before.before in
-    p.pair.result ≡ (problem_in s.args.table.now).constants ^ (clause_of (problem_in s.args.table.now) s.args.k).vars)
-counted p = let s = p.before.before.before.before.before.before.before in p.pair.ensures ∙ (known s).instances
+    p.pair.result ≡ (problem_in p.args.table.now).constants ^ (clause_of (problem_in p.args.table.now) p.args.k).vars)
+counted p = p.pair.ensures ∙ (known p.before.before.before.before.before.before.before).instances
 
 -- there is one
-boxed : (e : tie.Else2 invariant-loop decreases-loop) → (let s = e.before.before.before.before.before.before.before.before in Boxed (clause_box s.args.table.now s.args.k))
+boxed : (e : tie.Else-pair-eq0 invariant-loop decreases-loop) → (Boxed (clause_box e.args.table.now e.args.k))
 boxed e =
-    let s = e.before.before.before.before.before.before.before.before in
-    clause_boxed s.args.table.now s.requires.0 s.args.r.now s.args.k (several e.before.before.before.before) (λ none. e.if2.false (counted e.before ∙ none))
+    clause_boxed e.args.table.now e.requires.0 e.args.r.now e.args.k (several e.before.before.before.before) (λ none. e.if-pair-eq0.false (counted e.before ∙ none))
 
 -- the box of all its values
-made : (f : tie.After-full-box invariant-loop decreases-loop) → (let s = f.before.before.before.before.before.before.before.before.before.before.before.before in f.full-box.new.1.1.0 ≡ clause_box s.args.table.now s.args.k)
-made f = let s = f.before.before.before.before.before.before.before.before.before.before.before.before in f.full-box.ensures ∙ ap (full_box (get_or s.args.table.now 0 0)) (known s).variables
+made : (f : tie.After-full_box invariant-loop decreases-loop) → (f.full_box.new.bounds ≡ clause_box f.args.table.now f.args.k)
+made f = f.full_box.ensures ∙ ap (full_box (get_or f.args.table.now 0 0)) (known f.before.before.before.before.before.before.before.before.before.before.before.before).variables
 
 -- none of the row can be split: the values are as they were
-kept : (e : tie.Else3 invariant-loop decreases-loop) → e.before.before.choose-row.new.1.1.1.1.1.0 ≡ e.before.before.before.before.before.loop.values
-kept e = e.before.before.choose-row.ensures.kept e.if3.false
+kept : (e : tie.Else-choose_row invariant-loop decreases-loop) → e.choose_row.new.values ≡ e.loop-bounds.values
+kept e = e.choose_row.ensures.kept e.if-choose_row.false
 
 -- the row after it
-next : (c : tie.After-next-row invariant-loop decreases-loop) →
-    RowNext c.before.before.before.before.before.before.before.before.before.before.before.before.full-box.new.1.1.0 c.before.before.before.before.before.before.before.before.before.before.last-free.result c.before.before.before.before.before.before.before.before.loop.values c.next_row.result c.next_row.new.1.1.0
+next : (c : tie.After-next_row invariant-loop decreases-loop) →
+    RowNext c.full_box.new.bounds c.last_free-z.result c.loop-bounds.values c.next_row.result c.next_row.new.values
 next c =
-    subst (λ (v : List ℕ). RowNext c.before.before.before.before.before.before.before.before.before.before.before.before.full-box.new.1.1.0 c.before.before.before.before.before.before.before.before.before.before.last-free.result v c.next_row.result c.next_row.new.1.1.0)
+    subst (λ (v : List ℕ). RowNext c.full_box.new.bounds c.last_free-z.result v c.next_row.result c.next_row.new.values)
     (kept c.before.before.before) c.next_row.ensures
 
 pub choose_of_spec : {M : Type 1} → statement M
@@ -71,60 +68,49 @@ choose_of_spec =
     (tie.spec
     invariant-loop
     decreases-loop
-    (λ c. omega arith)  -- mul-at
-    (λ c. omega arith)  -- add-at
-    (λ c. omega arith)  -- add-if1
-    (λ c. let k = known c.before.before.before in omega (arith, k.size, k.few))  -- shared-slice-read-if1
+    (λ c. omega arith)  -- overflow_mul-at
+    (λ c. omega arith)  -- overflow_add-at
+    (λ c. omega arith)  -- overflow_add-at-2
+    (λ c. let k = known c.before.before.before in omega (arith, k.size, k.few))  -- bounds-table-at
     (λ c.
-    let s = c.before.before.before.before in
-    sym (choose_horn s.args.table.now s.args.r.now s.args.k (omega (arith, alts_count s.args.table.now s.requires.0 s.args.k (listed s), c.if1.true))))  -- returns
-    (λ c. omega arith)  -- add-pair
-    (λ c. let k = known c.before.before.before.before.before in omega (arith, k.size, k.few))  -- shared-slice-read-pair
-    (λ c. omega arith)  -- add-pair-2
-    (λ c. let k = known c.before.before.before.before.before.before in omega (arith, k.size, k.few))  -- shared-slice-read-pair-2
+    sym (choose_horn c.args.table.now c.args.r.now c.args.k (omega (arith, alts_count c.args.table.now c.requires.0 c.args.k (listed c.before.before.before.before), c.if-table-at-lt2.true))))  -- returns-then-table-at-lt2
+    (λ c. omega arith)  -- overflow_add-at-3
+    (λ c. let k = known c.before.before.before.before.before in omega (arith, k.size, k.few))  -- bounds-table-at-2
+    (λ c. omega arith)  -- overflow_add-at-4
+    (λ c. let k = known c.before.before.before.before.before.before in omega (arith, k.size, k.few))  -- bounds-table-at-3
     (λ c κs. tt)  -- pair-requires
     (λ c.
-    let s = c.before.before.before.before.before.before.before.before in
-    sym (choose_nowhere s.args.table.now s.requires.0 s.args.r.now s.args.k (several c.before.before.before.before) (sym (counted c.before) ∙ c.if2.true)))  -- returns-2
-    (λ c. let k = known c.before.before.before.before.before.before.before.before.before in omega (arith, k.size))  -- shared-slice-read-full-box
-    (λ c. omega arith)  -- add-full-box
-    (λ c. let k = known c.before.before.before.before.before.before.before.before.before.before in omega (arith, k.size, k.few))  -- shared-slice-read-full-box-2
-    (λ c κs. refl)  -- full-box-requires
-    (λ c. sym (ap length (made c.before)))  -- slice-aggregate-last-free
-    (λ c κs. subst Boxed (sym (made c.before)) (boxed c.before.before.before.before.before))  -- last-free-requires
-    (λ c κs. let s = c.before.before.before.before.before.before.before.before.before.before.before.before.before.before in (s.requires.0, (several c.before.before.before.before.before.before.before.before.before.before, boxed c.before.before.before.before.before.before, c.last-free.ensures.known)))  -- steps-of-requires
+    sym (choose_nowhere c.args.table.now c.requires.0 c.args.r.now c.args.k (several c.before.before.before.before) (sym (counted c.before) ∙ c.if-pair-eq0.true)))  -- returns-then-pair-eq0
+    (λ c. let k = known c.before.before.before.before.before.before.before.before.before in omega (arith, k.size))  -- bounds-table-0
+    (λ c. omega arith)  -- overflow_add-at-5
+    (λ c. let k = known c.before.before.before.before.before.before.before.before.before.before in omega (arith, k.size, k.few))  -- bounds-table-at-4
+    (λ c κs. refl)  -- full_box-requires
+    (λ c. sym (ap length (made c.before)))  -- slice_bounds-last_free-end
+    (λ c κs. subst Boxed (sym (made c.before)) (boxed c.before.before.before.before.before))  -- last_free-z-requires
+    (λ c κs. (c.requires.0, (several c.before.before.before.before.before.before.before.before.before.before, boxed c.before.before.before.before.before.before, c.last_free-z.ensures.known)))  -- steps_of-steps-requires
     (λ c.
-    let s = c.before.before.before.before.before.before.before.before.before.before.before.before.before.before.before in
-    rows_start s.args.table.now s.requires.0 s.args.r.now s.args.k (several c.before.before.before.before.before.before.before.before.before.before.before) (made c.before.before.before) (boxed c.before.before.before.before.before.before.before) c.before.last-free.ensures)  -- loop-holds
-    (λ c. sym (ap length (made c.before.before.before.before.before)))  -- slice-aggregate-choose-row
-    (λ c. sym c.before.before.loop.invariant.row.begins.inside.four)  -- slice-aggregate-choose-row-2
+    rows_start c.args.table.now c.requires.0 c.args.r.now c.args.k (several c.before.before.before.before.before.before.before.before.before.before.before) (made c.before.before.before) (boxed c.before.before.before.before.before.before.before) c.last_free-z.ensures)  -- loop-bounds-init
+    (λ c. sym (ap length (made c.before.before.before.before.before)))  -- slice_bounds-choose_row-end
+    (λ c. sym c.loop-bounds.invariant.row.begins.inside.four)  -- slice_bounds-choose_row-end-in-loop-bounds
     (λ c κs.
-    let s = c.before.before.before.before.before.before.before.before.before.before.before.before.before.before.before.before.before.before in
-    (s.requires.0, ((several c.before.before.before.before.before.before.before.before.before.before.before.before.before.before, c.before.before.loop.invariant.row), (c.before.before.before.steps_of.ensures, s.requires.1.1))))  -- choose-row-requires
-    (λ c. search rules)  -- array-read-t31
-    (λ c. search rules)  -- array-read-t34
-    (λ c. search rules)  -- array-read-t37
-    (λ c. search rules)  -- array-read-t40
+    (c.requires.0, ((several c.before.before.before.before.before.before.before.before.before.before.before.before.before.before, c.loop-bounds.invariant.row), (c.steps_of-steps.ensures, c.requires.1.1))))  -- choose_row-requires
+    (λ c. search rules)  -- bounds-values-0
+    (λ c. search rules)  -- bounds-values-1
+    (λ c. search rules)  -- bounds-values-2
+    (λ c. search rules)  -- bounds-values-3
     (λ c.
-    let s = c.before.before.before.before.before.before.before.before.before.before.before.before.before.before.before.before.before.before.before.before.before in
-    sym (rows_here s.args.table.now s.requires.0 s.args.r.now s.args.k (several c.before.before.before.before.before.before.before.before.before.before.before.before.before.before.before.before.before) c.before.before.before.before.before.loop.invariant (c.before.before.choose-row.ensures.here c.if3.true)))  -- returns-3
-    (λ c. sym (ap length (made c.before.before.before.before.before.before.before.before.before.before)))  -- slice-aggregate-next-row
-    (λ c. sym (ap length (kept c.before.before) ∙ c.before.before.before.before.before.before.before.loop.invariant.row.begins.inside.four))  -- slice-aggregate-next-row-2
+    sym (rows_here c.args.table.now c.requires.0 c.args.r.now c.args.k (several c.before.before.before.before.before.before.before.before.before.before.before.before.before.before.before.before.before) c.loop-bounds.invariant (c.choose_row.ensures.here c.if-choose_row.true)))  -- returns-then-choose_row
+    (λ c. sym (ap length (made c.before.before.before.before.before.before.before.before.before.before)))  -- slice_bounds-next_row-end
+    (λ c. sym (ap length (kept c.before.before) ∙ c.loop-bounds.invariant.row.begins.inside.four))  -- slice_bounds-next_row-end-in-loop-bounds
     (λ c κs.
-    let row = c.before.before.before.before.before.before.before.loop.invariant.row in
-    (ap length (made c.before.before.before.before.before.before.before.before.before.before.before), row.along, subst (RowFirst _ _) (sym (kept c.before.before)) row.begins))  -- next-row-requires
+    let row = c.loop-bounds.invariant.row in
+    (ap length (made c.before.before.before.before.before.before.before.before.before.before.before), row.along, subst (RowFirst _ _) (sym (kept c.before.before)) row.begins))  -- next_row-requires
     (λ c.
-    let s = c.before.before.before.before.before.before.before.before.before.before.before.before.before.before.before.before.before.before.before.before.before.before.before.before.before.before in
-    let x = c.before.before.before.before.before.before.before.choose-row in
-    let n = c.before.before in
-    sym (rows_end s.args.table.now s.requires.0 s.args.r.now s.args.k (several c.before.before.before.before.before.before.before.before.before.before.before.before.before.before.before.before.before.before.before.before.before.before) c.before.before.before.before.before.before.before.before.before.before.loop.invariant (x.ensures.none c.before.before.before.before.before.if3.false) (next n) (not-true n.next_row.result c.if4.true)))  -- returns-4
+    let x = c.choose_row in
+    sym (rows_end c.args.table.now c.requires.0 c.args.r.now c.args.k (several c.before.before.before.before.before.before.before.before.before.before.before.before.before.before.before.before.before.before.before.before.before.before) c.loop-bounds.invariant (x.ensures.none c.if-choose_row.false) (next c.before.before) (not-true c.next_row.result c.if-not-next_row.true-raw)))  -- returns-then-not-next_row
     (λ c.
-    let s = c.before.before.before.before.before.before.before.before.before.before.before.before.before.before.before.before.before.before.before.before.before.before.before.before.before.before in
-    let x = c.before.before.before.before.before.before.before.choose-row in
-    let n = c.before.before in
-    rows_fall s.args.table.now s.requires.0 s.args.r.now s.args.k (several c.before.before.before.before.before.before.before.before.before.before.before.before.before.before.before.before.before.before.before.before.before.before) c.before.before.before.before.before.before.before.before.before.before.loop.invariant (x.ensures.none c.before.before.before.before.before.if3.false) (next n) (not-false n.next_row.result c.if4.false))  -- loop-less
+    let x = c.choose_row in
+    rows_fall c.args.table.now c.requires.0 c.args.r.now c.args.k (several c.before.before.before.before.before.before.before.before.before.before.before.before.before.before.before.before.before.before.before.before.before.before) c.loop-bounds.invariant (x.ensures.none c.if-choose_row.false) (next c.before.before) (not-false c.next_row.result c.if-not-next_row.false-raw))  -- loop-bounds-smaller
     (λ c.
-    let s = c.before.before.before.before.before.before.before.before.before.before.before.before.before.before.before.before.before.before.before.before.before.before.before.before.before.before in
-    let x = c.before.before.before.before.before.before.before.choose-row in
-    let n = c.before.before in
-    rows_on s.args.table.now s.requires.0 s.args.r.now s.args.k (several c.before.before.before.before.before.before.before.before.before.before.before.before.before.before.before.before.before.before.before.before.before.before) c.before.before.before.before.before.before.before.before.before.before.loop.invariant (x.ensures.none c.before.before.before.before.before.if3.false) (next n) (not-false n.next_row.result c.if4.false)))  -- loop-again
+    let x = c.choose_row in
+    rows_on c.args.table.now c.requires.0 c.args.r.now c.args.k (several c.before.before.before.before.before.before.before.before.before.before.before.before.before.before.before.before.before.before.before.before.before.before) c.loop-bounds.invariant (x.ensures.none c.if-choose_row.false) (next c.before.before) (not-false c.next_row.result c.if-not-next_row.false-raw)))  -- loop-bounds-preserved

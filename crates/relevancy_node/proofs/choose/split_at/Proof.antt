@@ -10,15 +10,12 @@ pub split_at_spec : {M : Type 1} → statement M
 split_at_spec =
     tie.close
     (tie.spec
-    (λ c κs. let s = c.before.before.before in omega (arith, early_small s.args.table.now s.requires.0 s.args.r.now s.args.k s.requires.1.0.1 s.args.values.now s.requires.1.0.0 s.requires.1.1.2, s.requires.1.1.0))  -- flag-is-requires
+    (λ c κs. omega (arith, early_small c.args.table.now c.requires.0 c.args.r.now c.args.k c.requires.1.0.1 c.args.values.now c.requires.1.0.0 c.requires.1.1.2, c.requires.1.1.0))  -- flag_is-requires
     (λ c.
-    let s = c.before.before.before.before.before in
-    sym (split_early s.args.table.now s.requires.0 s.args.r.now s.args.k s.requires.1.0.1 s.args.values.now s.requires.1.0.0 s.requires.1.1.2 s.args.none s.requires.1.1.1 (sym c.before.flag-is.ensures ∙ c.if1.true)))  -- returns
-    (λ c κs. let s = c.before.before.before.before.before in omega (arith, late_small s.args.table.now s.requires.0 s.args.r.now s.args.k s.requires.1.0.1 s.args.values.now s.requires.1.0.0 s.requires.1.1.2, s.requires.1.1.0))  -- holds-requires
+    sym (split_early c.args.table.now c.requires.0 c.args.r.now c.args.k c.requires.1.0.1 c.args.values.now c.requires.1.0.0 c.requires.1.1.2 c.args.none c.requires.1.1.1 (sym c.flag_is.ensures ∙ c.if-flag_is.true)))  -- returns-then-flag_is
+    (λ c κs. omega (arith, late_small c.args.table.now c.requires.0 c.args.r.now c.args.k c.requires.1.0.1 c.args.values.now c.requires.1.0.0 c.requires.1.1.2, c.requires.1.1.0))  -- holds-requires
     (λ c.
-    let s = c.before.before.before.before.before.before.before in
-    sym (split_late s.args.table.now s.requires.0 s.args.r.now s.args.k s.requires.1.0.1 s.args.values.now s.requires.1.0.0 s.requires.1.1.2 (sym c.before.holds.ensures ∙ c.if2.true)))  -- returns-2
+    sym (split_late c.args.table.now c.requires.0 c.args.r.now c.args.k c.requires.1.0.1 c.args.values.now c.requires.1.0.0 c.requires.1.1.2 (sym c.holds.ensures ∙ c.if-holds.true)))  -- returns-then-holds
     (λ c κs.
-    let s = c.before.before.before.before.before.before.before in
-    (s.requires.0, (s.requires.1.0.0, (s.requires.1.1.0, omega (arith, alts_count s.args.table.now s.requires.0 s.args.k s.requires.1.0.1.known, s.requires.1.0.1.several)))))  -- can-split-requires
-    (λ c. c.can-split.ensures))  -- returns-3
+    (c.requires.0, (c.requires.1.0.0, (c.requires.1.1.0, omega (arith, alts_count c.args.table.now c.requires.0 c.args.k c.requires.1.0.1.known, c.requires.1.0.1.several)))))  -- can_split-requires
+    (λ c. c.can_split.ensures))  -- returns

@@ -26,23 +26,22 @@ asked s side l at e =
     (lawful_headed tb s.requires.0, (f.0, f.1, s.requires.1.2))
 
 -- where the first atom stands that is looked at
-early : (c : tie.After-slot-at) → (let s = c.before.before.before in c.slot_at.result ≡ slot_at (bare s.args.table.now s.args.k) s.args.k 0)
-early c = let s = c.before.before.before in c.slot_at.ensures ∙ ap (λ (n : ℕ). slot_at (eqb n 0) s.args.k 0) c.before.atoms-of.ensures
+early : (c : tie.After-slot_at) → (c.slot_at.result ≡ slot_at (bare c.args.table.now c.args.k) c.args.k 0)
+early c = c.slot_at.ensures ∙ ap (λ (n : ℕ). slot_at (eqb n 0) c.args.k 0) c.atoms_of-none.ensures
 
 pub steps_of_spec : {M : Type 1} → statement M
 steps_of_spec =
     tie.close
     (tie.spec
-    (λ c κs. let s = c.before in (s.requires.0, s.requires.1.0.known))  -- atoms-of-requires
-    (λ c κs. tt)  -- slot-at-requires
-    (λ c κs. let s = c.before.before.before in asked s (bare s.args.table.now s.args.k) (some_early s.requires.1.0) c.slot_at.result (early c))  -- step-in-requires
-    (λ c κs. tt)  -- slot-at-requires-2
-    (λ c κs. let s = c.before.before.before.before.before in asked s true (omega (arith, s.requires.1.0.several)) c.slot-at2.result c.slot-at2.ensures)  -- step-in-requires-2
+    (λ c κs. (c.requires.0, c.requires.1.0.known))  -- atoms_of-none-requires
+    (λ c κs. tt)  -- slot_at-requires
+    (λ c κs. asked c.before.before.before (bare c.args.table.now c.args.k) (some_early c.requires.1.0) c.slot_at.result (early c))  -- step_in-s-requires
+    (λ c κs. tt)  -- slot_at-requires-2
+    (λ c κs. asked c.before.before.before.before.before true (omega (arith, c.requires.1.0.several)) c.slot_at-2.result c.slot_at-2.ensures)  -- step_in-t-requires
     (λ c.
-    let s = c.before.before.before.before.before.before in
-    let tb = s.args.table.now in
-    let z = s.args.z in
+    let tb = c.args.table.now in
+    let z = c.args.z in
     record {
-      early = subst (λ (at : ℕ). StepsBy tb at z c.before.before.step_in.result) (early c.before.before.before) c.before.before.step_in.ensures;
-      late = subst (λ (at : ℕ). StepsBy tb at z c.step-in2.result) c.before.slot-at2.ensures c.step-in2.ensures;
+      early = subst (λ (at : ℕ). StepsBy tb at z c.step_in-s.result) (early c.before.before.before) c.step_in-s.ensures;
+      late = subst (λ (at : ℕ). StepsBy tb at z c.step_in-t.result) c.slot_at-2.ensures c.step_in-t.ensures;
     }))  -- returns

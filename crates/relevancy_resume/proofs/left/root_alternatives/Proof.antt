@@ -12,16 +12,13 @@ pub root_alternatives_spec : {M : Type 1} → statement M
 root_alternatives_spec =
     tie.close
     (tie.spec
-    (λ c. search rules)  -- enum-told
+    (λ c. search rules)  -- enum_told-1
     (λ c.
-    let s = c.before.before.before in
-    root_unsplit (relevancy_walker s.args.table.now) s.requires.1.0 s.args.path.now s.args.found c.match.keys2 s.requires.1.1)  -- returns
+    root_unsplit (relevancy_walker c.args.table.now) c.requires.1.0 c.args.path.now c.args.found c.in_default.in_default-own.keys2 c.requires.1.1)  -- returns-in_default
     (λ c κs.
-    let s = c.before.before.before.before in
-    let at = root_split (relevancy_walker s.args.table.now) s.requires.1.0 s.args.path.now s.args.found c.before.match.keys1 s.requires.1.1 in
-    (s.requires.0, (s.requires.1.1.reached.room, at.0)))  -- alternatives-at-requires
+    let at = root_split (relevancy_walker c.args.table.now) c.requires.1.0 c.args.path.now c.args.found c.in-Split.in-Split-own.keys1 c.requires.1.1 in
+    (c.requires.0, (c.requires.1.1.reached.room, at.0)))  -- alternatives_at-all-requires
     (λ c.
-    let s = c.before.before.before.before.before in
-    let at = root_split (relevancy_walker s.args.table.now) s.requires.1.0 s.args.path.now s.args.found c.before.before.match.keys1 s.requires.1.1 in
-    let all = c.alternatives-at in
-    sym (listed_many all.result all.ensures.0) ∙ ap length (all.ensures.1 ∙ sym at.1)))  -- returns-2
+    let at = root_split (relevancy_walker c.args.table.now) c.requires.1.0 c.args.path.now c.args.found c.in-Split.in-Split-own.keys1 c.requires.1.1 in
+    let all = c.alternatives_at-all in
+    sym (listed_many all.result all.ensures.0) ∙ ap length (all.ensures.1 ∙ sym at.1)))  -- returns

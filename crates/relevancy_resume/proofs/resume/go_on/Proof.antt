@@ -14,16 +14,15 @@ go_on_spec =
     tie.close
     (tie.spec
     (λ c κs.
-    let s = c.before.before.before.before.before.before.before in
-    let a = s.args in
-    let sizes = s.requires.1.1.1.0 in
+    let a = c.args in
+    let sizes = c.requires.1.1.1.0 in
     let so_far = root_so_far (relevancy_walker a.table.now) a.path.now a.atoms.now a.nexts.now in
-    (s.requires.0, (s.requires.1.0, (s.requires.1.1.0.reached, (so_far, ((omega arith, sizes.0, sizes.1), s.requires.1.1.1.1))))))  -- resume-requires
-    (λ c. search rules)  -- same-length
-    (λ c. search rules)  -- same-length-2
+    (c.requires.0, (c.requires.1.0, (c.requires.1.1.0.reached, (so_far, ((omega arith, sizes.0, sizes.1), c.requires.1.1.1.1))))))  -- resume-requires
+    (λ c. search rules)  -- shape_of-facts
+    (λ c. search rules)  -- shape_of-path
     (λ c.
-    let a = c.before.before.before.before.before.before.before.before.before.before.before.before.args in
+    let a = c.args in
     let w = relevancy_walker a.table.now in
-    let q = c.before.before.before.before.resume in
+    let q = c.resume in
     let place = place_of w.find (session_of a.on.standing a.on.count a.atoms.now a.nexts.now a.steps a.on.next (deepest_at a.path.now)) in
-    goes_on w place a.on.count a.on.limit a.facts.now a.path.now 0 q.result q.new.1.1.1.1.0 q.new.1.1.1.1.1.0 q.ensures))  -- returns
+    goes_on w place a.on.count a.on.limit a.facts.now a.path.now 0 q.result q.new.facts q.new.path q.ensures))  -- returns

@@ -21,95 +21,77 @@ pub stand_spec : {M : Type 1} → statement M
 stand_spec =
     tie.close
     (tie.spec
-    (λ c. search rules)  -- enum-known-found
+    (λ c. search rules)  -- enum_known-found
     (λ c κs.
-    let s = c.before.before.before.before.before.before.before in
-    let w = relevancy_walker s.args.table.now in
-    let g = c.before.before.found.given in
-    let at = reached_as w s.args.facts.now s.args.path.now s.args.depth s.args.done s.args.found (Split g.0.0) g.1 s.requires.1.1.0 in
-    (s.requires.0, (at.room, at.ready.3.listed)))  -- alternatives-at-requires
-    (λ c κs. c.alternatives-at.ensures.0)  -- split-stands-requires
-    (λ c. search rules)  -- same-length
+    let w = relevancy_walker c.args.table.now in
+    let at = reached_as w c.args.facts.now c.args.path.now c.args.depth c.args.done c.args.found (Split c.in-Split.n) c.in-Split.is c.requires.1.1.0 in
+    (c.requires.0, (at.room, at.ready.3.listed)))  -- alternatives_at-all-requires
+    (λ c κs. c.alternatives_at-all.ensures.0)  -- split_stands-requires
+    (λ c. search rules)  -- shape_of-path-then-not-split_stands
     (λ c.
-    let s = c.before.before.before.before.before.before.before.before.before.before in
-    let w = relevancy_walker s.args.table.now in
-    let g = c.before.before.before.before.before.found.given in
-    let at = reached_as w s.args.facts.now s.args.path.now s.args.depth s.args.done s.args.found (Split g.0.0) g.1 s.requires.1.1.0 in
-    let b = c.before.split-stands in
-    split_nowhere w s.args.facts.now s.args.path.now s.args.depth s.args.done s.args.on.count s.args.on.limit s.args.on.standing s.args.on.next g.0.0 at
-    (sym (not-true b.result c.if1.true) ∙ b.ensures
-    ∙ ap (λ (ds : List ℕ). split_stands (standing_by s.args.on.standing) s.args.depth ds s.args.on.next) c.before.before.alternatives-at.ensures.1))  -- returns
+    let w = relevancy_walker c.args.table.now in
+    let at = reached_as w c.args.facts.now c.args.path.now c.args.depth c.args.done c.args.found (Split c.in-Split.n) c.in-Split.is c.requires.1.1.0 in
+    let b = c.split_stands in
+    split_nowhere w c.args.facts.now c.args.path.now c.args.depth c.args.done c.args.on.count c.args.on.limit c.args.on.standing c.args.on.next c.in-Split.n at
+    (sym (not-true b.result c.if-not-split_stands.true-raw) ∙ b.ensures
+    ∙ ap (λ (ds : List ℕ). split_stands (standing_by c.args.on.standing) c.args.depth ds c.args.on.next) c.alternatives_at-all.ensures.1))  -- returns-then-not-split_stands
     (λ c κs.
-    let s = c.before.before.before.before.before.before.before.before.before.before.before.before in
-    let w = relevancy_walker s.args.table.now in
-    let g = c.before.before.before.before.before.before.before.found.given in
-    let at = reached_as w s.args.facts.now s.args.path.now s.args.depth s.args.done s.args.found (Split g.0.0) g.1 s.requires.1.1.0 in
+    let w = relevancy_walker c.args.table.now in
+    let at = reached_as w c.args.facts.now c.args.path.now c.args.depth c.args.done c.args.found (Split c.in-Split.n) c.in-Split.is c.requires.1.1.0 in
     ((at.store, omega arith), (at.room, at.ready.1)))  -- rewind-requires
     (λ c κs.
-    let s = c.before.before.before.before.before.before.before.before.before.before.before.before.before.before.before.before.before.before.before in
-    let w = relevancy_walker s.args.table.now in
-    let g = c.before.before.before.before.before.before.before.before.before.before.before.before.before.before.found.given in
-    let at = reached_as w s.args.facts.now s.args.path.now s.args.depth s.args.done s.args.found (Split g.0.0) g.1 s.requires.1.1.0 in
-    let u = c.before.before.before.before.before.before.rewind in
-    let t : Turned s.args.path.now s.args.depth s.args.on.next u.new.1.0 = subst (Turned s.args.path.now s.args.depth s.args.on.next) (sym u.ensures.1) (turned s.args.path.now s.args.depth at.room s.args.on.next) in
-    let node = turned_parted w s.args.path.now s.args.depth s.args.on.next u.new.1.0 t u.new.0 (u.auto.1.0 ∙ at.room.size)
-    (Split-Parted w s.args.facts.now s.args.path.now s.args.depth s.args.done g.0.0 at u.new.0 u.ensures.0) in
-    (s.requires.0, (s.requires.1.0, (node, (omega (arith, t.mark_is, at.ready.0), s.requires.1.1.1)))))  -- work-off-requires
-    (λ c. search rules)  -- same-length-2
-    (λ c. search rules)  -- same-length-3
+    let w = relevancy_walker c.args.table.now in
+    let at = reached_as w c.args.facts.now c.args.path.now c.args.depth c.args.done c.args.found (Split c.in-Split.n) c.in-Split.is c.requires.1.1.0 in
+    let u = c.rewind in
+    let t : Turned c.args.path.now c.args.depth c.args.on.next u.new.path = subst (Turned c.args.path.now c.args.depth c.args.on.next) (sym u.ensures.1) (turned c.args.path.now c.args.depth at.room c.args.on.next) in
+    let node = turned_parted w c.args.path.now c.args.depth c.args.on.next u.new.path t u.new.facts (u.auto.path ∙ at.room.size)
+    (Split-Parted w c.args.facts.now c.args.path.now c.args.depth c.args.done c.in-Split.n at u.new.facts u.ensures.0) in
+    (c.requires.0, (c.requires.1.0, (node, (omega (arith, t.mark_is, at.ready.0), c.requires.1.1.1)))))  -- work_off-walked-requires
+    (λ c. search rules)  -- shape_of-facts-in-Split
+    (λ c. search rules)  -- shape_of-path-in-Split
     (λ c.
-    let s = c.before.before.before.before.before.before.before.before.before.before.before.before.before.before.before.before.before.before.before.before.before.before.before.before in
-    let w = relevancy_walker s.args.table.now in
-    let g = c.before.before.before.before.before.before.before.before.before.before.before.before.before.before.before.before.before.before.before.found.given in
-    let at = reached_as w s.args.facts.now s.args.path.now s.args.depth s.args.done s.args.found (Split g.0.0) g.1 s.requires.1.1.0 in
-    let b = c.before.before.before.before.before.before.before.before.before.before.before.before.before.before.before.split-stands in
-    let u = c.before.before.before.before.before.before.before.before.before.before.before.rewind in
-    let t : Turned s.args.path.now s.args.depth s.args.on.next u.new.1.0 = subst (Turned s.args.path.now s.args.depth s.args.on.next) (sym u.ensures.1) (turned s.args.path.now s.args.depth at.room s.args.on.next) in
-    let y = c.before.before.before.before.work-off in
-    split_goes w s.args.facts.now s.args.path.now s.args.depth s.args.done s.args.on.count s.args.on.limit s.args.on.standing s.args.on.next g.0.0 at
-    (sym (not-false b.result c.before.before.before.before.before.before.before.before.before.before.before.before.before.before.if1.false) ∙ b.ensures
-    ∙ ap (λ (ds : List ℕ). split_stands (standing_by s.args.on.standing) s.args.depth ds s.args.on.next) c.before.before.before.before.before.before.before.before.before.before.before.before.before.before.before.before.alternatives-at.ensures.1) u.new.0 u.ensures.0 u.new.1.0 t y.result y.new.1.1.1.1.0 y.new.1.1.1.1.1.0 y.ensures.0 y.ensures.1)  -- returns-2
-    (λ c. search rules)  -- enum-known-found-2
-    (λ c κs. search rules)  -- closed-stands-requires
+    let w = relevancy_walker c.args.table.now in
+    let at = reached_as w c.args.facts.now c.args.path.now c.args.depth c.args.done c.args.found (Split c.in-Split.n) c.in-Split.is c.requires.1.1.0 in
+    let b = c.split_stands in
+    let u = c.rewind in
+    let t : Turned c.args.path.now c.args.depth c.args.on.next u.new.path = subst (Turned c.args.path.now c.args.depth c.args.on.next) (sym u.ensures.1) (turned c.args.path.now c.args.depth at.room c.args.on.next) in
+    let y = c.work_off-walked in
+    split_goes w c.args.facts.now c.args.path.now c.args.depth c.args.done c.args.on.count c.args.on.limit c.args.on.standing c.args.on.next c.in-Split.n at
+    (sym (not-false b.result c.if-not-split_stands.false-raw) ∙ b.ensures
+    ∙ ap (λ (ds : List ℕ). split_stands (standing_by c.args.on.standing) c.args.depth ds c.args.on.next) c.alternatives_at-all.ensures.1) u.new.facts u.ensures.0 u.new.path t y.result y.new.facts y.new.path y.ensures.0 y.ensures.1)  -- returns-in-Split
+    (λ c. search rules)  -- enum_known-found-in-Closed-1
+    (λ c κs. search rules)  -- closed_stands-requires
     (λ c.
-    let s = c.before.before.before.before.before.before.before.before in
-    let w = relevancy_walker s.args.table.now in
-    let g = c.before.before.before.found2.given in
-    let at = reached_as w s.args.facts.now s.args.path.now s.args.depth s.args.done s.args.found (Closed g.0.0) g.1 s.requires.1.1.0 in
-    let b = c.before.closed-stands in
-    closed_nowhere w s.args.facts.now s.args.path.now s.args.depth s.args.done s.args.on.count s.args.on.limit s.args.on.standing s.args.on.next g.0.0 at
-    (sym (not-true b.result c.if2.true) ∙ b.ensures))  -- returns-3
+    let w = relevancy_walker c.args.table.now in
+    let at = reached_as w c.args.facts.now c.args.path.now c.args.depth c.args.done c.args.found (Closed c.in-Closed.n) c.in-Closed.is c.requires.1.1.0 in
+    let b = c.closed_stands in
+    closed_nowhere w c.args.facts.now c.args.path.now c.args.depth c.args.done c.args.on.count c.args.on.limit c.args.on.standing c.args.on.next c.in-Closed.n at
+    (sym (not-true b.result c.if-not-closed_stands.true-raw) ∙ b.ensures))  -- returns-then-not-closed_stands
     (λ c κs.
-    let s = c.before.before.before.before.before.before.before.before.before in
-    let w = relevancy_walker s.args.table.now in
-    let g = c.before.before.before.before.found2.given in
-    let at = reached_as w s.args.facts.now s.args.path.now s.args.depth s.args.done s.args.found (Closed g.0.0) g.1 s.requires.1.1.0 in
+    let w = relevancy_walker c.args.table.now in
+    let at = reached_as w c.args.facts.now c.args.path.now c.args.depth c.args.done c.args.found (Closed c.in-Closed.n) c.in-Closed.is c.requires.1.1.0 in
     (at.store, (at.ready, omega arith)))  -- undo-requires
-    (λ c. search rules)  -- same-length-4
+    (λ c. search rules)  -- shape_of-facts-in-Closed
     (λ c.
-    let s = c.before.before.before.before.before.before.before.before.before.before.before.before in
-    let w = relevancy_walker s.args.table.now in
-    let g = c.before.before.before.before.before.before.before.found2.given in
-    let at = reached_as w s.args.facts.now s.args.path.now s.args.depth s.args.done s.args.found (Closed g.0.0) g.1 s.requires.1.1.0 in
-    let b = c.before.before.before.before.before.closed-stands in
-    let u = c.before.before.undo in
-    closed_goes w s.args.facts.now s.args.path.now s.args.depth s.args.done s.args.on.count s.args.on.limit s.args.on.standing s.args.on.next g.0.0 at
-    (sym (not-false b.result c.before.before.before.before.if2.false) ∙ b.ensures) s.requires.1.1.1 u.new.0 u.ensures)  -- returns-4
-    (λ c. search rules)  -- enum-told
-    (λ c κs. search rules)  -- open-stands-requires
+    let w = relevancy_walker c.args.table.now in
+    let at = reached_as w c.args.facts.now c.args.path.now c.args.depth c.args.done c.args.found (Closed c.in-Closed.n) c.in-Closed.is c.requires.1.1.0 in
+    let b = c.closed_stands in
+    let u = c.undo in
+    closed_goes w c.args.facts.now c.args.path.now c.args.depth c.args.done c.args.on.count c.args.on.limit c.args.on.standing c.args.on.next c.in-Closed.n at
+    (sym (not-false b.result c.if-not-closed_stands.false-raw) ∙ b.ensures) c.requires.1.1.1 u.new.r u.ensures)  -- returns-in-Closed
+    (λ c. search rules)  -- enum_told-1
+    (λ c κs. search rules)  -- open_stands-requires
     (λ c.
-    let s = c.before.before.before.before.before.before.before in
-    let w = relevancy_walker s.args.table.now in
-    let o = found_open s.args.found c.before.before.before.match.keys3 in
-    let at = reached_as w s.args.facts.now s.args.path.now s.args.depth s.args.done s.args.found (Open o.0) o.1 s.requires.1.1.0 in
-    let b = c.before.open-stands in
-    open_nowhere w s.args.facts.now s.args.path.now s.args.depth s.args.done s.args.on.count s.args.on.limit s.args.on.standing s.args.on.next o.0 at
-    (sym (not-true b.result c.if3.true) ∙ b.ensures))  -- returns-5
+    let w = relevancy_walker c.args.table.now in
+    let o = found_open c.args.found c.in_default.in_default-own.keys3 in
+    let at = reached_as w c.args.facts.now c.args.path.now c.args.depth c.args.done c.args.found (Open o.0) o.1 c.requires.1.1.0 in
+    let b = c.open_stands in
+    open_nowhere w c.args.facts.now c.args.path.now c.args.depth c.args.done c.args.on.count c.args.on.limit c.args.on.standing c.args.on.next o.0 at
+    (sym (not-true b.result c.if-not-open_stands.true-raw) ∙ b.ensures))  -- returns-then-not-open_stands
     (λ c.
-    let s = c.before.before.before.before.before.before.before in
-    let w = relevancy_walker s.args.table.now in
-    let o = found_open s.args.found c.before.before.before.match.keys3 in
-    let at = reached_as w s.args.facts.now s.args.path.now s.args.depth s.args.done s.args.found (Open o.0) o.1 s.requires.1.1.0 in
-    let b = c.before.open-stands in
-    open_goes w s.args.facts.now s.args.path.now s.args.depth s.args.done s.args.on.count s.args.on.limit s.args.on.standing s.args.on.next o.0 at
-    (sym (not-false b.result c.if3.false) ∙ b.ensures) s.requires.1.1.1))  -- returns-6
+    let w = relevancy_walker c.args.table.now in
+    let o = found_open c.args.found c.in_default.in_default-own.keys3 in
+    let at = reached_as w c.args.facts.now c.args.path.now c.args.depth c.args.done c.args.found (Open o.0) o.1 c.requires.1.1.0 in
+    let b = c.open_stands in
+    open_goes w c.args.facts.now c.args.path.now c.args.depth c.args.done c.args.on.count c.args.on.limit c.args.on.standing c.args.on.next o.0 at
+    (sym (not-false b.result c.if-not-open_stands.false-raw) ∙ b.ensures) c.requires.1.1.1))  -- returns

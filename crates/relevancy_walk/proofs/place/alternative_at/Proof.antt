@@ -16,27 +16,24 @@ pub alternative_at_spec : {M : Type 1} → statement M
 alternative_at_spec =
     tie.close
     (tie.spec
-    (λ c κs. search rules)  -- values-requires
+    (λ c κs. search rules)  -- values-four-requires
     (λ c κs. search rules)  -- number-requires
-    (λ c. omega (arith, (clause c.before.before.before.before).few, c.number.ensures))  -- mul-record
-    (λ c. omega (arith, (clause c.before.before.before.before).few, c.number.ensures))  -- add-record
-    (λ c. omega (arith, (clause c.before.before.before.before).few, c.number.ensures))  -- add-count
-    (λ c. omega (arith, (clause c.before.before.before.before.before).few, (clause c.before.before.before.before.before).size, c.before.number.ensures))  -- shared-slice-read-count
+    (λ c. omega (arith, (clause c.before.before.before.before).few, c.number.ensures))  -- overflow_mul-record
+    (λ c. omega (arith, (clause c.before.before.before.before).few, c.number.ensures))  -- overflow_add-record
+    (λ c. omega (arith, (clause c.before.before.before.before).few, c.number.ensures))  -- overflow_add-count
+    (λ c. omega (arith, (clause c.before.before.before.before.before).few, (clause c.before.before.before.before.before).size, c.number.ensures))  -- bounds-table-record
     (λ c.
-    let s = c.before.before.before.before.before in
-    let k = c.before.number in
-    let v = c.before.before.values in
-    omega (arith, (slots_numbered s.args.table.now s.requires.0 s.args.path.now s.args.depth s.requires.1.1 k.result v.result k.ensures v.ensures).few))  -- cast-count
-    (λ c. omega (arith, (clause c.before.before.before.before.before).few, c.before.number.ensures))  -- add-branch-after
-    (λ c. search rules)  -- slice-aggregate-branch-after
+    let k = c.number in
+    let v = c.values-four in
+    omega (arith, (slots_numbered c.args.table.now c.requires.0 c.args.path.now c.args.depth c.requires.1.1 k.result v.result k.ensures v.ensures).few))  -- overflow_cast-count
+    (λ c. omega (arith, (clause c.before.before.before.before.before).few, c.number.ensures))  -- overflow_add-record-2
+    (λ c. search rules)  -- slice_bounds-branch_after-end
     (λ c κs.
-    let s = c.before.before.before.before.before.before in
-    let k = c.before.before.number in
-    let v = c.before.before.before.values in
-    (lawful_headed s.args.table.now s.requires.0, slots_numbered s.args.table.now s.requires.0 s.args.path.now s.args.depth s.requires.1.1 k.result v.result k.ensures v.ensures))  -- branch-after-requires
+    let k = c.number in
+    let v = c.values-four in
+    (lawful_headed c.args.table.now c.requires.0, slots_numbered c.args.table.now c.requires.0 c.args.path.now c.args.depth c.requires.1.1 k.result v.result k.ensures v.ensures))  -- branch_after-requires
     (λ c.
-    let s = c.before.before.before.before.before.before.before in
-    let k = c.before.before.before.number in
-    let v = c.before.before.before.before.values in
-    let b = c.branch-after in
-    slots_next s.args.table.now s.requires.0 s.args.path.now s.args.depth s.requires.1.1 k.result v.result k.ensures v.ensures s.args.j b.result b.ensures))  -- returns
+    let k = c.number in
+    let v = c.values-four in
+    let b = c.branch_after in
+    slots_next c.args.table.now c.requires.0 c.args.path.now c.args.depth c.requires.1.1 k.result v.result k.ensures v.ensures c.args.j b.result b.ensures))  -- returns

@@ -13,34 +13,31 @@ use Rattle.relevancy_walk.proofs.SoundLaws.{site_small, sound}
 use Rattle.relevancy_walk.proofs.place.alternatives_at.Statement.{statement}
 use Rattle.relevancy_walk.proofs.place.alternatives_at.Tie as tie
 
-abbrev invariant-loop : tie.invariant-loop
+abbrev invariant-loop : tie.invariant-loop-n
 invariant-loop table path depth atoms₀ n₀ atoms n = FirstListed (alts_at (relevancy_walker table) path depth) atoms n
 
-abbrev decreases-loop : tie.decreases-loop
+abbrev decreases-loop : tie.decreases-loop-n
 decreases-loop table path depth atoms₀ n₀ atoms n = 4 - n
 
 abbrev all : tie.Start invariant-loop decreases-loop → List ℕ
 all s = alts_at (relevancy_walker s.args.table.now) s.args.path.now s.args.depth
 
 -- the alternative at hand, which is an atom
-abbrev atom : tie.After-known-told invariant-loop decreases-loop → ℕ
-atom c = c.before.there.given.0.0
+abbrev atom : tie.In-Atom invariant-loop decreases-loop → ℕ
+atom c = c.in-Atom.a
 
-here : (c : tie.After-known-told invariant-loop decreases-loop)
-    → (let at = c.before.before.before.before.before in (at.loop.n < length (all at.before.before.before)) × (atom c ≡ get_or (all at.before.before.before) at.loop.n 0))
+here : (c : tie.In-Atom invariant-loop decreases-loop)
+    → ((c.loop-n.n < length (all c.before.before.before.before.before.before)) × (atom c ≡ get_or (all c.before.before.before.before.before.before) c.loop-n.n 0))
 here c =
-    let b = c.before.before.before.alternative-at in
-    let at = c.before.before.before.before.before in
-    next_atom (all at.before.before.before) at.loop.n b.result (atom c) c.before.there.given.1 b.ensures
+    let b = c.alternative_at-there in
+    next_atom (all c.before.before.before.before.before.before) c.loop-n.n b.result (atom c) c.in-Atom.is b.ensures
 
-small : (c : tie.After-known-told invariant-loop decreases-loop) → atom c < 1024
+small : (c : tie.In-Atom invariant-loop decreases-loop) → atom c < 1024
 small c =
-    let at = c.before.before.before.before.before in
-    let s = at.before.before.before in
     omega (
       arith,
       (here c).1,
-      site_small s.args.table.now s.requires.0 (site_at (relevancy_walker s.args.table.now) s.args.path.now s.args.depth) s.requires.1.1 at.loop.n (here c).0,
+      site_small c.args.table.now c.requires.0 (site_at (relevancy_walker c.args.table.now) c.args.path.now c.args.depth) c.requires.1.1 c.loop-n.n (here c).0,
     )
 
 pub alternatives_at_spec : {M : Type 1} → statement M
@@ -49,27 +46,23 @@ alternatives_at_spec =
     (tie.spec
     invariant-loop
     decreases-loop
-    (λ c. listed_none (all c.before.before) _ (length-replicate {A = ℕ} 4 0))  -- loop-holds
-    (λ c κs. search rules)  -- alternative-at-requires
-    (λ c. search rules)  -- enum-known-there
-    (λ c. search rules)  -- enum-told
+    (λ c. listed_none (all c.before.before) _ (length-replicate {A = ℕ} 4 0))  -- loop-n-init
+    (λ c κs. search rules)  -- alternative_at-there-requires
+    (λ c. search rules)  -- enum_known-there
+    (λ c. search rules)  -- enum_told-1
     (λ c.
-    let at = c.before.before.before.before in
-    let ds = all at.before.before.before in
-    let b = c.before.before.alternative-at in
-    listed_all ds at.loop.atoms at.loop.n at.loop.invariant (next_nothing ds at.loop.n b.result c.before.match.keys2 b.ensures))  -- returns
-    (λ c. omega (arith, small c))  -- cast-atoms
-    (λ c. search rules)  -- cast-atoms-2
-    (λ c. search rules)  -- mul-atoms
-    (λ c. search rules)  -- array-write-atoms
-    (λ c. search rules)  -- add-n
-    (λ c. let at = c.before.before.before.before in omega (arith, at.loop-test.true))  -- loop-less
+    let ds = all c.before.before.before.before.before.before in
+    let b = c.alternative_at-there in
+    listed_all ds c.loop-n.atoms c.loop-n.n c.loop-n.invariant (next_nothing ds c.loop-n.n b.result c.in_default.in_default-own.keys2 b.ensures))  -- returns-in_default
+    (λ c. omega (arith, small c))  -- overflow_cast-atoms
+    (λ c. search rules)  -- overflow_cast-atoms-in-loop-n
+    (λ c. search rules)  -- offset_bounds-atoms-n
+    (λ c. search rules)  -- bounds-atoms-n
+    (λ c. search rules)  -- overflow_add-n
+    (λ c. omega (arith, c.loop-n-test.true))  -- loop-n-smaller
     (λ c.
-    let at = c.before.before.before.before.before in
-    listed_more (all at.before.before.before) at.loop.atoms at.loop.n at.loop.invariant c.before.before.before.before.loop-test.true (atom c) (here c).0 (here c).1)  -- loop-again
+    listed_more (all c.before.before.before.before.before.before) c.loop-n.atoms c.loop-n.n c.loop-n.invariant c.loop-n-test.true (atom c) (here c).0 (here c).1)  -- loop-n-preserved
     (λ c.
-    let at = c.before in
-    let s = at.before.before.before in
-    let w = relevancy_walker s.args.table.now in
-    listed_all (all s) at.loop.atoms at.loop.n at.loop.invariant
-    (omega (arith, c.loop-test.false, (sound s.args.table.now s.requires.0).four (site_at w s.args.path.now s.args.depth) s.requires.1.1))))  -- returns-2
+    let w = relevancy_walker c.args.table.now in
+    listed_all (all c.before.before.before.before) c.loop-n.atoms c.loop-n.n c.loop-n.invariant
+    (omega (arith, c.loop-n-test.false, (sound c.args.table.now c.requires.0).four (site_at w c.args.path.now c.args.depth) c.requires.1.1))))  -- returns

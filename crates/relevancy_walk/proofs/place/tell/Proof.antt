@@ -12,22 +12,16 @@ pub tell_spec : {M : Type 1} → statement M
 tell_spec =
     tie.close
     (tie.spec
-    (λ c. search rules)  -- enum-known-node
-    (λ c. search rules)  -- cast-note
-    (λ c κs. let s = c.before.before.before.before.before in (s.requires.0, (omega arith, subst OwnFew c.before.before.node.given.1 s.requires.1)))  -- note-requires
-    (λ c. search rules)  -- same-length
+    (λ c. search rules)  -- enum_known-node
+    (λ c. search rules)  -- overflow_cast-k
+    (λ c κs. (c.requires.0, (omega arith, subst OwnFew c.in-Split.is c.requires.1)))  -- note-requires
+    (λ c. search rules)  -- shape_of-path-in-Split
     (λ c.
-    let s = c.before.before.before.before.before.before.before.before in
-    let g = c.before.before.before.before.before.node.given in
-    let o = c.before.before.note in
-    subst (λ (x : Node). NodeTold x s.args.path.now s.args.depth (Split g.0.0) o.new.0) (sym g.1) (refl, o.ensures))  -- returns
-    (λ c. search rules)  -- enum-known-node-2
+    let o = c.note in
+    subst (λ (x : Node). NodeTold x c.args.path.now c.args.depth (Split c.in-Split.m) o.new.path) (sym c.in-Split.is) (refl, o.ensures))  -- returns-in-Split
+    (λ c. search rules)  -- enum_known-node-in-Closed-1
     (λ c.
-    let s = c.before.before.before.before in
-    let g = c.before.node2.given in
-    subst (λ (x : Node). NodeTold x s.args.path.now s.args.depth (Closed g.0.0) s.args.path.now) (sym g.1) (refl, refl))  -- returns-2
-    (λ c. search rules)  -- enum-known-node-3
+    subst (λ (x : Node). NodeTold x c.args.path.now c.args.depth (Closed c.in-Closed.m) c.args.path.now) (sym c.in-Closed.is) (refl, refl))  -- returns-in-Closed
+    (λ c. search rules)  -- enum_known-node-in-Open-1
     (λ c.
-    let s = c.before.before.before.before in
-    let g = c.before.node3.given in
-    subst (λ (x : Node). NodeTold x s.args.path.now s.args.depth (Open g.0.0) s.args.path.now) (sym g.1) (refl, refl)))  -- returns-3
+    subst (λ (x : Node). NodeTold x c.args.path.now c.args.depth (Open c.in-Open.m) c.args.path.now) (sym c.in-Open.is) (refl, refl)))  -- returns-in-Open

@@ -10,11 +10,11 @@ use Rattle.report.proofs.ReportLaws.{lines_upto, model_none, model_more, model_d
 use Rattle.report.proofs.answer.put_model.Statement.{statement}
 use Rattle.report.proofs.answer.put_model.Tie as tie
 
-abbrev invariant-loop : tie.invariant-loop
+abbrev invariant-loop : tie.invariant-loop-a
 invariant-loop table answer out₀ at atoms next₀ a₀ out next a =
     (a ≤ atoms) × Put out₀ at (lines_upto (problem_in table) answer a) (11 * a) next out × (length out ≡ length out₀)
 
-abbrev decreases-loop : tie.decreases-loop
+abbrev decreases-loop : tie.decreases-loop-a
 decreases-loop table answer out₀ at atoms next₀ a₀ out next a = atoms - a
 
 pub put_model_spec : {M : Type 1} → statement M
@@ -24,41 +24,34 @@ put_model_spec =
     invariant-loop
     decreases-loop
     (λ c.
-    let s = c.before.before.before.before in
-    omega (arith, table_size s.args.table.now s.requires.0))  -- shared-slice-read-pair
+    omega (arith, table_size c.args.table.now c.requires.0))  -- bounds-table-8
     (λ c.
-    let s = c.before.before.before.before.before in
-    omega (arith, table_size s.args.table.now s.requires.0))  -- shared-slice-read-pair-2
-    (λ c κs. tt)  -- pair-requires
+    omega (arith, table_size c.args.table.now c.requires.0))  -- bounds-table-9
+    (λ c κs. tt)  -- pair-atoms-requires
     (λ c.
-    let s = c.before.before.before.before.before.before.args in
-    (omega arith, model_none (problem_in s.table.now) s.answer.now s.out.now s.at, refl))  -- loop-holds
+    let s = c.args in
+    (omega arith, model_none (problem_in s.table.now) s.answer.now s.out.now s.at, refl))  -- loop-a-init
     (λ c κs.
-    let l = c.before.before.loop in
-    let n = c.before.before.before in
-    let s = n.before.before.before.before.before.before in
-    let few = s.requires.0.fits.atoms_fit in
-    (s.requires.0, (omega (arith, atoms_bytes s.args.table.now s.requires.0), omega (arith, atoms_bytes s.args.table.now s.requires.0), omega (arith, atoms_bytes s.args.table.now s.requires.0, l.invariant.1.next, l.invariant.1.few))))  -- put-chosen-requires
-    (λ c. omega arith)  -- add-a
-    (λ c. omega arith)  -- loop-less
+    let l = c.loop-a in
+    let few = c.requires.0.fits.atoms_fit in
+    (c.requires.0, (omega (arith, atoms_bytes c.args.table.now c.requires.0), omega (arith, atoms_bytes c.args.table.now c.requires.0), omega (arith, atoms_bytes c.args.table.now c.requires.0, l.invariant.1.next, l.invariant.1.few))))  -- put_chosen-next-requires
+    (λ c. omega arith)  -- overflow_add-a
+    (λ c. omega arith)  -- loop-a-smaller
     (λ c.
-    let put = c.before.before in
-    let l = put.before.before.before.loop in
-    let s = put.before.before.before.before.before.before.before.before.before.before in
-    let few = s.requires.0.fits.atoms_fit in (
+    let l = c.loop-a in
+    let few = c.requires.0.fits.atoms_fit in (
       omega arith,
-      model_more (problem_in s.args.table.now) s.args.answer.now l.a
-          (omega (arith, atoms_bytes s.args.table.now s.requires.0))
+      model_more (problem_in c.args.table.now) c.args.answer.now l.a
+          (omega (arith, atoms_bytes c.args.table.now c.requires.0))
           l.invariant.1
-          (omega (arith, atoms_bytes s.args.table.now s.requires.0))
-          put.put-chosen.ensures,
-      put.put-chosen.auto.1.1.1.0 ∙ l.invariant.2,
-    ))  -- loop-again
-    (λ c. c.before.loop.invariant.2)  -- same-length
+          (omega (arith, atoms_bytes c.args.table.now c.requires.0))
+          c.put_chosen-next.ensures,
+      c.put_chosen-next.auto.out ∙ l.invariant.2,
+    ))  -- loop-a-preserved
+    (λ c. c.loop-a.invariant.2)  -- shape_of-out
     (λ c.
-    let l = c.before.loop in
-    let s = c.before.before.before.before.before.before.before.before in
-    let few = s.requires.0.fits.atoms_fit in
-    model_done (problem_in s.args.table.now) s.args.answer.now l.a l.invariant.1
-    (omega (arith, atoms_bytes s.args.table.now s.requires.0))
-    (omega (arith, atoms_bytes s.args.table.now s.requires.0))))  -- returns
+    let l = c.loop-a in
+    let few = c.requires.0.fits.atoms_fit in
+    model_done (problem_in c.args.table.now) c.args.answer.now l.a l.invariant.1
+    (omega (arith, atoms_bytes c.args.table.now c.requires.0))
+    (omega (arith, atoms_bytes c.args.table.now c.requires.0))))  -- returns

@@ -17,53 +17,44 @@ pub put_verdict_spec : {M : Type 1} → statement M
 put_verdict_spec =
     tie.close
     (tie.spec
-    (λ c. search rules)  -- enum-known-verdict
-    (λ c κs. search rules)  -- put-head-requires
-    (λ c. search rules)  -- enum-known-verdict-2
-    (λ c κs. search rules)  -- put-head-requires-2
-    (λ c κs. search rules)  -- put-model-requires
-    (λ c. search rules)  -- enum-known-verdict-3
-    (λ c κs. search rules)  -- put-head-requires-3
-    (λ c. search rules)  -- enum-known-verdict-4
-    (λ c κs. search rules)  -- put-head-requires-4
-    (λ c. search rules)  -- same-length
+    (λ c. search rules)  -- enum_known-verdict
+    (λ c κs. search rules)  -- put_head-requires
+    (λ c. search rules)  -- enum_known-verdict-in-Satisfied-1
+    (λ c κs. search rules)  -- put_head-next-requires
+    (λ c κs. search rules)  -- put_model-requires
+    (λ c. search rules)  -- enum_known-verdict-in-Refuted-1
+    (λ c κs. search rules)  -- put_head-requires-in-Refuted
+    (λ c. search rules)  -- enum_known-verdict-in-Exhausted-1
+    (λ c κs. search rules)  -- put_head-requires-in-Exhausted
+    (λ c. search rules)  -- shape_of-out-in-Refused
     (λ c.
-    let put = c.before.before in
-    let v = put.before.before.before in
-    let s = v.before.before.before.before.before.args in
+    let s = c.args in
     let q : Problem = problem_in s.table.now in
     let answer : List ℕ = s.answer.now in
     put_as
-    (put_most put.put-head.ensures (omega arith))
-    (told-Refused q answer _ ∙ ap (λ (w : Verdict). told q w answer) (sym v.verdict.given.1)))  -- returns
-    (λ c. search rules)  -- same-length-2
+    (put_most c.put_head.ensures (omega arith))
+    (told-Refused q answer _ ∙ ap (λ (w : Verdict). told q w answer) (sym c.in-Refused.is)))  -- returns-in-Refused
+    (λ c. search rules)  -- shape_of-out-in-Satisfied
     (λ c.
-    let put = c.before.before in
-    let first = put.before.before.before.before in
-    let v = first.before.before.before in
-    let s = v.before.before.before.before.before.args in
+    let s = c.args in
     let q : Problem = problem_in s.table.now in
     let answer : List ℕ = s.answer.now in
     put_as
-    (put_then first.put-head2.ensures (omega arith) put.put-model.ensures)
-    (told_satisfied q answer _ ∙ ap (λ (w : Verdict). told q w answer) (sym v.verdict2.given.1)))  -- returns-2
-    (λ c. search rules)  -- same-length-3
+    (put_then c.put_head-next.ensures (omega arith) c.put_model.ensures)
+    (told_satisfied q answer _ ∙ ap (λ (w : Verdict). told q w answer) (sym c.in-Satisfied.is)))  -- returns-in-Satisfied
+    (λ c. search rules)  -- shape_of-out-in-Refuted
     (λ c.
-    let put = c.before.before in
-    let v = put.before.before.before in
-    let s = v.before.before.before.before.before.args in
+    let s = c.args in
     let q : Problem = problem_in s.table.now in
     let answer : List ℕ = s.answer.now in
     put_as
-    (put_most put.put-head3.ensures (omega arith))
-    (told_refuted q answer _ ∙ ap (λ (w : Verdict). told q w answer) (sym v.verdict3.given.1)))  -- returns-3
-    (λ c. search rules)  -- same-length-4
+    (put_most c.put_head-in-Refuted.ensures (omega arith))
+    (told_refuted q answer _ ∙ ap (λ (w : Verdict). told q w answer) (sym c.in-Refuted.is)))  -- returns-in-Refuted
+    (λ c. search rules)  -- shape_of-out-in-Exhausted
     (λ c.
-    let put = c.before.before in
-    let v = put.before.before.before in
-    let s = v.before.before.before.before.before.args in
+    let s = c.args in
     let q : Problem = problem_in s.table.now in
     let answer : List ℕ = s.answer.now in
     put_as
-    (put_most put.put-head4.ensures (omega arith))
-    (told_exhausted q answer _ ∙ ap (λ (w : Verdict). told q w answer) (sym v.verdict4.given.1))))  -- returns-4
+    (put_most c.put_head-in-Exhausted.ensures (omega arith))
+    (told_exhausted q answer _ ∙ ap (λ (w : Verdict). told q w answer) (sym c.in-Exhausted.is))))  -- returns-in-Exhausted

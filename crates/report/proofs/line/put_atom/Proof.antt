@@ -13,49 +13,43 @@ use Rattle.report.proofs.line.put_atom.Statement.{statement}
 use Rattle.report.proofs.line.put_atom.Tie as tie
 
 -- what is known of the atom's predicate
-known : (c : tie.After-shared-slice-known2) → PredicateKnown c.before.before.before.before.before.before.args.table.now c.before.before.decode.result
+known : (c : tie.After-args-2-1) → PredicateKnown c.args.table.now c.decode-p.result
 known c =
-    let d = c.before.before.decode in
-    let s = c.before.before.before.before.before.before in
-    decoded_known s.args.table.now s.requires.0 s.args.a d.result d.new.1.1.0 d.ensures
+    let d = c.decode-p in
+    decoded_known c.args.table.now c.requires.0 c.args.a d.result d.new.args d.ensures
 
 -- how long its frame is
-size : (c : tie.After-shared-slice-known2)
-    → length (take (2 + get_or c.before.before.before.before.before.before.args.table.now (16 + 4 * c.before.before.decode.result) 0)
-    (130 ∷ c.before.before.decode.result ∷ get_or c.before.before.decode.new.1.1.0 0 0 ∷ get_or c.before.before.decode.new.1.1.0 1 0
-    ∷ get_or c.before.before.decode.new.1.1.0 2 0 ∷ []))
-    ≡ 2 + get_or c.before.before.before.before.before.before.args.table.now (16 + 4 * c.before.before.decode.result) 0
+size : (c : tie.After-args-2-1)
+    → length (take (2 + get_or c.args.table.now (16 + 4 * c.decode-p.result) 0)
+    (130 ∷ c.decode-p.result ∷ get_or c.decode-p.new.args 0 0 ∷ get_or c.decode-p.new.args 1 0
+    ∷ get_or c.decode-p.new.args 2 0 ∷ []))
+    ≡ 2 + get_or c.args.table.now (16 + 4 * c.decode-p.result) 0
 size c =
-    let d = c.before.before.decode in
-    let s = c.before.before.before.before.before.before in
-    frame_size s.args.table.now s.requires.0 s.args.a d.result d.new.1.1.0 d.ensures
+    let d = c.decode-p in
+    frame_size c.args.table.now c.requires.0 c.args.a d.result d.new.args d.ensures
 
 pub put_atom_spec : {M : Type 1} → statement M
 put_atom_spec =
     tie.close
     (tie.spec
-    (λ c. search rules)  -- slice-aggregate-decode
-    (λ c κs. search rules)  -- decode-requires
-    (λ c. search rules)  -- cast-n
-    (λ c. search rules)  -- mul-n
-    (λ c. search rules)  -- add-n
-    (λ c. omega (arith, (known c).long, (known c).place))  -- shared-slice-read-n
-    (λ c. omega (arith, (known c).arity, (known c).few))  -- cast-n-2
-    (λ c. omega (arith, (known c).arity, (known c).few))  -- add-n-2
-    (λ c. search rules)  -- array-read-t15
-    (λ c. search rules)  -- array-read-t21
-    (λ c. search rules)  -- array-read-t24
-    (λ c. omega (arith, (known c).arity, (known c).few))  -- array-share-prefix-frame
-    (λ c. sym (size c.before))  -- slice-aggregate-put-frame
+    (λ c. search rules)  -- slice_bounds-decode-end
+    (λ c κs. search rules)  -- decode-p-requires
+    (λ c. search rules)  -- overflow_cast-n
+    (λ c. search rules)  -- overflow_mul-n
+    (λ c. search rules)  -- overflow_add-n
+    (λ c. omega (arith, (known c.before).long, (known c.before).place))  -- bounds-table-p
+    (λ c. omega (arith, (known c.before).arity, (known c.before).few))  -- overflow_cast-n-2
+    (λ c. omega (arith, (known c.before).arity, (known c.before).few))  -- overflow_add-n-2
+    (λ c. search rules)  -- bounds-args-0
+    (λ c. search rules)  -- bounds-args-1
+    (λ c. search rules)  -- bounds-args-2
+    (λ c. omega (arith, (known c.before).arity, (known c.before).few))  -- slice_bounds-frame-end
+    (λ c. sym (size c.before.before))  -- slice_bounds-put_frame-end
     (λ c κs.
-    let k = c.before.before in
-    omega (arith, size k, (known k).arity, (known k).few))  -- put-frame-requires
-    (λ c. search rules)  -- same-length
+    omega (arith, size c.before.before.before, (known c.before.before.before).arity, (known c.before.before.before).few))  -- put_frame-requires
+    (λ c. search rules)  -- shape_of-out
     (λ c.
-    let put = c.before.before in
-    let k = put.before.before.before in
-    let d = k.before.before.decode in
-    let s = k.before.before.before.before.before.before in
+    let d = c.decode-p in
     put_as
-    (put_most put.put-frame.ensures (omega (arith, size k, (known k).arity, (known k).few)))
-    (ap hex_line (atom_frame s.args.table.now s.requires.0 s.args.a d.result d.new.1.1.0 d.ensures))))  -- returns
+    (put_most c.put_frame.ensures (omega (arith, size c.before.before.before.before.before.before, (known c.before.before.before.before.before.before).arity, (known c.before.before.before.before.before.before).few)))
+    (ap hex_line (atom_frame c.args.table.now c.requires.0 c.args.a d.result d.new.args d.ensures))))  -- returns

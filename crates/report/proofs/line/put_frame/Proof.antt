@@ -15,11 +15,11 @@ use Rattle.report.proofs.line.put_frame.Tie as tie
 abbrev byte_at : List ℕ → ℕ → ℕ
 byte_at frame i = get_or frame i 0
 
-abbrev invariant-loop : tie.invariant-loop
+abbrev invariant-loop : tie.invariant-loop-i
 invariant-loop frame out₀ at next₀ i₀ out next i =
     (i ≤ length frame) × Put out₀ at (flat_map hex_byte (tabulate (byte_at frame) i)) (2 * i) next out × (length out ≡ length out₀)
 
-abbrev decreases-loop : tie.decreases-loop
+abbrev decreases-loop : tie.decreases-loop-i
 decreases-loop frame out₀ at next₀ i₀ out next i = length frame - i
 
 pub put_frame_spec : {M : Type 1} → statement M
@@ -29,27 +29,25 @@ put_frame_spec =
     invariant-loop
     decreases-loop
     (λ c.
-    let s = c.before.before.args in
-    (omega arith, puts_none hex_byte (byte_at s.frame.now) 2 s.out.now s.at, refl))  -- loop-holds
-    (λ c. omega arith)  -- shared-slice-read-put-byte
-    (λ c κs. omega (arith, c.before.before.before.loop.invariant.1.next))  -- put-byte-requires
-    (λ c. omega arith)  -- add-i
-    (λ c. omega arith)  -- loop-less
+    let s = c.args in
+    (omega arith, puts_none hex_byte (byte_at s.frame.now) 2 s.out.now s.at, refl))  -- loop-i-init
+    (λ c. omega arith)  -- bounds-frame-i
+    (λ c κs. omega (arith, c.loop-i.invariant.1.next))  -- put_byte-next-requires
+    (λ c. omega arith)  -- overflow_add-i
+    (λ c. omega arith)  -- loop-i-smaller
     (λ c.
-    let put = c.before.before in
-    let l = put.before.before.before.before.loop in
-    let s = put.before.before.before.before.before.before.before.args in
-    (omega arith, puts_more hex_byte (byte_at s.frame.now) 2 l.i l.invariant.1 (omega arith) put.put_byte.ensures, put.put_byte.auto.0 ∙ l.invariant.2))  -- loop-again
-    (λ c κs. omega (arith, c.before.before.loop.invariant.1.few))  -- put-end-requires
-    (λ c. c.before.before.put-end.auto.0 ∙ c.before.before.before.before.before.loop.invariant.2)  -- same-length
+    let l = c.loop-i in
+    let s = c.args in
+    (omega arith, puts_more hex_byte (byte_at s.frame.now) 2 l.i l.invariant.1 (omega arith) c.put_byte-next.ensures, c.put_byte-next.auto.out ∙ l.invariant.2))  -- loop-i-preserved
+    (λ c κs. omega (arith, c.loop-i.invariant.1.few))  -- put_end-requires
+    (λ c. c.put_end.auto.out ∙ c.loop-i.invariant.2)  -- shape_of-out
     (λ c.
-    let put = c.before.before in
-    let l = put.before.before.before.loop in
-    let s = put.before.before.before.before.before.before.args in
+    let l = c.loop-i in
+    let s = c.args in
     let frame : List ℕ = s.frame.now in
     put_line frame
     (put_as
     (puts_done hex_byte (byte_at frame) 2 l.i (length frame) (2 * length frame) l.invariant.1 (omega arith) (omega arith))
     (ap (flat_map hex_byte) (tabulate_of (byte_at frame) 0 frame (length frame) refl (λ i h. refl))))
     (omega arith)
-    put.put-end.ensures))  -- returns
+    c.put_end.ensures))  -- returns

@@ -15,24 +15,20 @@ pub put_head_spec : {M : Type 1} → statement M
 put_head_spec =
     tie.close
     (tie.spec
-    (λ c. search rules)  -- cast-c
-    (λ c. search rules)  -- cast-d
-    (λ c. search rules)  -- slice-aggregate-put-frame
-    (λ c κs. search rules)  -- put-frame-requires
-    (λ c. search rules)  -- same-length
+    (λ c. search rules)  -- overflow_cast-c
+    (λ c. search rules)  -- overflow_cast-d
+    (λ c. search rules)  -- slice_bounds-put_frame-end
+    (λ c κs. search rules)  -- put_frame-requires
+    (λ c. search rules)  -- shape_of-out-then-refusal-ne0
     (λ c.
-    let f = c.before.before in
-    let e = f.before.before.before in
-    let s = e.before.before.args in
-    put_as (put_most f.put-frame.ensures (omega arith)) (rw (ne_eqb s.refusal 0 e.if1.true)))  -- returns
-    (λ c. search rules)  -- cast-a
-    (λ c. search rules)  -- cast-b
-    (λ c. search rules)  -- slice-aggregate-put-frame-2
-    (λ c κs. search rules)  -- put-frame-requires-2
-    (λ c. search rules)  -- same-length-2
+    let s = c.args in
+    put_as (put_most c.put_frame.ensures (omega arith)) (rw (ne_eqb s.refusal 0 c.if-refusal-ne0.true)))  -- returns-then-refusal-ne0
+    (λ c. search rules)  -- overflow_cast-a
+    (λ c. search rules)  -- overflow_cast-b
+    (λ c. search rules)  -- slice_bounds-put_frame-end-2
+    (λ c κs. search rules)  -- put_frame-requires-2
+    (λ c. search rules)  -- shape_of-out
     (λ c.
-    let f = c.before.before in
-    let e = f.before.before.before in
-    let s = e.before.before.args in
-    put_as f.put-frame2.ensures
-    (rw (eq-eqb s.refusal 0 e.if1.false) (ap (λ (bs : List ℕ). hex_line (129 ∷ s.number ∷ bs)) (sym (four_bytes s.value))))))  -- returns-2
+    let s = c.args in
+    put_as c.put_frame-2.ensures
+    (rw (eq-eqb s.refusal 0 c.if-refusal-ne0.false) (ap (λ (bs : List ℕ). hex_line (129 ∷ s.number ∷ bs)) (sym (four_bytes s.value))))))  -- returns

@@ -11,48 +11,42 @@ use Rattle.report.proofs.program.print_relevancy.Statement.{statement}
 use Rattle.report.proofs.program.print_relevancy.Tie as tie
 
 -- the text was read into the table
-taken : (e : tie.After-enum-told) → ReadInto e.before.before.before.before.before.before.args.text.now e.before.before.before.read.new.1.0
+taken : (e : tie.In-Accepted) → ReadInto e.args.text.now e.read-reading.new.table
 taken e =
-    let read = e.before.before.before.read in
-    text_taken e.before.before.before.before.before.before.args.text.now (replicate 4096 0) (length-replicate {A = ℕ} 4096 0) read.new.1.0
-    (sym e.enum_told.given.1 ∙ read.ensures.0)
+    let read = e.read-reading in
+    text_taken e.args.text.now (replicate 4096 0) (length-replicate {A = ℕ} 4096 0) read.new.table
+    (sym e.in-Accepted.is ∙ read.ensures.0)
     read.ensures.1
 
 pub print_relevancy_spec : {M : Type 1} → statement M
 print_relevancy_spec =
     tie.close
     (tie.spec
-    (λ c. search rules)  -- slice-aggregate-read
-    (λ c κs. search rules)  -- read-requires
-    (λ c. search rules)  -- enum-known-reading
-    (λ c. search rules)  -- cast-put-head
-    (λ c κs. search rules)  -- put-head-requires
-    (λ c. search rules)  -- enum_told
-    (λ c. search rules)  -- slice-aggregate-fit
-    (λ c. search rules)  -- slice-aggregate-fit-2
-    (λ c. search rules)  -- slice-aggregate-fit-3
-    (λ c κs. search rules)  -- fit-requires
-    (λ c. search rules)  -- slice-aggregate-put-verdict
-    (λ c. search rules)  -- slice-aggregate-put-verdict-2
+    (λ c. search rules)  -- slice_bounds-read-end
+    (λ c κs. search rules)  -- read-reading-requires
+    (λ c. search rules)  -- enum_known-reading
+    (λ c. search rules)  -- overflow_cast-line
+    (λ c κs. search rules)  -- put_head-requires
+    (λ c. search rules)  -- enum_told-1
+    (λ c. search rules)  -- slice_bounds-fit-end
+    (λ c. search rules)  -- slice_bounds-fit-end-in-Accepted
+    (λ c. search rules)  -- slice_bounds-fit-end-in-Accepted-2
+    (λ c κs. search rules)  -- fit-reply-requires
+    (λ c. search rules)  -- slice_bounds-put_verdict-end
+    (λ c. search rules)  -- slice_bounds-put_verdict-end-in-Accepted
     (λ c κs.
-    let fit = c.before.before.before.before.before in
-    let e = fit.before.before.before.before in
-    (taken_lawful e.before.before.before.before.before.before.args.text.now e.before.before.before.read.new.1.0 (taken e), (search rules, search rules)))  -- put-verdict-requires
+    (taken_lawful c.args.text.now c.read-reading.new.table (taken c.before.before.before.before.before.before.before.before.before), (search rules, search rules)))  -- put_verdict-requires
     (λ c.
-    let r = c.before.before.before in
-    let read = r.before.before.before in
-    let x : List ℕ = read.before.before.before.args.text.now in
+    let x : List ℕ = c.args.text.now in
     Put-Out
-    c.put-head.ensures
-    (refusal_printed x (replicate 4096 0) (length-replicate {A = ℕ} 4096 0) relevancy _ _ (sym r.reading.given.1 ∙ read.read.ensures.0)))  -- returns
+    c.put_head.ensures
+    (refusal_printed x (replicate 4096 0) (length-replicate {A = ℕ} 4096 0) relevancy _ _ (sym c.in-Refused.is ∙ c.read-reading.ensures.0)))  -- returns-in-Refused
     (λ c.
-    let fit = c.before.before.before.before.before.before in
-    let e = fit.before.before.before.before in
-    let tb : List ℕ = e.before.before.before.read.new.1.0 in
+    let tb : List ℕ = c.read-reading.new.table in
     Put-Out
-    c.put-verdict.ensures
-    (fit_printed e.before.before.before.before.before.before.args.text.now tb (taken e) (replicate 1024 0) (replicate 65536 0) fit.fit.new.1.0 fit.fit.result.verdict
+    c.put_verdict.ensures
+    (fit_printed c.args.text.now tb (taken c.before.before.before.before.before.before.before.before.before.before) (replicate 1024 0) (replicate 65536 0) c.fit-reply.new.answer c.fit-reply.result.verdict
     (omega (arith, length-replicate {A = ℕ} 1024 0))
     (omega (arith, length-replicate {A = ℕ} 65536 0))
-    fit.fit.ensures.0
-    fit.fit.ensures.2)))  -- returns-2
+    c.fit-reply.ensures.0
+    c.fit-reply.ensures.2)))  -- returns-in-Accepted

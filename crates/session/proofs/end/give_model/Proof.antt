@@ -12,12 +12,11 @@ pub give_model_spec : {M : Type 1} → statement M
 give_model_spec =
     tie.close
     (tie.spec
-    (λ c. search rules)  -- enum-told
+    (λ c. search rules)  -- enum_told-1
     (λ c κs. search rules)  -- give-requires
-    (λ c. search rules)  -- same-length
+    (λ c. search rules)  -- shape_of-answer
     (λ c.
-    let s = c.before.before.before.before.before.before.before.before in
-    c.before.before.give.ensures ∙ answer_given s.args.walked c.before.before.before.before.before.match.keys1 s.args.facts.now s.args.atoms s.args.answer.now)  -- returns
+    c.give.ensures ∙ answer_given c.args.walked c.in-Opened.in-Opened-own.keys1 c.args.facts.now c.args.atoms c.args.answer.now)  -- returns-in-Opened
     (λ c.
-    let a = c.before.before.before.args in
-    answer_kept a.walked c.match.keys2 (model_bits a.atoms (is_set a.facts.now) (λ x. is_set a.facts.now (1025 + x))) a.answer.now))  -- returns-2
+    let a = c.args in
+    answer_kept a.walked c.in_default.in_default-own.keys2 (model_bits a.atoms (is_set a.facts.now) (λ x. is_set a.facts.now (1025 + x))) a.answer.now))  -- returns-in_default

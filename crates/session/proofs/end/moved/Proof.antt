@@ -12,11 +12,11 @@ pub moved_spec : {M : Type 1} → statement M
 moved_spec =
     tie.close
     (tie.spec
-    (λ c. search rules)  -- enum-known-walked
-    (λ c. omega (arith, subst (λ (x : Walked). depth_of x ≤ 1024) c.before.walked.given.1 c.before.before.before.before.before.requires))  -- cast-t13
-    (λ c. search rules)  -- enum-known-walked-2
-    (λ c. search rules)  -- enum-known-walked-3
-    (λ c. omega (arith, subst (λ (x : Walked). depth_of x ≤ 1024) c.before.walked3.given.1 c.before.before.before.before.before.requires))  -- cast-t18
-    (λ c. let a = c.before.before.before.before.before.args in ap (λ (x : Walked). moved_by x a.limit a.left) (sym c.before.walked.given.1))  -- returns
-    (λ c. let a = c.before.before.before.before.before.args in ap (λ (x : Walked). moved_by x a.limit a.left) (sym c.before.walked2.given.1))  -- returns-2
-    (λ c. let a = c.before.before.before.before.before.args in ap (λ (x : Walked). moved_by x a.limit a.left) (sym c.before.walked3.given.1)))  -- returns-3
+    (λ c. search rules)  -- enum_known-walked
+    (λ c. omega (arith, subst (λ (x : Walked). depth_of x ≤ 1024) c.in-Opened.is c.requires))  -- overflow_cast-result
+    (λ c. search rules)  -- enum_known-walked-in-Shut-1
+    (λ c. search rules)  -- enum_known-walked-in-Exhausted-1
+    (λ c. omega (arith, subst (λ (x : Walked). depth_of x ≤ 1024) c.in-Exhausted.is c.requires))  -- overflow_cast-result-in-Exhausted
+    (λ c. let a = c.args in ap (λ (x : Walked). moved_by x a.limit a.left) (sym c.in-Opened.is))  -- returns-in-Opened
+    (λ c. let a = c.args in ap (λ (x : Walked). moved_by x a.limit a.left) (sym c.in-Shut.is))  -- returns-in-Shut
+    (λ c. let a = c.args in ap (λ (x : Walked). moved_by x a.limit a.left) (sym c.in-Exhausted.is)))  -- returns-in-Exhausted

@@ -11,9 +11,9 @@ pub verdict_by_spec : {M : Type 1} → statement M
 verdict_by_spec =
     tie.close
     (tie.spec
-    (λ c. search rules)  -- enum-known-walked
-    (λ c. search rules)  -- enum-known-walked-2
-    (λ c. search rules)  -- enum-told
-    (λ c. let a = c.before.before.before.args in ap (λ (x : Walked). verdict_by x a.limit) (sym c.before.walked.given.1))  -- returns
-    (λ c. let a = c.before.before.before.args in ap (λ (x : Walked). verdict_by x a.limit) (sym c.before.walked2.given.1))  -- returns-2
-    (λ c. let a = c.before.before.args in verdict_met a.walked c.before.match.keys3 a.limit))  -- returns-3
+    (λ c. search rules)  -- enum_known-walked
+    (λ c. search rules)  -- enum_known-walked-in-Shut-1
+    (λ c. search rules)  -- enum_told-1
+    (λ c. let a = c.args in ap (λ (x : Walked). verdict_by x a.limit) (sym c.in-Opened.is))  -- returns-in-Opened
+    (λ c. let a = c.args in ap (λ (x : Walked). verdict_by x a.limit) (sym c.in-Shut.is))  -- returns-in-Shut
+    (λ c. let a = c.args in verdict_met a.walked c.in-Exhausted.in-Exhausted-own.keys3 a.limit))  -- returns-in-Exhausted

@@ -8,7 +8,7 @@ pub is_kept_spec : {M : Type 1} → statement M
 is_kept_spec =
     tie.close
     (tie.spec
-    (λ c. let a = c.before.args in rw (lt-leb a.verdict 2 (omega arith)))  -- returns
-    (λ c. let a = c.before.before.args in rw (le-leb a.verdict 2 (omega arith), lt-leb a.length 1024 (omega arith)))  -- returns-2
-    (λ c. let a = c.before.before.before.args in rw (le-leb a.verdict 2 (omega arith), le-leb a.length 1024 (omega arith), lt-leb a.length a.deepest (omega arith)))  -- returns-3
-    (λ c. let a = c.before.before.before.args in rw (le-leb a.verdict 2 (omega arith), le-leb a.length 1024 (omega arith), le-leb a.length a.deepest (omega arith))))  -- returns-4
+    (λ c. let a = c.args in rw (lt-leb a.verdict 2 (omega arith)))  -- returns-then-verdict-gt2
+    (λ c. let a = c.args in rw (le-leb a.verdict 2 (omega arith), lt-leb a.length 1024 (omega arith)))  -- returns-then-length-gt1024
+    (λ c. let a = c.args in rw (le-leb a.verdict 2 (omega arith), le-leb a.length 1024 (omega arith), lt-leb a.length a.deepest (omega arith)))  -- returns-then-deepest-length
+    (λ c. let a = c.args in rw (le-leb a.verdict 2 (omega arith), le-leb a.length 1024 (omega arith), le-leb a.length a.deepest (omega arith))))  -- returns

@@ -15,36 +15,34 @@ use Rattle.staged.proofs.engine.decide.Statement.{statement}
 use Rattle.staged.proofs.engine.decide.Tie as tie
 
 -- the function's entry, and the number of atoms, which is read from the table
-abbrev begun : tie.After-pair → tie.Start
+abbrev begun : tie.After-pair-atoms → tie.Start
 begun c = c.before.before.before.before.before.before.before.before.before.before.before.before.before
 
-atoms_are : (c : tie.After-pair) → c.pair.result ≡ (ground_in (begun c).args.table.now).atoms
-atoms_are c = let s = begun c in c.pair.ensures ∙ false_bytes s.args.table.now s.pre.0
+atoms_are : (c : tie.After-pair-atoms) → c.pair-atoms.result ≡ (ground_in (begun c).args.table.now).atoms
+atoms_are c = let s = begun c in c.pair-atoms.ensures ∙ false_bytes s.args.table.now s.requires.0
 
 pub decide_spec : {M : Type 1} → statement M
 decide_spec =
     tie.close
     (tie.spec
-    (λ c κs. let s = c.before.before.before in table_size s.args.table.now s.requires.0)  -- limit-in-requires
-    (λ c. search rules)  -- slice-aggregate-walk-whole
-    (λ c κs. search rules)  -- walk-whole-requires
-    (λ c. let s = c.before.before.before.before.before.before.before.before.before.before.before in omega (arith, table_size s.args.table.now s.requires.0))  -- shared-slice-read-pair
-    (λ c. let s = c.before.before.before.before.before.before.before.before.before.before.before.before in omega (arith, table_size s.args.table.now s.requires.0))  -- shared-slice-read-pair-2
-    (λ c κs. search rules)  -- pair-requires
+    (λ c κs. table_size c.args.table.now c.requires.0)  -- limit_in-limit-requires
+    (λ c. search rules)  -- slice_bounds-walk_whole-end
+    (λ c κs. search rules)  -- walk_whole-walked-requires
+    (λ c. omega (arith, table_size c.args.table.now c.requires.0))  -- bounds-table-8
+    (λ c. omega (arith, table_size c.args.table.now c.requires.0))  -- bounds-table-9
+    (λ c κs. search rules)  -- pair-atoms-requires
     (λ c κs.
-    let s = c.before.before.before.before.before.before.before.before.before.before.before.before.before.before.before in
-    let n = atoms_are c.before.before in
-    let few = atoms_few (problem_in s.args.table.now) s.requires.0.fits in
-    (omega (arith, n, few), omega (arith, n, few, s.requires.1.0), omega (arith, c.before.before.before.before.before.before.before.before.walk-whole.auto.1.0, s.requires.1.1)))  -- give-model-requires
-    (λ c κs. search rules)  -- verdict-by-requires
-    (λ c. search rules)  -- same-length
-    (λ c. search rules)  -- same-length-2
+    let n = atoms_are c.before in
+    let few = atoms_few (problem_in c.args.table.now) c.requires.0.fits in
+    (omega (arith, n, few), omega (arith, n, few, c.requires.1.0), omega (arith, c.walk_whole-walked.auto.facts, c.requires.1.1)))  -- give_model-requires
+    (λ c κs. search rules)  -- verdict_by-requires
+    (λ c. search rules)  -- shape_of-answer
+    (λ c. search rules)  -- shape_of-facts
     (λ c.
-    let a = c.before.before.before.before.before.before.before.before.before.before.before.before.before.before.before.before.before.before.before.args in
+    let a = c.args in
     let tb : List ℕ = a.table.now in
-    let w = c.before.before.before.before.before.before.before.before.before.before.before.before.walk-whole in
-    let l = c.before.before.before.before.before.before.before.before.before.before.before.before.before.before.before.limit-in in
-    let p = c.before.before.before.before.before.before in
-    let g = c.before.before.before.give-model in
-    run_told tb l.result (l.ensures ∙ limit_of_lem tb) w.result w.new.1.0 w.new.1.1.0 a.answer.now w.ensures
-    c.verdict-by.result c.verdict-by.ensures g.new.1.1.0 p.pair.result (atoms_are p) g.ensures))  -- returns
+    let w = c.walk_whole-walked in
+    let l = c.limit_in-limit in
+    let g = c.give_model in
+    run_told tb l.result (l.ensures ∙ limit_of_lem tb) w.result w.new.facts w.new.path a.answer.now w.ensures
+    c.verdict_by.result c.verdict_by.ensures g.new.answer c.pair-atoms.result (atoms_are c.before.before.before.before.before) g.ensures))  -- returns

@@ -27,32 +27,29 @@ pub walk_whole_spec : {M : Type 1} → statement M
 walk_whole_spec =
     tie.close
     (tie.spec
-    (λ c. search rules)  -- slice-aggregate-chain-table
-    (λ c κs. search rules)  -- chain-table-requires
-    (λ c κs. search rules)  -- build-requires
-    (λ c. search rules)  -- slice-aggregate-build
-    (λ c κs. let s = c.before.before.before.before.before.before.before.before in let t = c.before.before.before.chain-table in horn-Lawful s.args.table.now s.requires.0 t.new.1.0 t.ensures)  -- build-requires-2
-    (λ c. search rules)  -- slice-relend-prefix-zero
-    (λ c. sym (flags c.before.before.before.before.before.before.before.before.before.before))  -- slice-aggregate-zero
+    (λ c. search rules)  -- slice_bounds-chain_table-end
+    (λ c κs. search rules)  -- chain_table-requires
+    (λ c κs. search rules)  -- build-conds-requires
+    (λ c. search rules)  -- slice_bounds-build-end
+    (λ c κs. let t = c.chain_table in horn-Lawful c.args.table.now c.requires.0 t.new.horn t.ensures)  -- build-chains-requires
+    (λ c. search rules)  -- slice_bounds-zero-end
+    (λ c. sym (flags c.before.before.before.before.before.before.before.before.before.before))  -- slice_bounds-zero-end-2
     (λ c κs. search rules)  -- zero-requires
-    (λ c. search rules)  -- slice-aggregate-root
+    (λ c. search rules)  -- slice_bounds-root-end
     (λ c κs.
-    let s = c.before.before.before.before.before.before.before.before.before.before.before.before.before.before.before.before.before.before in
-    let z = c.before.before.before.before.before.before.before.zero in (
-      s.requires.0,
+    let z = c.zero in (
+      c.requires.0,
       (
-        (c.before.before.before.before.before.before.before.before.before.before.before.before.before.chain-table.ensures, c.before.before.before.before.before.before.before.before.before.before.before.build.ensures, c.before.before.before.before.before.before.before.before.before.build2.ensures),
-        (cleared_store 2050 s.args.facts.now z.new.0 s.requires.1.0 z.ensures, record { size = ap length s.requires.1.1 ∙ length-replicate {A = ℕ} 9227 0; deep = omega arith }),
+        (c.chain_table.ensures, c.build-conds.ensures, c.build-chains.ensures),
+        (cleared_store 2050 c.args.facts.now z.new.dst c.requires.1.0 z.ensures, record { size = ap length c.requires.1.1 ∙ length-replicate {A = ℕ} 9227 0; deep = omega arith }),
       ),
-    ))  -- root-requires
-    (λ c. search rules)  -- slice-aggregate-from-root
+    ))  -- root-found-requires
+    (λ c. search rules)  -- slice_bounds-from_root-end
     (λ c κs.
-    let s = c.before.before.before.before.before.before.before.before.before.before.before.before.before.before.before.before.before.before.before.before.before.before.before.before.before.before.before.before in
-    (s.requires.0, ((c.before.before.before.before.before.before.before.before.before.before.before.before.before.before.before.before.before.before.before.before.before.before.before.chain-table.ensures, c.before.before.before.before.before.before.before.before.before.before.before.before.before.before.before.before.before.before.before.before.before.build.ensures, c.before.before.before.before.before.before.before.before.before.before.before.before.before.before.before.before.before.before.before.build2.ensures), c.before.before.before.before.before.before.before.before.before.root.ensures.0)))  -- from-root-requires
-    (λ c. search rules)  -- same-length
-    (λ c. search rules)  -- same-length-2
+    (c.requires.0, ((c.chain_table.ensures, c.build-conds.ensures, c.build-chains.ensures), c.root-found.ensures.0)))  -- from_root-requires
+    (λ c. search rules)  -- shape_of-facts
+    (λ c. search rules)  -- shape_of-path
     (λ c.
-    let s = c.before.before.before.before.before.before.before.before.before.before.before.before.before.before.before.before.before.before.before.before.before.before.before.before.before.before.before.before.before.before.before.before.before in
-    let w = staged_walker s.args.table.now in
-    let f = c.before.before.before.before.from-root in
-    subst (λ (d : ℕ). Walks w (from_root w d s.args.limit) f.result f.new.1.1.1.1.0 f.new.1.1.1.1.1.0) (c.before.before.before.before.before.before.before.before.before.before.before.before.before.before.root.ensures.1 ∙ none_entered s) f.ensures))  -- returns
+    let w = staged_walker c.args.table.now in
+    let f = c.from_root in
+    subst (λ (d : ℕ). Walks w (from_root w d c.args.limit) f.result f.new.facts f.new.path) (c.root-found.ensures.1 ∙ none_entered c.before.before.before.before.before.before.before.before.before.before.before.before.before.before.before.before.before.before.before.before.before.before.before.before.before.before.before.before.before.before.before.before.before) f.ensures))  -- returns

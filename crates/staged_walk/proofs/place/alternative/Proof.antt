@@ -9,9 +9,7 @@ alternative_spec =
     tie.close
     (tie.spec
     (λ c κs.
-    let s = c.before.before in
-    (s.requires.0, (s.requires.1.0, named_alike s.args.table.now s.args.path.now s.args.depth s.requires.1.1)))  -- alternative-requires
+    (c.requires.0, (c.requires.1.0, named_alike c.args.table.now c.args.path.now c.args.depth c.requires.1.1)))  -- alternative-requires
     (λ c.
-    let s = c.before.before.before in
     let b = c.alternative in
-    next_alike s.args.table.now s.args.path.now s.args.depth (next_at s.args.path.now s.args.depth) b.result b.ensures))  -- returns
+    next_alike c.args.table.now c.args.path.now c.args.depth (next_at c.args.path.now c.args.depth) b.result b.ensures))  -- returns

@@ -13,29 +13,26 @@ pub root_spec : {M : Type 1} → statement M
 root_spec =
     tie.close
     (tie.spec
-    (λ c κs. search rules)  -- start-requires
+    (λ c κs. search rules)  -- start-n-requires
     (λ c κs.
-    let s = c.before.before.before.before.before.before.before.before.before in
-    let b = c.before.before.before.start in
-    (s.requires.0, (s.requires.1.0, root_opening s.args.table.now s.args.facts.now b.new.1.0 b.result b.ensures)))  -- settle-requires
+    let b = c.start-n in
+    (c.requires.0, (c.requires.1.0, root_opening c.args.table.now c.args.facts.now b.new.r b.result b.ensures)))  -- settle-node-requires
     (λ c κs.
-    let s = c.before.before.before.before.before.before.before.before.before.before.before.before.before in
-    let b = c.before.before.before.before.before.before.before.start in
-    let z = c.before.before.before.settle in (
-      s.requires.1.1.1,
-      own_few s.args.table.now s.requires.0 b.new.1.0 s.args.path.now 0 b.result 0
-          (root_fresh s.args.table.now s.args.facts.now b.new.1.0 b.result b.ensures s.args.path.now s.requires.1.1.1) z.new.1.1.1.1.0 z.result z.ensures,
+    let b = c.start-n in
+    let z = c.settle-node in (
+      c.requires.1.1.1,
+      own_few c.args.table.now c.requires.0 b.new.r c.args.path.now 0 b.result 0
+          (root_fresh c.args.table.now c.args.facts.now b.new.r b.result b.ensures c.args.path.now c.requires.1.1.1) z.new.r z.result z.ensures,
     ))  -- tell-requires
-    (λ c. search rules)  -- same-length
-    (λ c. search rules)  -- same-length-2
+    (λ c. search rules)  -- shape_of-facts
+    (λ c. search rules)  -- shape_of-path
     (λ c.
-    let s = c.before.before.before.before.before.before.before.before.before.before.before.before.before.before.before.before in
-    let b = c.before.before.before.before.before.before.before.before.before.before.start in
-    let z = c.before.before.before.before.before.before.settle in
-    let t = c.before.before.tell in
-    let w = staged_walker s.args.table.now in
-    let f : Finding w b.new.1.0 s.args.path.now 0 b.result 0 t.result z.new.1.1.1.1.0 t.new.0 =
-    node-Told s.args.table.now s.requires.0 b.new.1.0 s.args.path.now 0 b.result 0
-    (root_fresh s.args.table.now s.args.facts.now b.new.1.0 b.result b.ensures s.args.path.now s.requires.1.1.1) z.new.1.1.1.1.0 z.result z.ensures
-    t.result t.new.0 (t.auto.0 ∙ s.requires.1.1.1.size) t.ensures in
-    (root_made w b.new.1.0 s.args.path.now b.result t.result z.new.1.1.1.1.0 t.new.0 f, f.deepest_is)))  -- returns
+    let b = c.start-n in
+    let z = c.settle-node in
+    let t = c.tell in
+    let w = staged_walker c.args.table.now in
+    let f : Finding w b.new.r c.args.path.now 0 b.result 0 t.result z.new.r t.new.path =
+    node-Told c.args.table.now c.requires.0 b.new.r c.args.path.now 0 b.result 0
+    (root_fresh c.args.table.now c.args.facts.now b.new.r b.result b.ensures c.args.path.now c.requires.1.1.1) z.new.r z.result z.ensures
+    t.result t.new.path (t.auto.path ∙ c.requires.1.1.1.size) t.ensures in
+    (root_made w b.new.r c.args.path.now b.result t.result z.new.r t.new.path f, f.deepest_is)))  -- returns

@@ -51,10 +51,10 @@ abbrev visit_below : ℕ → In 6 visit-kinds.ps
 visit_below t = and 6 visit-kinds.ps (falls 6 visit-kinds.ps ◌<◌ μ-visit t) visit.Pre
 
 -- after `made` entries some alternatives are shut, and fewer are left
-abbrev invariant-loop : try-next-lts.invariant-loop
+abbrev invariant-loop : try-next-lts.invariant-loop-a
 invariant-loop table horn conds chains facts₀ path₀ depth count limit own made₀ facts path made = Tried (staged_walker table) facts₀ path₀ depth count limit facts path made
 
-abbrev decreases-loop : try-next-lts.decreases-loop
+abbrev decreases-loop : try-next-lts.decreases-loop-a
 decreases-loop table horn conds chains facts₀ path₀ depth count limit own made₀ facts path made = tries_left (staged_walker table) facts path depth
 
 pub +try_next_visit_spec : {M : Type 1} → statement M
@@ -64,200 +64,169 @@ pub +try_next_visit_spec : {M : Type 1} → statement M
     try-next-lts.spec (mark-reads.Asked, mark-reads.Learnt, alternative-reads.Asked, alternative-reads.Learnt, enter-reads.Asked, enter-reads.Learnt, visit_below t, visit.Post) (try_next_at t) try-next.Post
     invariant-loop
     decreases-loop
-    (λ c κs. (c.before.before.before.before.before).requires.1.1.1.0.room)  -- mark-requires
-    (λ c. let s = c.before.before.before.before.before.before in tried_start (staged_walker s.args.table.now) s.args.facts.now s.args.path.now s.args.depth s.args.count s.args.limit s.requires.1.1.1.0 s.requires.1.1.1.1)  -- loop-holds
-    (λ c κs. let l = c.before.loop in ((c.before.before.before.before.before.before.before.before).requires.1.0, (l.invariant.parted.room, l.invariant.parted.at_split.listed)))  -- alternative-requires
-    (λ c. search rules)  -- enum-known-due
-    (λ c. search rules)  -- enum-told
-    (λ c. (c.before.before.before.before).loop.invariant.parted.store.room ∙ sym (c.before.before.before.before.before.before.before.before.before.before.before).requires.1.1.1.0.store.room)  -- same-length
-    (λ c. (c.before.before.before.before).loop.invariant.parted.room.size ∙ sym (c.before.before.before.before.before.before.before.before.before.before.before).requires.1.1.1.0.room.size)  -- same-length-2
+    (λ c κs. c.requires.1.1.1.0.room)  -- mark-own-requires
+    (λ c. tried_start (staged_walker c.args.table.now) c.args.facts.now c.args.path.now c.args.depth c.args.count c.args.limit c.requires.1.1.1.0 c.requires.1.1.1.1)  -- loop-a-init
+    (λ c κs. let l = c.loop-a in (c.requires.1.0, (l.invariant.parted.room, l.invariant.parted.at_split.listed)))  -- alternative-due-requires
+    (λ c. search rules)  -- enum_known-due
+    (λ c. search rules)  -- enum_told-1
+    (λ c. c.loop-a.invariant.parted.store.room ∙ sym c.requires.1.1.1.0.store.room)  -- shape_of-facts-in_default
+    (λ c. c.loop-a.invariant.parted.room.size ∙ sym c.requires.1.1.1.0.room.size)  -- shape_of-path-in_default
     (λ c.
-    let s = c.before.before.before.before.before.before.before.before.before.before.before in
-    let l = c.before.before.before.before.loop in
-    let b = c.before.before.alternative in
-    let w = staged_walker s.args.table.now in
-    let all = next_nothing (alts_at w l.path s.args.depth) (next_at l.path s.args.depth) b.result c.before.match.keys2 b.ensures in (
-      tried_leaves w s.args.facts.now s.args.path.now s.args.depth s.args.count s.args.limit l.facts l.path l.made l.invariant l.facts l.path (Shut l.made) (tried_none w l.facts l.path s.args.depth l.invariant.parted l.made s.args.limit l.invariant.within),
-      λ r e due. tried_ended w s.args.facts.now s.args.path.now s.args.depth s.args.count s.args.limit l.facts l.path l.made l.invariant l.facts l.path r (Shut l.made) (none_ended w l.facts l.path s.args.depth l.invariant.parted r l.made all (l.invariant.tries r e due)),
-    ))  -- returns
-    (λ c. (c.before.before.before.before.before.before).loop.invariant.parted.store.room ∙ sym (c.before.before.before.before.before.before.before.before.before.before.before.before.before).requires.1.1.1.0.store.room)  -- same-length-3
-    (λ c. (c.before.before.before.before.before.before).loop.invariant.parted.room.size ∙ sym (c.before.before.before.before.before.before.before.before.before.before.before.before.before).requires.1.1.1.0.room.size)  -- same-length-4
+    let l = c.loop-a in
+    let b = c.alternative-due in
+    let w = staged_walker c.args.table.now in
+    let all = next_nothing (alts_at w l.path c.args.depth) (next_at l.path c.args.depth) b.result c.in_default.in_default-own.keys2 b.ensures in (
+      tried_leaves w c.args.facts.now c.args.path.now c.args.depth c.args.count c.args.limit l.facts l.path l.made l.invariant l.facts l.path (Shut l.made) (tried_none w l.facts l.path c.args.depth l.invariant.parted l.made c.args.limit l.invariant.within),
+      λ r e due. tried_ended w c.args.facts.now c.args.path.now c.args.depth c.args.count c.args.limit l.facts l.path l.made l.invariant l.facts l.path r (Shut l.made) (none_ended w l.facts l.path c.args.depth l.invariant.parted r l.made all (l.invariant.tries r e due)),
+    ))  -- returns-in_default
+    (λ c. c.loop-a.invariant.parted.store.room ∙ sym c.requires.1.1.1.0.store.room)  -- shape_of-facts-then-made-limit
+    (λ c. c.loop-a.invariant.parted.room.size ∙ sym c.requires.1.1.1.0.room.size)  -- shape_of-path-then-made-limit
     (λ c.
-    let s = c.before.before.before.before.before.before.before.before.before.before.before.before.before in
-    let l = c.before.before.before.before.before.before.loop in
-    let b = c.before.before.before.before.alternative in
-    let d = c.before.before.due in
-    let w = staged_walker s.args.table.now in
-    let some_left = (next_atom (alts_at w l.path s.args.depth) (next_at l.path s.args.depth) b.result d.given.0.0 d.given.1 b.ensures).0 in
-    let met : l.made ≡ s.args.limit = omega (arith, c.if1.true, l.invariant.within) in (
-      tried_leaves w s.args.facts.now s.args.path.now s.args.depth s.args.count s.args.limit l.facts l.path l.made l.invariant l.facts l.path (LimitMet s.args.depth) (tried_due w l.facts l.path s.args.depth l.invariant.parted l.made s.args.limit some_left),
-      λ r e due. due_ended w l.facts l.path s.args.depth l.invariant.parted r l.made (met ∙ sym e) (l.invariant.tries r e due),
-    ))  -- returns-2
+    let l = c.loop-a in
+    let b = c.alternative-due in
+    let w = staged_walker c.args.table.now in
+    let some_left = (next_atom (alts_at w l.path c.args.depth) (next_at l.path c.args.depth) b.result c.in-Atom.a c.in-Atom.is b.ensures).0 in
+    let met : l.made ≡ c.args.limit = omega (arith, c.if-made-limit.true, l.invariant.within) in (
+      tried_leaves w c.args.facts.now c.args.path.now c.args.depth c.args.count c.args.limit l.facts l.path l.made l.invariant l.facts l.path (LimitMet c.args.depth) (tried_due w l.facts l.path c.args.depth l.invariant.parted l.made c.args.limit some_left),
+      λ r e due. due_ended w l.facts l.path c.args.depth l.invariant.parted r l.made (met ∙ sym e) (l.invariant.tries r e due),
+    ))  -- returns-then-made-limit
     (λ c κs.
-    let s = c.before.before.before.before.before.before.before.before.before.before.before.before.before.before.before in
-    let l = c.before.before.before.before.before.before.before.before.loop in
-    let b = c.before.before.before.before.before.before.alternative in
-    let d = c.before.before.before.before.due in
-    let w = staged_walker s.args.table.now in
-    (s.requires.1.0, (s.requires.1.1.0, (l.invariant.parted, next_atom (alts_at w l.path s.args.depth) (next_at l.path s.args.depth) b.result d.given.0.0 d.given.1 b.ensures))))  -- enter-requires
-    (λ c. omega (arith, (c.before.before.before.before.before.before.before.before.before.before.before.before.before.before.before).loop.invariant.parted.room.deep))  -- add-visit
-    (λ c. omega (arith, (c.before.before.before.before.before.before.before.before.before.before.before.before.before.before.before).loop.invariant.within, c.before.before.before.before.before.before.before.before.before.if1.false, (c.before.before.before.before.before.before.before.before.before.before.before.before.before.before.before.before.before.before.before.before.before.before).ranges.limit))  -- add-visit-2
+    let l = c.loop-a in
+    let b = c.alternative-due in
+    let w = staged_walker c.args.table.now in
+    (c.requires.1.0, (c.requires.1.1.0, (l.invariant.parted, next_atom (alts_at w l.path c.args.depth) (next_at l.path c.args.depth) b.result c.in-Atom.a c.in-Atom.is b.ensures))))  -- enter-found-requires
+    (λ c. omega (arith, c.loop-a.invariant.parted.room.deep))  -- overflow_add-depth
+    (λ c. omega (arith, c.loop-a.invariant.within, c.if-made-limit.false, c.ranges.limit))  -- overflow_add-made
     (λ c κs.
-    let s = c.before.before.before.before.before.before.before.before.before.before.before.before.before.before.before.before.before.before.before.before.before.before in
-    let l = c.before.before.before.before.before.before.before.before.before.before.before.before.before.before.before.loop in
-    let b = c.before.before.before.before.before.before.before.before.before.before.before.before.before.alternative in
-    let d = c.before.before.before.before.before.before.before.before.before.before.before.due in
-    let p = c.before.before.before.before.before.before.enter in
-    let w = staged_walker s.args.table.now in
-    let some_left = (next_atom (alts_at w l.path s.args.depth) (next_at l.path s.args.depth) b.result d.given.0.0 d.given.1 b.ensures).0 in
-    let own_is = c.before.before.before.before.before.before.before.before.before.before.before.before.before.before.before.before.mark.ensures ∙ sym l.invariant.mark_is in
-    let from : tries_left w s.args.facts.now s.args.path.now s.args.depth ≡ t = s.requires.0 in (
-      subst (λ (m : ℕ). visits_left w p.new.1.1.1.1.0 p.new.1.1.1.1.1.0 (s.args.depth + 1) p.result < m) from
-          (lt_of_lt_of_le (visit_falls w (sound s.args.table.now s.requires.1.0) l.facts l.path s.args.depth l.made l.invariant.parted some_left p.result p.new.1.1.1.1.0 p.new.1.1.1.1.1.0 (p.ensures l.made)) l.invariant.falls),
+    let l = c.loop-a in
+    let b = c.alternative-due in
+    let p = c.enter-found in
+    let w = staged_walker c.args.table.now in
+    let some_left = (next_atom (alts_at w l.path c.args.depth) (next_at l.path c.args.depth) b.result c.in-Atom.a c.in-Atom.is b.ensures).0 in
+    let own_is = c.mark-own.ensures ∙ sym l.invariant.mark_is in
+    let from : tries_left w c.args.facts.now c.args.path.now c.args.depth ≡ t = c.requires.0 in (
+      subst (λ (m : ℕ). visits_left w p.new.facts p.new.path (c.args.depth + 1) p.result < m) from
+          (lt_of_lt_of_le (visit_falls w (sound c.args.table.now c.requires.1.0) l.facts l.path c.args.depth l.made l.invariant.parted some_left p.result p.new.facts p.new.path (p.ensures l.made)) l.invariant.falls),
       (
-        s.requires.1.0,
-        (s.requires.1.1.0, (subst (λ (m : ℕ). Reached w p.new.1.1.1.1.0 p.new.1.1.1.1.1.0 (s.args.depth + 1) m p.result) (sym own_is) (p.ensures l.made).reached, omega (arith, l.invariant.within, c.before.before.before.before.before.before.before.before.before.if1.false))),
+        c.requires.1.0,
+        (c.requires.1.1.0, (subst (λ (m : ℕ). Reached w p.new.facts p.new.path (c.args.depth + 1) m p.result) (sym own_is) (p.ensures l.made).reached, omega (arith, l.invariant.within, c.if-made-limit.false))),
       ),
-    ))  -- visit-requires
-    (λ c. search rules)  -- enum-known-walked
-    (λ c. let p = c.before.before.before.before.before.before.before.before.before.before.before.before.enter in let v = c.before.before.before.before.before.visit in v.auto.1.1.1.1.0 ∙ p.auto.1.1.1.1.0 ∙ (c.before.before.before.before.before.before.before.before.before.before.before.before.before.before.before.before.before.before.before.before.before).loop.invariant.parted.store.room ∙ sym (c.before.before.before.before.before.before.before.before.before.before.before.before.before.before.before.before.before.before.before.before.before.before.before.before.before.before.before.before).requires.1.1.1.0.store.room)  -- same-length-5
-    (λ c. let p = c.before.before.before.before.before.before.before.before.before.before.before.before.enter in let v = c.before.before.before.before.before.visit in v.auto.1.1.1.1.1.0 ∙ p.auto.1.1.1.1.1.0 ∙ (c.before.before.before.before.before.before.before.before.before.before.before.before.before.before.before.before.before.before.before.before.before).loop.invariant.parted.room.size ∙ sym (c.before.before.before.before.before.before.before.before.before.before.before.before.before.before.before.before.before.before.before.before.before.before.before.before.before.before.before.before).requires.1.1.1.0.room.size)  -- same-length-6
+    ))  -- visit-walked-requires
+    (λ c. search rules)  -- enum_known-walked
+    (λ c. let p = c.enter-found in let v = c.visit-walked in v.auto.facts ∙ p.auto.facts ∙ c.loop-a.invariant.parted.store.room ∙ sym c.requires.1.1.1.0.store.room)  -- shape_of-facts-in_default-walked
+    (λ c. let p = c.enter-found in let v = c.visit-walked in v.auto.path ∙ p.auto.path ∙ c.loop-a.invariant.parted.room.size ∙ sym c.requires.1.1.1.0.room.size)  -- shape_of-path-in_default-walked
     (λ c.
-    let s = c.before.before.before.before.before.before.before.before.before.before.before.before.before.before.before.before.before.before.before.before.before.before.before.before.before.before.before.before in
-    let l = c.before.before.before.before.before.before.before.before.before.before.before.before.before.before.before.before.before.before.before.before.before.loop in
-    let p = c.before.before.before.before.before.before.before.before.before.before.before.before.enter in
-    let v = c.before.before.before.before.before.visit in
-    let w = staged_walker s.args.table.now in (
-      passes w v.new.1.1.1.1.0 v.new.1.1.1.1.1.0 s.args.limit p.new.1.1.1.1.0 p.new.1.1.1.1.1.0 (s.args.depth + 1) c.before.before.before.before.before.before.before.before.before.before.before.before.before.before.before.before.before.before.before.before.before.before.mark.result (l.made + 1)
-          s.args.facts.now s.args.path.now s.args.depth (mark_at s.args.path.now s.args.depth) s.args.count v.result c.match2.keys2 v.ensures.0,
+    let l = c.loop-a in
+    let p = c.enter-found in
+    let v = c.visit-walked in
+    let w = staged_walker c.args.table.now in (
+      passes w v.new.facts v.new.path c.args.limit p.new.facts p.new.path (c.args.depth + 1) c.mark-own.result (l.made + 1)
+          c.args.facts.now c.args.path.now c.args.depth (mark_at c.args.path.now c.args.depth) c.args.count v.result c.in_default-walked.in_default-walked-own.keys2 v.ensures.0,
       λ r e due.
-          passes_ended w v.new.1.1.1.1.0 v.new.1.1.1.1.1.0 r p.new.1.1.1.1.1.0 (s.args.depth + 1) s.args.path.now s.args.depth v.result c.match2.keys2
-          (v.ensures.1 r e ((p.ensures l.made).trail r (omega (arith, l.invariant.within, c.before.before.before.before.before.before.before.before.before.before.before.before.before.before.before.if1.false)) (l.invariant.tries r e due))),
-    ))  -- returns-3
+          passes_ended w v.new.facts v.new.path r p.new.path (c.args.depth + 1) c.args.path.now c.args.depth v.result c.in_default-walked.in_default-walked-own.keys2
+          (v.ensures.1 r e ((p.ensures l.made).trail r (omega (arith, l.invariant.within, c.if-made-limit.false)) (l.invariant.tries r e due))),
+    ))  -- returns-in_default-walked
     (λ c.
-    let s = c.before.before.before.before.before.before.before.before.before.before.before.before.before.before.before.before.before.before.before.before.before.before.before.before.before.before.before.before.before.before in
-    let m = c.before.before.before.before.before.before.before.before.before.before.before.before.before.before.before.before.before.before.before.before.before.before.before.before.mark in
-    let l = c.before.before.before.before.before.before.before.before.before.before.before.before.before.before.before.before.before.before.before.before.before.before.before.loop in
-    let b = c.before.before.before.before.before.before.before.before.before.before.before.before.before.before.before.before.before.before.before.before.before.alternative in
-    let d = c.before.before.before.before.before.before.before.before.before.before.before.before.before.before.before.before.before.before.before.due in
-    let p = c.before.before.before.before.before.before.before.before.before.before.before.before.before.before.enter in
-    let v = c.before.before.before.before.before.before.before.visit in
-    let g = c.before.walked.given in
-    let w = staged_walker s.args.table.now in
-    let some_left = (next_atom (alts_at w l.path s.args.depth) (next_at l.path s.args.depth) b.result d.given.0.0 d.given.1 b.ensures).0 in
-    let below : l.made < s.args.limit = omega (arith, l.invariant.within, c.before.before.before.before.before.before.before.before.before.before.before.before.before.before.before.before.before.if1.false) in
-    tried_falls w s.args.facts.now s.args.path.now s.args.depth s.args.count s.args.limit l.facts l.path l.made l.invariant some_left below
-    p.result p.new.1.1.1.1.0 p.new.1.1.1.1.1.0 (p.ensures l.made) m.result (m.ensures ∙ sym l.invariant.mark_is)
-    v.result g.0.0 g.1 v.new.1.1.1.1.0 v.new.1.1.1.1.1.0 v.auto.1.1.1.1.1.0 v.ensures.0 v.ensures.1)  -- loop-less
+    let m = c.mark-own in
+    let l = c.loop-a in
+    let b = c.alternative-due in
+    let p = c.enter-found in
+    let v = c.visit-walked in
+    let w = staged_walker c.args.table.now in
+    let some_left = (next_atom (alts_at w l.path c.args.depth) (next_at l.path c.args.depth) b.result c.in-Atom.a c.in-Atom.is b.ensures).0 in
+    let below : l.made < c.args.limit = omega (arith, l.invariant.within, c.if-made-limit.false) in
+    tried_falls w c.args.facts.now c.args.path.now c.args.depth c.args.count c.args.limit l.facts l.path l.made l.invariant some_left below
+    p.result p.new.facts p.new.path (p.ensures l.made) m.result (m.ensures ∙ sym l.invariant.mark_is)
+    v.result c.in-Shut.shut c.in-Shut.is v.new.facts v.new.path v.auto.path v.ensures.0 v.ensures.1)  -- loop-a-smaller
     (λ c.
-    let s = c.before.before.before.before.before.before.before.before.before.before.before.before.before.before.before.before.before.before.before.before.before.before.before.before.before.before.before.before.before.before in
-    let m = c.before.before.before.before.before.before.before.before.before.before.before.before.before.before.before.before.before.before.before.before.before.before.before.before.mark in
-    let l = c.before.before.before.before.before.before.before.before.before.before.before.before.before.before.before.before.before.before.before.before.before.before.before.loop in
-    let b = c.before.before.before.before.before.before.before.before.before.before.before.before.before.before.before.before.before.before.before.before.before.alternative in
-    let d = c.before.before.before.before.before.before.before.before.before.before.before.before.before.before.before.before.before.before.before.due in
-    let p = c.before.before.before.before.before.before.before.before.before.before.before.before.before.before.enter in
-    let v = c.before.before.before.before.before.before.before.visit in
-    let g = c.before.walked.given in
-    let w = staged_walker s.args.table.now in
-    let some_left = (next_atom (alts_at w l.path s.args.depth) (next_at l.path s.args.depth) b.result d.given.0.0 d.given.1 b.ensures).0 in
-    let below : l.made < s.args.limit = omega (arith, l.invariant.within, c.before.before.before.before.before.before.before.before.before.before.before.before.before.before.before.before.before.if1.false) in
-    tried_on w s.args.facts.now s.args.path.now s.args.depth s.args.count s.args.limit l.facts l.path l.made l.invariant some_left below
-    p.result p.new.1.1.1.1.0 p.new.1.1.1.1.1.0 (p.ensures l.made) m.result (m.ensures ∙ sym l.invariant.mark_is)
-    v.result g.0.0 g.1 v.new.1.1.1.1.0 v.new.1.1.1.1.1.0 v.auto.1.1.1.1.1.0 v.ensures.0 v.ensures.1))  -- loop-again
+    let m = c.mark-own in
+    let l = c.loop-a in
+    let b = c.alternative-due in
+    let p = c.enter-found in
+    let v = c.visit-walked in
+    let w = staged_walker c.args.table.now in
+    let some_left = (next_atom (alts_at w l.path c.args.depth) (next_at l.path c.args.depth) b.result c.in-Atom.a c.in-Atom.is b.ensures).0 in
+    let below : l.made < c.args.limit = omega (arith, l.invariant.within, c.if-made-limit.false) in
+    tried_on w c.args.facts.now c.args.path.now c.args.depth c.args.count c.args.limit l.facts l.path l.made l.invariant some_left below
+    p.result p.new.facts p.new.path (p.ensures l.made) m.result (m.ensures ∙ sym l.invariant.mark_is)
+    v.result c.in-Shut.shut c.in-Shut.is v.new.facts v.new.path v.auto.path v.ensures.0 v.ensures.1))  -- loop-a-preserved
     (λ t.
     visit-lts.spec (mark-reads.Asked, mark-reads.Learnt, undo-reads.Asked, undo-reads.Learnt, try_next_below t, try-next.Post) (visit_at t) visit.Post
-    (λ c. search rules)  -- enum-known-found
-    (λ c κs. let s = c.before.before.before.before.before.before.before.before in s.requires.1.1.1.0.room)  -- mark-requires
+    (λ c. search rules)  -- enum_known-found
+    (λ c κs. c.requires.1.1.1.0.room)  -- mark-own-requires
     (λ c κs.
-    let s = c.before.before.before.before.before.before.before.before.before.before in
-    let w = staged_walker s.args.table.now in
-    let g = c.before.before.before.before.found.given in
-    let at = reached_as w s.args.facts.now s.args.path.now s.args.depth s.args.done s.args.found (Split g.0.0) g.1 s.requires.1.1.1.0 in
-    (at.store, (omega (arith, at.ready.1, c.before.mark.ensures), omega arith)))  -- undo-requires
+    let w = staged_walker c.args.table.now in
+    let at = reached_as w c.args.facts.now c.args.path.now c.args.depth c.args.done c.args.found (Split c.in-Split.n) c.in-Split.is c.requires.1.1.1.0 in
+    (at.store, (omega (arith, at.ready.1, c.mark-own.ensures), omega arith)))  -- undo-requires
     (λ c κs.
-    let s = c.before.before.before.before.before.before.before.before.before.before.before.before.before.before.before in
-    let tb = s.args.table.now in
+    let tb = c.args.table.now in
     let w = staged_walker tb in
-    let x = s.requires.1.1.1 in
-    let g = c.before.before.before.before.before.before.before.before.before.found.given in
-    let at = reached_as w s.args.facts.now s.args.path.now s.args.depth s.args.done s.args.found (Split g.0.0) g.1 x.0 in
-    let u = c.before.before.before.before.undo in
-    let own : Undone 2050 s.args.facts.now (mark_at s.args.path.now s.args.depth) u.new.0 = subst (λ (m : ℕ). Undone 2050 s.args.facts.now m u.new.0) c.before.before.before.before.before.before.mark.ensures u.ensures in
-    let from : visits_left w s.args.facts.now s.args.path.now s.args.depth s.args.found ≡ t = s.requires.0 in (
-      subst (λ (m : ℕ). tries_left w u.new.0 s.args.path.now s.args.depth < m) (left_as w s.args.facts.now s.args.path.now s.args.depth s.args.found (Split g.0.0) g.1 ∙ from)
-          (tries_fall w (sound tb s.requires.1.0) s.args.facts.now s.args.path.now s.args.depth s.args.done g.0.0 at u.new.0 own),
+    let x = c.requires.1.1.1 in
+    let at = reached_as w c.args.facts.now c.args.path.now c.args.depth c.args.done c.args.found (Split c.in-Split.n) c.in-Split.is x.0 in
+    let u = c.undo in
+    let own : Undone 2050 c.args.facts.now (mark_at c.args.path.now c.args.depth) u.new.r = subst (λ (m : ℕ). Undone 2050 c.args.facts.now m u.new.r) c.mark-own.ensures u.ensures in
+    let from : visits_left w c.args.facts.now c.args.path.now c.args.depth c.args.found ≡ t = c.requires.0 in (
+      subst (λ (m : ℕ). tries_left w u.new.r c.args.path.now c.args.depth < m) (left_as w c.args.facts.now c.args.path.now c.args.depth c.args.found (Split c.in-Split.n) c.in-Split.is ∙ from)
+          (tries_fall w (sound tb c.requires.1.0) c.args.facts.now c.args.path.now c.args.depth c.args.done c.in-Split.n at u.new.r own),
       (
-        s.requires.1.0,
-        (s.requires.1.1.0, (Split-Parted w s.args.facts.now s.args.path.now s.args.depth s.args.done g.0.0 at u.new.0 own, x.1)),
+        c.requires.1.0,
+        (c.requires.1.1.0, (Split-Parted w c.args.facts.now c.args.path.now c.args.depth c.args.done c.in-Split.n at u.new.r own, x.1)),
       ),
-    ))  -- try-next-requires
-    (λ c. search rules)  -- enum-known-walked
+    ))  -- try_next-walked-requires
+    (λ c. search rules)  -- enum_known-walked
     (λ c κs.
-    let s = c.before.before.before.before.before.before.before.before.before.before.before.before.before.before.before.before.before.before.before.before.before.before.before.before in
-    let w = staged_walker s.args.table.now in
-    let g = c.before.before.before.before.before.before.before.before.before.before.before.before.before.before.before.before.before.before.found.given in
-    let at = reached_as w s.args.facts.now s.args.path.now s.args.depth s.args.done s.args.found (Split g.0.0) g.1 s.requires.1.1.1.0 in
-    let y = c.before.before.before.before.before.before.before.before.try-next in
-    let k = c.before.before.walked.given in
-    let shut : AllShut w c.before.before.before.before.before.before.before.before.before.before.before.before.before.undo.new.0 s.args.path.now s.args.depth (mark_at s.args.path.now s.args.depth) s.args.count s.args.limit k.0.0 y.new.1.1.1.1.0 y.new.1.1.1.1.1.0 =
-    leaves_as w c.before.before.before.before.before.before.before.before.before.before.before.before.before.undo.new.0 s.args.path.now s.args.depth (mark_at s.args.path.now s.args.depth) (mark_at s.args.path.now s.args.depth) s.args.count s.args.limit y.result (Shut k.0.0) y.new.1.1.1.1.0 y.new.1.1.1.1.1.0 refl k.1 y.ensures.0 in
-    (subst (λ (m : ℕ). Store 2050 y.new.1.1.1.1.0 m) (sym c.before.before.before.before.before.before.before.before.before.before.before.before.before.before.before.mark.ensures) shut.undone.store, (omega (arith, at.ready.0, c.before.before.before.before.before.before.before.before.before.before.before.before.before.before.before.mark.ensures), omega arith)))  -- undo-requires-2
-    (λ c. search rules)  -- same-length
-    (λ c. search rules)  -- same-length-2
+    let w = staged_walker c.args.table.now in
+    let at = reached_as w c.args.facts.now c.args.path.now c.args.depth c.args.done c.args.found (Split c.in-Split.n) c.in-Split.is c.requires.1.1.1.0 in
+    let y = c.try_next-walked in
+    let shut : AllShut w c.undo.new.r c.args.path.now c.args.depth (mark_at c.args.path.now c.args.depth) c.args.count c.args.limit c.in-Shut.shut y.new.facts y.new.path =
+    leaves_as w c.undo.new.r c.args.path.now c.args.depth (mark_at c.args.path.now c.args.depth) (mark_at c.args.path.now c.args.depth) c.args.count c.args.limit y.result (Shut c.in-Shut.shut) y.new.facts y.new.path refl c.in-Shut.is y.ensures.0 in
+    (subst (λ (m : ℕ). Store 2050 y.new.facts m) (sym c.mark-own.ensures) shut.undone.store, (omega (arith, at.ready.0, c.mark-own.ensures), omega arith)))  -- undo-requires-in-Shut
+    (λ c. search rules)  -- shape_of-facts-in-Shut
+    (λ c. search rules)  -- shape_of-path-in-Shut
     (λ c.
-    let s = c.before.before.before.before.before.before.before.before.before.before.before.before.before.before.before.before.before.before.before.before.before.before.before.before.before.before.before in
-    let w = staged_walker s.args.table.now in
-    let x = s.requires.1.1.1 in
-    let g = c.before.before.before.before.before.before.before.before.before.before.before.before.before.before.before.before.before.before.before.before.before.found.given in
-    let at = reached_as w s.args.facts.now s.args.path.now s.args.depth s.args.done s.args.found (Split g.0.0) g.1 x.0 in
-    let u = c.before.before.before.before.before.before.before.before.before.before.before.before.before.before.before.before.undo in
-    let own : Undone 2050 s.args.facts.now (mark_at s.args.path.now s.args.depth) u.new.0 = subst (λ (m : ℕ). Undone 2050 s.args.facts.now m u.new.0) c.before.before.before.before.before.before.before.before.before.before.before.before.before.before.before.before.before.before.mark.ensures u.ensures in
-    let y = c.before.before.before.before.before.before.before.before.before.before.before.try-next in
-    let k = c.before.before.before.before.before.walked.given in
-    let shut : AllShut w u.new.0 s.args.path.now s.args.depth (mark_at s.args.path.now s.args.depth) s.args.count s.args.limit k.0.0 y.new.1.1.1.1.0 y.new.1.1.1.1.1.0 =
-    leaves_as w u.new.0 s.args.path.now s.args.depth (mark_at s.args.path.now s.args.depth) (mark_at s.args.path.now s.args.depth) s.args.count s.args.limit y.result (Shut k.0.0) y.new.1.1.1.1.0 y.new.1.1.1.1.1.0 refl k.1 y.ensures.0 in
-    let e = c.before.before.undo2 in (
-      split_shut w s.args.facts.now s.args.path.now s.args.depth s.args.done s.args.count s.args.limit x.1 g.0.0 at u.new.0 own k.0.0 y.new.1.1.1.1.0 y.new.1.1.1.1.1.0 shut e.new.0 e.ensures,
+    let w = staged_walker c.args.table.now in
+    let x = c.requires.1.1.1 in
+    let at = reached_as w c.args.facts.now c.args.path.now c.args.depth c.args.done c.args.found (Split c.in-Split.n) c.in-Split.is x.0 in
+    let u = c.undo in
+    let own : Undone 2050 c.args.facts.now (mark_at c.args.path.now c.args.depth) u.new.r = subst (λ (m : ℕ). Undone 2050 c.args.facts.now m u.new.r) c.mark-own.ensures u.ensures in
+    let y = c.try_next-walked in
+    let shut : AllShut w u.new.r c.args.path.now c.args.depth (mark_at c.args.path.now c.args.depth) c.args.count c.args.limit c.in-Shut.shut y.new.facts y.new.path =
+    leaves_as w u.new.r c.args.path.now c.args.depth (mark_at c.args.path.now c.args.depth) (mark_at c.args.path.now c.args.depth) c.args.count c.args.limit y.result (Shut c.in-Shut.shut) y.new.facts y.new.path refl c.in-Shut.is y.ensures.0 in
+    let e = c.undo-in-Shut in (
+      split_shut w c.args.facts.now c.args.path.now c.args.depth c.args.done c.args.count c.args.limit x.1 c.in-Split.n at u.new.r own c.in-Shut.shut y.new.facts y.new.path shut e.new.r e.ensures,
       λ r met here.
-          ended_as w r s.args.path.now s.args.depth y.result (Shut k.0.0) y.new.1.1.1.1.0 y.new.1.1.1.1.1.0 k.1
-          (y.ensures.1 r met (split_tries w r s.args.facts.now s.args.path.now s.args.depth s.args.count g.0.0 (visiting_as w r s.args.facts.now s.args.path.now s.args.depth s.args.count s.args.found (Split g.0.0) g.1 here))),
-    ))  -- returns
-    (λ c. search rules)  -- same-length-3
-    (λ c. search rules)  -- same-length-4
+          ended_as w r c.args.path.now c.args.depth y.result (Shut c.in-Shut.shut) y.new.facts y.new.path c.in-Shut.is
+          (y.ensures.1 r met (split_tries w r c.args.facts.now c.args.path.now c.args.depth c.args.count c.in-Split.n (visiting_as w r c.args.facts.now c.args.path.now c.args.depth c.args.count c.args.found (Split c.in-Split.n) c.in-Split.is here))),
+    ))  -- returns-in-Shut
+    (λ c. search rules)  -- shape_of-facts-in-Split
+    (λ c. search rules)  -- shape_of-path-in-Split
     (λ c.
-    let s = c.before.before.before.before.before.before.before.before.before.before.before.before.before.before.before.before.before.before.before.before.before in
-    let w = staged_walker s.args.table.now in
-    let g = c.before.before.before.before.before.before.before.before.before.before.before.before.before.before.before.found.given in
-    let y = c.before.before.before.before.before.try-next in (
-      passes w y.new.1.1.1.1.0 y.new.1.1.1.1.1.0 s.args.limit c.before.before.before.before.before.before.before.before.before.before.undo.new.0 s.args.path.now s.args.depth (mark_at s.args.path.now s.args.depth) s.args.count
-          s.args.facts.now s.args.path.now s.args.depth s.args.done s.args.count y.result c.match2.keys2 y.ensures.0,
+    let w = staged_walker c.args.table.now in
+    let y = c.try_next-walked in (
+      passes w y.new.facts y.new.path c.args.limit c.undo.new.r c.args.path.now c.args.depth (mark_at c.args.path.now c.args.depth) c.args.count
+          c.args.facts.now c.args.path.now c.args.depth c.args.done c.args.count y.result c.in_default-walked.in_default-walked-own.keys2 y.ensures.0,
       λ r met here.
-          y.ensures.1 r met (split_tries w r s.args.facts.now s.args.path.now s.args.depth s.args.count g.0.0 (visiting_as w r s.args.facts.now s.args.path.now s.args.depth s.args.count s.args.found (Split g.0.0) g.1 here)),
-    ))  -- returns-2
-    (λ c. search rules)  -- enum-known-found-2
+          y.ensures.1 r met (split_tries w r c.args.facts.now c.args.path.now c.args.depth c.args.count c.in-Split.n (visiting_as w r c.args.facts.now c.args.path.now c.args.depth c.args.count c.args.found (Split c.in-Split.n) c.in-Split.is here)),
+    ))  -- returns-in-Split
+    (λ c. search rules)  -- enum_known-found-in-Closed-1
     (λ c κs.
-    let s = c.before.before.before.before.before.before.before.before in
-    let w = staged_walker s.args.table.now in
-    let g = c.before.before.found2.given in
-    let at = reached_as w s.args.facts.now s.args.path.now s.args.depth s.args.done s.args.found (Closed g.0.0) g.1 s.requires.1.1.1.0 in
-    (at.store, (at.ready, omega arith)))  -- undo-requires-3
-    (λ c. search rules)  -- same-length-5
+    let w = staged_walker c.args.table.now in
+    let at = reached_as w c.args.facts.now c.args.path.now c.args.depth c.args.done c.args.found (Closed c.in-Closed.n) c.in-Closed.is c.requires.1.1.1.0 in
+    (at.store, (at.ready, omega arith)))  -- undo-requires-in-Closed
+    (λ c. search rules)  -- shape_of-facts-in-Closed
     (λ c.
-    let s = c.before.before.before.before.before.before.before.before.before.before.before in
-    let w = staged_walker s.args.table.now in
-    let g = c.before.before.before.before.before.found2.given in
-    let e = c.before.before.undo3 in (
-      visit_closed w s.args.facts.now s.args.path.now s.args.depth s.args.done s.args.count s.args.limit s.requires.1.1.1.1 e.new.0 e.ensures,
+    let w = staged_walker c.args.table.now in
+    let e = c.undo-in-Closed in (
+      visit_closed w c.args.facts.now c.args.path.now c.args.depth c.args.done c.args.count c.args.limit c.requires.1.1.1.1 e.new.r e.ensures,
       λ r met here.
-          closed_ended w r s.args.facts.now s.args.path.now s.args.depth s.args.count g.0.0
-          (visiting_as w r s.args.facts.now s.args.path.now s.args.depth s.args.count s.args.found (Closed g.0.0) g.1 here) e.new.0,
-    ))  -- returns-3
-    (λ c. search rules)  -- enum-told
+          closed_ended w r c.args.facts.now c.args.path.now c.args.depth c.args.count c.in-Closed.n
+          (visiting_as w r c.args.facts.now c.args.path.now c.args.depth c.args.count c.args.found (Closed c.in-Closed.n) c.in-Closed.is here) e.new.r,
+    ))  -- returns-in-Closed
+    (λ c. search rules)  -- enum_told-1
     (λ c.
-    let s = c.before.before.before.before.before.before in
-    let w = staged_walker s.args.table.now in
-    let o = found_open s.args.found c.before.match.keys3 in (
-      visit_open w s.args.facts.now s.args.path.now s.args.depth s.args.done s.args.count s.args.limit s.requires.1.1.1.1 o.0
-          (reached_as w s.args.facts.now s.args.path.now s.args.depth s.args.done s.args.found (Open o.0) o.1 s.requires.1.1.1.0),
-      λ r met here. visiting_as w r s.args.facts.now s.args.path.now s.args.depth s.args.count s.args.found (Open o.0) o.1 here,
-    )))  -- returns-4
+    let w = staged_walker c.args.table.now in
+    let o = found_open c.args.found c.in_default.in_default-own.keys3 in (
+      visit_open w c.args.facts.now c.args.path.now c.args.depth c.args.done c.args.count c.args.limit c.requires.1.1.1.1 o.0
+          (reached_as w c.args.facts.now c.args.path.now c.args.depth c.args.done c.args.found (Open o.0) o.1 c.requires.1.1.1.0),
+      λ r met here. visiting_as w r c.args.facts.now c.args.path.now c.args.depth c.args.count c.args.found (Open o.0) o.1 here,
+    )))  -- returns

@@ -11,13 +11,13 @@ pub digit_spec : {M : Type 1} → statement M
 digit_spec =
     tie.close
     (tie.spec
-    (λ c. let b = c.before.args.b in rw (digit_found b (omega arith), lt-ltb b 48 c.if1.true))  -- returns
+    (λ c. let b = c.args.b in rw (digit_found b (omega arith), lt-ltb b 48 c.if-b-lt48.true))  -- returns-then-b-lt48
     (λ c κs. search rules)  -- value-requires
     (λ c.
-    let b = c.before.before.before.args.b in
-    c.value.ensures ∙ rw (digit_found b (omega arith), le-ltb b 48 c.before.before.if1.false, lt-ltb b 65 c.before.if2.true))  -- returns-2
-    (λ c. search rules)  -- sub-value
+    let b = c.args.b in
+    c.value.ensures ∙ rw (digit_found b (omega arith), le-ltb b 48 c.if-b-lt48.false, lt-ltb b 65 c.if-b-lt65.true))  -- returns-then-b-lt65
+    (λ c. search rules)  -- overflow_sub-b-2
     (λ c κs. search rules)  -- value-requires-2
     (λ c.
-    let b = c.before.before.before.args.b in
-    c.value2.ensures ∙ rw (digit_found b (omega arith), le-ltb b 48 c.before.before.if1.false, le-ltb b 65 c.before.if2.false)))  -- returns-3
+    let b = c.args.b in
+    c.value-2.ensures ∙ rw (digit_found b (omega arith), le-ltb b 48 c.if-b-lt48.false, le-ltb b 65 c.if-b-lt65.false)))  -- returns

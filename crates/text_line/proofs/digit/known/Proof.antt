@@ -36,7 +36,7 @@ pub known_spec : {M : Type 1} → statement M
 known_spec =
     tie.close
     (tie.spec
-    (λ c. omega (arith, c.if1.true))  -- sub-result
-    (λ c. let s = c.before in second s.args.b (omega arith) s.requires c.if1.true)  -- returns
-    (λ c. let s = c.before in omega (arith, from s.args.b (omega arith) s.requires))  -- sub-result-2
-    (λ c. let s = c.before in first s.args.b (omega arith) s.requires c.if1.false))  -- returns-2
+    (λ c. omega (arith, c.if-b-ge65.true))  -- overflow_sub-result
+    (λ c. second c.args.b (omega arith) c.requires c.if-b-ge65.true)  -- returns-then-b-ge65
+    (λ c. omega (arith, from c.args.b (omega arith) c.requires))  -- overflow_sub-result-2
+    (λ c. first c.args.b (omega arith) c.requires c.if-b-ge65.false))  -- returns

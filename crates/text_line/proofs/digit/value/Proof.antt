@@ -8,11 +8,11 @@ pub value_spec : {M : Type 1} → statement M
 value_spec =
     tie.close
     (tie.spec
-    (λ c. rw (le-ltb c.before.args.k 16 c.if1.true))  -- returns
-    (λ c κs. search rules)  -- digit-of-requires
+    (λ c. rw (le-ltb c.args.k 16 c.if-k-ge16.true))  -- returns-then-k-ge16
+    (λ c κs. search rules)  -- digit_of-requires
     (λ c.
-    let s = c.before.before.before.args in
-    rw (lt-ltb s.k 16 c.before.before.if1.false, ← c.before.digit-of.ensures, ne_eqb c.before.digit-of.result s.b c.if2.true))  -- returns-2
+    let s = c.args in
+    rw (lt-ltb s.k 16 c.if-k-ge16.false, ← c.digit_of.ensures, ne_eqb c.digit_of.result s.b c.if-digit_of-b.true))  -- returns-then-digit_of-b
     (λ c.
-    let s = c.before.before.before.args in
-    rw (lt-ltb s.k 16 c.before.before.if1.false, ← c.before.digit-of.ensures, eq-eqb c.before.digit-of.result s.b c.if2.false)))  -- returns-3
+    let s = c.args in
+    rw (lt-ltb s.k 16 c.if-k-ge16.false, ← c.digit_of.ensures, eq-eqb c.digit_of.result s.b c.if-digit_of-b.false)))  -- returns

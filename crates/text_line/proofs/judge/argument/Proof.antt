@@ -12,15 +12,14 @@ argument_spec =
     tie.close
     (tie.spec
     (λ c κs. search rules)  -- variable-requires
-    (λ c. let s = c.before.before.args in rw (lt-ltb s.b 32 c.before.if1.true, lt-ltb s.b s.c c.if2.true))  -- returns
-    (λ c. let s = c.before.before.args in rw (lt-ltb s.b 32 c.before.if1.true, le-ltb s.b s.c c.if2.false))  -- returns-2
+    (λ c. let s = c.args in rw (lt-ltb s.b 32 c.in-0-to-31.if-b-lt32-own.true, lt-ltb s.b s.c c.if-b-c.true))  -- returns-then-b-c
+    (λ c. let s = c.args in rw (lt-ltb s.b 32 c.in-0-to-31.if-b-lt32-own.true, le-ltb s.b s.c c.if-b-c.false))  -- returns-else-b-c
     (λ c.
-    let v = c.before.before.before in
-    let b = v.before.args.b in
-    c.variable.ensures ∙ rw (le-ltb b 32 v.if1.false, le-leb 128 b c.before.before.if3.false, lt-ltb b 132 c.before.if4.true))  -- returns-3
+    let b = c.args.b in
+    c.variable.ensures ∙ rw (le-ltb b 32 c.in-128-to-131.if-b-lt32-own.false, le-leb 128 b c.in-128-to-131.if-b-lt128-own.false, lt-ltb b 132 c.in-128-to-131.if-b-lt132-own.true))  -- returns-in-128-to-131
     (λ c.
-    let b = c.before.before.args.b in
-    rw (le-ltb b 32 c.before.if1.false, lt-leb 128 b c.if3.true))  -- returns-4
+    let b = c.args.b in
+    rw (le-ltb b 32 c.in_default.if-b-lt32-own.false, lt-leb 128 b c.in_default.if-b-lt128-own.true))  -- returns-in_default
     (λ c.
-    let b = c.before.before.before.args.b in
-    rw (le-ltb b 32 c.before.before.if1.false, le-leb 128 b c.before.if3.false, le-ltb b 132 c.if4.false)))  -- returns-5
+    let b = c.args.b in
+    rw (le-ltb b 32 c.in_default.if-b-lt32-own.false, le-leb 128 b c.in_default.if-b-lt128-own.false, le-ltb b 132 c.in_default.if-b-lt132-own.false)))  -- returns-in_default-2

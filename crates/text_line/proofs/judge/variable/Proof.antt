@@ -11,11 +11,11 @@ unfolding judge_variable
 variable_spec =
     tie.close
     (tie.spec
-    (λ c. let s = c.before.args in rw (lt-ltb s.x s.v c.if1.true))  -- returns
-    (λ c. search rules)  -- add-t4
+    (λ c. let s = c.args in rw (lt-ltb s.x s.v c.if-x-v.true))  -- returns-then-x-v
+    (λ c. search rules)  -- overflow_add-result
     (λ c.
-    let s = c.before.before.args in
-    rw (le-ltb s.x s.v c.before.if1.false, eq-eqb s.x s.v c.if2.true, add-one))  -- returns-2
+    let s = c.args in
+    rw (le-ltb s.x s.v c.if-x-v.false, eq-eqb s.x s.v c.if-x-v-2.true, add-one))  -- returns-then-x-v-2
     (λ c.
-    let s = c.before.before.args in
-    rw (le-ltb s.x s.v c.before.if1.false, ne_eqb s.x s.v c.if2.false)))  -- returns-3
+    let s = c.args in
+    rw (le-ltb s.x s.v c.if-x-v.false, ne_eqb s.x s.v c.if-x-v-2.false)))  -- returns

@@ -30,16 +30,15 @@ unfolding byte_at
 frame_byte_spec =
     tie.close
     (tie.spec
-    (λ c. omega (arith, room c.before))  -- mul-i
-    (λ c. omega (arith, room c.before))  -- add-i
-    (λ c. omega (arith, room c.before.before))  -- shared-slice-read-known
-    (λ c κs. high c.before.before)  -- known-requires
-    (λ c. omega (arith, room c.before.before.before))  -- add-known
-    (λ c. omega (arith, room c.before.before.before.before))  -- shared-slice-read-known-2
-    (λ c κs. low c.before.before.before.before)  -- known-requires-2
-    (λ c. omega (arith, high c.before.before.before.before.before, c.before.before.known.ensures))  -- mul-result
-    (λ c. omega (arith, high c.before.before.before.before.before, c.before.before.known.ensures, low c.before.before.before.before.before, c.known2.ensures))  -- add-result
+    (λ c. omega (arith, room c.before))  -- overflow_mul-i
+    (λ c. omega (arith, room c.before))  -- overflow_add-i
+    (λ c. omega (arith, room c.before.before))  -- bounds-text-i
+    (λ c κs. high c.before.before)  -- known-high-requires
+    (λ c. omega (arith, room c.before.before.before))  -- overflow_add-i-2
+    (λ c. omega (arith, room c.before.before.before.before))  -- bounds-text-i-2
+    (λ c κs. low c.before.before.before.before)  -- known-low-requires
+    (λ c. omega (arith, high c.before.before.before.before.before, c.known-high.ensures))  -- overflow_mul-result
+    (λ c. omega (arith, high c.before.before.before.before.before, c.known-high.ensures, low c.before.before.before.before.before, c.known-low.ensures))  -- overflow_add-result
     (λ c.
-    let s = c.before.before.before.before.before in
-    rw (frame_byte s.args.text.now s.args.at s.args.n s.args.j s.requires.1, c.before.before.known.ensures, c.known2.ensures, add-one)
+    rw (frame_byte c.args.text.now c.args.at c.args.n c.args.j c.requires.1, c.known-high.ensures, c.known-low.ensures, add-one)
     (sym (horner_two 16 _ _))))  -- returns

@@ -10,10 +10,10 @@ use Rattle.problem.proofs.Lines.{run_more, run_stops, run_past, run_full}
 use Rattle.text_line.proofs.line.run_of.Statement.{statement}
 use Rattle.text_line.proofs.line.run_of.Tie as tie
 
-abbrev invariant-loop : tie.invariant-loop
+abbrev invariant-loop : tie.invariant-loop-d
 invariant-loop text at d₀ d = (run text at 71 ≡ d + run text (at + d) (71 - d)) × (at + d ≤ length text) × (d ≤ 71)
 
-abbrev decreases-loop : tie.decreases-loop
+abbrev decreases-loop : tie.decreases-loop-d
 decreases-loop text at d₀ d = 71 - d
 
 pub run_of_spec : {M : Type 1} → statement M
@@ -22,25 +22,25 @@ run_of_spec =
     (tie.spec
     invariant-loop
     decreases-loop
-    (λ c. (rw (zero-add, add-zero), omega arith, omega arith))  -- loop-holds
-    (λ c. omega arith)  -- add-i
+    (λ c. (rw (zero-add, add-zero), omega arith, omega arith))  -- loop-d-init
+    (λ c. omega arith)  -- overflow_add-i
     (λ c.
-    let l = c.before.before.loop in
-    let s = c.before.before.before.before.args in
-    (run_past s.text.now s.at 71 l.d l.invariant.0 c.if1.true, omega arith, omega arith))  -- returns
-    (λ c. c.before.if1.false)  -- shared-slice-read-digit
+    let l = c.loop-d in
+    let s = c.args in
+    (run_past s.text.now s.at 71 l.d l.invariant.0 c.if-text-i.true, omega arith, omega arith))  -- returns-then-text-i
+    (λ c. c.if-text-i.false)  -- bounds-text-i
     (λ c κs. search rules)  -- digit-requires
     (λ c.
-    let l = c.before.before.before.before.before.loop in
-    let s = c.before.before.before.before.before.before.before.args in
-    (run_stops s.text.now s.at 71 l.d l.invariant.0 (omega arith), omega arith, omega arith))  -- returns-2
-    (λ c. omega arith)  -- add-d
-    (λ c. omega arith)  -- loop-less
+    let l = c.loop-d in
+    let s = c.args in
+    (run_stops s.text.now s.at 71 l.d l.invariant.0 (omega arith), omega arith, omega arith))  -- returns-then-digit-ge16
+    (λ c. omega arith)  -- overflow_add-d
+    (λ c. omega arith)  -- loop-d-smaller
     (λ c.
-    let l = c.before.before.before.before.before.loop in
-    let s = c.before.before.before.before.before.before.before.args in
-    (run_more s.text.now s.at 71 l.d l.invariant.0 (omega arith) (omega arith), omega arith, omega arith))  -- loop-again
+    let l = c.loop-d in
+    let s = c.args in
+    (run_more s.text.now s.at 71 l.d l.invariant.0 (omega arith) (omega arith), omega arith, omega arith))  -- loop-d-preserved
     (λ c.
-    let l = c.before.loop in
-    let s = c.before.before.before.args in
-    (run_full s.text.now s.at 71 l.d l.invariant.0 (omega arith), omega arith, omega arith)))  -- returns-3
+    let l = c.loop-d in
+    let s = c.args in
+    (run_full s.text.now s.at 71 l.d l.invariant.0 (omega arith), omega arith, omega arith)))  -- returns

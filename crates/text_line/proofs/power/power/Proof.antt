@@ -20,9 +20,9 @@ pub power_spec : {M : Type 1} → statement M
 power_spec =
     tie.close
     (tie.spec
-    (λ c. search rules)  -- mul-i
-    (λ c. search rules)  -- add-i
-    (λ c. search rules)  -- mul-result
-    (λ c. search rules)  -- element-copy-out-result
-    (λ c. let s = c.before in omega (arith, (looked_up s.args.powers.now s.args.c s.args.k s.requires.0 s.requires.1).1))  -- cast-result
-    (λ c. let s = c.before in looked_up s.args.powers.now s.args.c s.args.k s.requires.0 s.requires.1))  -- returns
+    (λ c. search rules)  -- overflow_mul-i
+    (λ c. search rules)  -- overflow_add-i
+    (λ c. search rules)  -- offset_bounds-powers-i
+    (λ c. search rules)  -- bounds-powers-i
+    (λ c. omega (arith, (looked_up c.args.powers.now c.args.c c.args.k c.requires.0 c.requires.1).1))  -- overflow_cast-result
+    (λ c. looked_up c.args.powers.now c.args.c c.args.k c.requires.0 c.requires.1))  -- returns

@@ -8,9 +8,9 @@ pub atom_before_spec : {M : Type 1} → statement M
 atom_before_spec =
     tie.close
     (tie.spec
-    (λ c. let s = c.before in before_past s.args.t1 s.requires.0 s.args.next c.if1.true)  -- returns
-    (λ c. search rules)  -- sub-at
-    (λ c. search rules)  -- cast-at
-    (λ c. search rules)  -- mul-result
-    (λ c. search rules)  -- element-copy-out-result
-    (λ c. let s = c.before.before in before_here s.args.t1 s.requires.0 s.args.next s.requires.1 c.before.if1.false))  -- returns-2
+    (λ c. before_past c.args.alts c.requires.0 c.args.next c.if-next-alts.true)  -- returns-then-next-alts
+    (λ c. search rules)  -- overflow_sub-at
+    (λ c. search rules)  -- overflow_cast-at
+    (λ c. search rules)  -- offset_bounds-alts-at
+    (λ c. search rules)  -- bounds-alts-at
+    (λ c. before_here c.args.alts c.requires.0 c.args.next c.requires.1 c.if-next-alts.false))  -- returns

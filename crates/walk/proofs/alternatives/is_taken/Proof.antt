@@ -11,14 +11,12 @@ pub is_taken_spec : {M : Type 1} → statement M
 is_taken_spec =
     tie.close
     (tie.spec
-    (λ c. let s = c.before in not_first (listed s.args.alts) s.args.next s.args.atom c.if1.true)  -- returns
+    (λ c. not_first (listed c.args.alts) c.args.next c.args.atom c.if-next-eq0.true)  -- returns-then-next-eq0
     (λ c.
-    let s = c.before.before.before in
-    not_past (listed s.args.alts) s.args.next s.args.atom (omega (arith, c.if2.true)) (omega (arith, c.if2.true, listed_many s.args.alts s.requires)))  -- returns-2
-    (λ c κs. let s = c.before.before.before in (s.requires, omega (arith, c.before.before.if1.false)))  -- atom-before-requires
-    (λ c. search rules)  -- cast-before
+    not_past (listed c.args.alts) c.args.next c.args.atom (omega (arith, c.if-next-alts.true)) (omega (arith, c.if-next-alts.true, listed_many c.args.alts c.requires)))  -- returns-then-next-alts
+    (λ c κs. (c.requires, omega (arith, c.if-next-eq0.false)))  -- atom_before-before-requires
+    (λ c. search rules)  -- overflow_cast-before
     (λ c.
-    let s = c.before.before.before.before in
-    let some_next = c.before.before.before.if1.false in
-    taken_as (listed s.args.alts) s.args.next s.args.atom c.atom-before.result (omega (arith, some_next))
-    (omega (arith, some_next, c.before.if2.false, listed_many s.args.alts s.requires)) c.atom-before.ensures))  -- returns-3
+    let some_next = c.if-next-eq0.false in
+    taken_as (listed c.args.alts) c.args.next c.args.atom c.atom_before-before.result (omega (arith, some_next))
+    (omega (arith, some_next, c.if-next-alts.false, listed_many c.args.alts c.requires)) c.atom_before-before.ensures))  -- returns

@@ -12,20 +12,16 @@ pub split_stands_spec : {M : Type 1} → statement M
 split_stands_spec =
     tie.close
     (tie.spec
-    (λ c. let s = c.before in split_satisfied (listed s.args.alts) s.args.standing s.args.depth s.args.next c.if1.true)  -- returns
+    (λ c. split_satisfied (listed c.args.alts) c.args.standing c.args.depth c.args.next c.if-standing-eq1.true)  -- returns-then-standing-eq1
     (λ c.
-    let s = c.before.before.before in
-    split_past (listed s.args.alts) s.args.standing s.args.depth s.args.next (not_reached s.args.alts s.requires s.args.next c.if2.true))  -- returns-2
+    split_past (listed c.args.alts) c.args.standing c.args.depth c.args.next (not_reached c.args.alts c.requires c.args.next c.if-next-alts.true))  -- returns-then-next-alts
     (λ c.
-    let s = c.before.before.before.before in
-    sym (is_reached s.args.alts s.requires s.args.next c.before.if2.false)
-    ∙ split_exhausted (listed s.args.alts) s.args.standing s.args.depth s.args.next c.if3.true)  -- returns-3
+    sym (is_reached c.args.alts c.requires c.args.next c.if-next-alts.false)
+    ∙ split_exhausted (listed c.args.alts) c.args.standing c.args.depth c.args.next c.if-standing-gt1.true)  -- returns-then-standing-gt1
     (λ c.
-    let s = c.before.before.before.before.before in
-    split_deep (listed s.args.alts) s.args.standing s.args.depth s.args.next c.before.before.before.before.if1.false c.before.if3.false
-    (is_reached s.args.alts s.requires s.args.next c.before.before.if2.false) c.if4.true)  -- returns-4
+    split_deep (listed c.args.alts) c.args.standing c.args.depth c.args.next c.if-standing-eq1.false c.if-standing-gt1.false
+    (is_reached c.args.alts c.requires c.args.next c.if-next-alts.false) c.if-depth-gt0.true)  -- returns-then-depth-gt0
     (λ c.
-    let s = c.before.before.before.before.before.before in
-    ap (λ n. leb n s.args.next) (sym (listed_many s.args.alts s.requires))
-    ∙ split_root (listed s.args.alts) s.args.standing s.args.depth s.args.next c.before.before.before.before.before.if1.false c.before.before.if3.false
-    (is_reached s.args.alts s.requires s.args.next c.before.before.before.if2.false) (omega (arith, c.before.if4.false))))  -- returns-5
+    ap (λ n. leb n c.args.next) (sym (listed_many c.args.alts c.requires))
+    ∙ split_root (listed c.args.alts) c.args.standing c.args.depth c.args.next c.if-standing-eq1.false c.if-standing-gt1.false
+    (is_reached c.args.alts c.requires c.args.next c.if-next-alts.false) (omega (arith, c.if-depth-gt0.false))))  -- returns

@@ -8,5 +8,5 @@ pub taken_spec : {M : Type 1} → statement M
 taken_spec =
     tie.close
     (tie.spec
-    (λ c. let s = c.before.before in taken_some s.args.alts s.requires s.args.next (omega (arith, c.if1.true)))  -- returns
-    (λ c. let s = c.before.before in taken_all s.args.alts s.requires s.args.next c.if1.false))  -- returns-2
+    (λ c. taken_some c.args.alts c.requires c.args.next (omega (arith, c.if-next-alts.true)))  -- returns-then-next-alts
+    (λ c. taken_all c.args.alts c.requires c.args.next c.if-next-alts.false))  -- returns

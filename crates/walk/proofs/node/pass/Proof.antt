@@ -13,32 +13,28 @@ pub pass_spec : {M : Type 1} → statement M
 pass_spec =
     tie.close
     (tie.spec
-    (λ c. search rules)  -- mul-at
-    (λ c. search rules)  -- add-at
-    (λ c. search rules)  -- slice-read-path
-    (λ c. search rules)  -- add-path
-    (λ c. search rules)  -- slice-write-path
+    (λ c. search rules)  -- overflow_mul-at
+    (λ c. search rules)  -- overflow_add-at
+    (λ c. search rules)  -- bounds-path-at
+    (λ c. search rules)  -- overflow_add-path
+    (λ c. search rules)  -- bounds-path-at-2
     (λ c κs. search rules)  -- deepest-requires
-    (λ c. search rules)  -- add-bring
+    (λ c. search rules)  -- overflow_add-depth
     (λ c κs. search rules)  -- bring-requires
     (λ c.
-    let s = c.before.before.before.before.before.before.before.before.before in
-    let p = s.args.path.now in
-    let b = c.before.before.bring in
-    b.auto.0 ∙ length-set p (node_at s.args.depth + 6) (next_at p s.args.depth + 1))  -- same-length
+    let p = c.args.path.now in
+    let b = c.bring in
+    b.auto.path ∙ length-set p (node_at c.args.depth + 6) (next_at p c.args.depth + 1))  -- shape_of-path-then-deepest-depth
     (λ c.
-    let s = c.before.before.before.before.before.before.before.before.before in
-    let p = s.args.path.now in
-    let b = c.before.before.bring in
-    let e = c.before.before.before.before.before.deepest in
-    let few = c.before.before.before.before.if1.true in
-    let t = turned p s.args.depth s.requires.0 (next_at p s.args.depth + 1) in
-    passed p s.args.depth s.requires.0 b.new.0 b.ensures.1 (omega (arith, b.ensures.0, e.ensures, few, t.deepest_is)))  -- returns
-    (λ c. search rules)  -- same-length-2
+    let p = c.args.path.now in
+    let b = c.bring in
+    let e = c.deepest in
+    let t = turned p c.args.depth c.requires.0 (next_at p c.args.depth + 1) in
+    passed p c.args.depth c.requires.0 b.new.path b.ensures.1 (omega (arith, b.ensures.0, e.ensures, t.deepest_is)))  -- returns-then-deepest-depth
+    (λ c. search rules)  -- shape_of-path-else-deepest-depth
     (λ c.
-    let s = c.before.before.before.before.before in
-    let p = s.args.path.now in
-    let e = c.before.deepest in
-    let put = set p (node_at s.args.depth + 6) (next_at p s.args.depth + 1) in
-    let t = turned p s.args.depth s.requires.0 (next_at p s.args.depth + 1) in
-    passed p s.args.depth s.requires.0 put (λ i l. refl) (omega (arith, e.ensures, c.if1.false, t.deepest_is))))  -- returns-2
+    let p = c.args.path.now in
+    let e = c.deepest in
+    let put = set p (node_at c.args.depth + 6) (next_at p c.args.depth + 1) in
+    let t = turned p c.args.depth c.requires.0 (next_at p c.args.depth + 1) in
+    passed p c.args.depth c.requires.0 put (λ i l. refl) (omega (arith, e.ensures, t.deepest_is))))  -- returns-else-deepest-depth

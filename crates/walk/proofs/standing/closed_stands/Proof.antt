@@ -8,7 +8,7 @@ pub closed_stands_spec : {M : Type 1} → statement M
 closed_stands_spec =
     tie.close
     (tie.spec
-    (λ c. let s = c.before in closed_satisfied s.args.standing s.args.depth s.args.next c.if1.true)  -- returns
-    (λ c. let s = c.before.before in closed_tried s.args.standing s.args.depth s.args.next c.if2.true)  -- returns-2
-    (λ c. let s = c.before.before.before in closed_exhausted s.args.standing s.args.depth s.args.next (omega (arith, c.before.if2.false)) c.if3.true)  -- returns-3
-    (λ c. let s = c.before.before.before in closed_refuted s.args.standing s.args.depth s.args.next c.before.before.if1.false (omega (arith, c.if3.false)) (omega (arith, c.before.if2.false))))  -- returns-4
+    (λ c. closed_satisfied c.args.standing c.args.depth c.args.next c.if-standing-eq1.true)  -- returns-then-standing-eq1
+    (λ c. closed_tried c.args.standing c.args.depth c.args.next c.if-next-gt0.true)  -- returns-then-next-gt0
+    (λ c. closed_exhausted c.args.standing c.args.depth c.args.next (omega (arith, c.if-next-gt0.false)) c.if-standing-gt1.true)  -- returns-then-standing-gt1
+    (λ c. closed_refuted c.args.standing c.args.depth c.args.next c.if-standing-eq1.false (omega (arith, c.if-standing-gt1.false)) (omega (arith, c.if-next-gt0.false))))  -- returns

@@ -7,5 +7,5 @@ pub open_stands_spec : {M : Type 1} → statement M
 open_stands_spec =
     tie.close
     (tie.spec
-    (λ c. let s = c.before in open_refuted s.args.standing s.args.next c.if1.true)  -- returns
-    (λ c. let s = c.before in open_on s.args.standing s.args.next c.if1.false))  -- returns-2
+    (λ c. open_refuted c.args.standing c.args.next c.if-standing-eq0.true)  -- returns-then-standing-eq0
+    (λ c. open_on c.args.standing c.args.next c.if-standing-eq0.false))  -- returns

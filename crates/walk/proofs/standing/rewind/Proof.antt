@@ -11,12 +11,11 @@ pub rewind_spec : {M : Type 1} → statement M
 rewind_spec =
     tie.close
     (tie.spec
-    (λ c κs. search rules)  -- mark-requires
-    (λ c κs. let s = c.before.before.before.before.before in (s.requires.0.0, (omega (arith, s.requires.1.1, c.before.mark.ensures), s.requires.0.1)))  -- undo-requires
+    (λ c κs. search rules)  -- mark-own-requires
+    (λ c κs. (c.requires.0.0, (omega (arith, c.requires.1.1, c.mark-own.ensures), c.requires.0.1)))  -- undo-requires
     (λ c κs. search rules)  -- turn-requires
-    (λ c. search rules)  -- same-length
-    (λ c. search rules)  -- same-length-2
+    (λ c. search rules)  -- shape_of-facts
+    (λ c. search rules)  -- shape_of-path
     (λ c.
-    let s = c.before.before.before.before.before.before.before.before.before.before.before.before in
-    let u = c.before.before.before.before.before.before.undo in
-    (subst (λ (m : ℕ). Undone s.args.capacity s.args.facts.now m u.new.0) c.before.before.before.before.before.before.before.before.mark.ensures u.ensures, c.before.before.turn.ensures)))  -- returns
+    let u = c.undo in
+    (subst (λ (m : ℕ). Undone c.args.capacity c.args.facts.now m u.new.r) c.mark-own.ensures u.ensures, c.turn.ensures)))  -- returns

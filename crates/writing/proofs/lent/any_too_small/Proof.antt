@@ -9,6 +9,6 @@ pub any_too_small_spec : {M : Type 1} → statement M
 any_too_small_spec =
     tie.close
     (tie.spec
-    (λ c. let a = c.before.args in short_rules a.rules a.answer a.work c.if1.true)  -- returns
-    (λ c κs. search rules)  -- too-small-requires
-    (λ c. let a = c.before.before.args in c.too_small.ensures ∙ long_rules a.rules a.answer a.work c.before.if1.false))  -- returns-2
+    (λ c. let a = c.args in short_rules a.rules a.answer a.work c.if-rules-lt16384.true)  -- returns-then-rules-lt16384
+    (λ c κs. search rules)  -- too_small-requires
+    (λ c. let a = c.args in c.too_small.ensures ∙ long_rules a.rules a.answer a.work c.if-rules-lt16384.false))  -- returns

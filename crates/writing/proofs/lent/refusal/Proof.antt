@@ -10,9 +10,9 @@ pub refusal_spec : {M : Type 1} → statement M
 refusal_spec =
     tie.close
     (tie.spec
-    (λ c. refusal_table _ _ c.if1.true)  -- returns
-    (λ c. refusal_buffer _ _ c.before.if1.false c.if2.true)  -- returns-2
-    (λ c. sym (length-take-le 4096 c.before.before.before.before.args.table.now c.before.before.if1.false))  -- slice-aggregate-valid
-    (λ c κs. length-take-le 4096 c.before.before.before.before.args.table.now c.before.before.if1.false)  -- valid-requires
-    (λ c. let v = c.before.valid in refusal_invalid _ _ c.before.before.before.before.if1.false c.before.before.before.if2.false (sym v.ensures ∙ not-true v.result c.if3.true))  -- returns-3
-    (λ c. let v = c.before.valid in refusal_none _ _ c.before.before.before.before.if1.false c.before.before.before.if2.false (sym v.ensures ∙ not-false v.result c.if3.false)))  -- returns-4
+    (λ c. refusal_table _ _ c.if-table-lt4096.true)  -- returns-then-table-lt4096
+    (λ c. refusal_buffer _ _ c.if-table-lt4096.false c.if-short.true)  -- returns-then-short
+    (λ c. sym (length-take-le 4096 c.args.table.now c.if-table-lt4096.false))  -- slice_bounds-valid-end
+    (λ c κs. length-take-le 4096 c.args.table.now c.if-table-lt4096.false)  -- valid-requires
+    (λ c. let v = c.valid in refusal_invalid _ _ c.if-table-lt4096.false c.if-short.false (sym v.ensures ∙ not-true v.result c.if-not-valid.true-raw))  -- returns-then-not-valid
+    (λ c. let v = c.valid in refusal_none _ _ c.if-table-lt4096.false c.if-short.false (sym v.ensures ∙ not-false v.result c.if-not-valid.false-raw)))  -- returns

@@ -7,5 +7,5 @@ pub too_small_spec : {M : Type 1} → statement M
 too_small_spec =
     tie.close
     (tie.spec
-    (λ c. let a = c.before.args in short_answer a.answer a.work c.if1.true)  -- returns
-    (λ c. let a = c.before.args in long_answer a.answer a.work c.if1.false))  -- returns-2
+    (λ c. let a = c.args in short_answer a.answer a.work c.if-answer-lt1024.true)  -- returns-then-answer-lt1024
+    (λ c. let a = c.args in long_answer a.answer a.work c.if-answer-lt1024.false))  -- returns

@@ -15,10 +15,10 @@ use Rattle.writing.proofs.write.all_zero.Tie as tie
 abbrev zeros : List ℕ → List ℕ
 zeros a = replicate (length a) 0
 
-abbrev invariant-loop : tie.invariant-loop
+abbrev invariant-loop : tie.invariant-loop-i
 invariant-loop a all₀ i₀ all i = (i ≤ length a) × (same_list (zeros a) a ≡ (all && same_list (drop i (zeros a)) (drop i a)))
 
-abbrev decreases-loop : tie.decreases-loop
+abbrev decreases-loop : tie.decreases-loop-i
 decreases-loop a all₀ i₀ all i = length a - i
 
 long : (a : List ℕ) → length (zeros a) ≡ length a
@@ -30,18 +30,18 @@ all_zero_spec =
     (tie.spec
     invariant-loop
     decreases-loop
-    (λ c. (omega arith, refl))  -- loop-holds
-    (λ c. omega arith)  -- shared-slice-read-if1
-    (λ c. omega arith)  -- add-i
-    (λ c. omega arith)  -- loop-less
+    (λ c. (omega arith, refl))  -- loop-i-init
+    (λ c. omega arith)  -- bounds-a-i
+    (λ c. omega arith)  -- overflow_add-i
+    (λ c. omega arith)  -- loop-i-smaller
     (λ c.
-    let l = c.before.before.before.loop in
-    let a = c.before.before.before.before.args.a.now in
+    let l = c.loop-i in
+    let a = c.args.a.now in
     let z = zeros_at (length a) l.i in
-    let differs = same_differs (zeros a) a l.i (omega (arith, long a)) (omega arith) l.all c.if1.all in
-    let more = same_more (zeros a) a l.i (omega (arith, long a)) (omega arith) l.all c.if1.all in
-    (omega arith, l.invariant.1 ∙ ⊎_elim (λ w. differs (λ e. w.0.taken (sym e ∙ z)) w.1) (λ w. more (z ∙ sym w.0.left) w.1) c.if1.branch))  -- loop-again
+    let differs = same_differs (zeros a) a l.i (omega (arith, long a)) (omega arith) l.all c.if-a-i-ne0.all in
+    let more = same_more (zeros a) a l.i (omega (arith, long a)) (omega arith) l.all c.if-a-i-ne0.all in
+    (omega arith, l.invariant.1 ∙ ⊎_elim (λ w. differs (λ e. w.if-a-i-ne0.true (sym e ∙ z)) w.all-is) (λ w. more (z ∙ sym w.if-a-i-ne0.false) w.all-is) c.if-a-i-ne0.branch-raw))  -- loop-i-preserved
     (λ c.
-    let l = c.before.loop in
-    let a = c.before.before.args.a.now in
+    let l = c.loop-i in
+    let a = c.args.a.now in
     sym (l.invariant.1 ∙ same_done (zeros a) a l.i l.all (omega (arith, long a)) (long a))))  -- returns

@@ -11,13 +11,12 @@ pub any_valid_spec : {M : Type 1} → statement M
 any_valid_spec =
     tie.close
     (tie.spec
-    (λ c. search rules)  -- slice-aggregate-print-table
-    (λ c κs. search rules)  -- print-table-requires
-    (λ c. search rules)  -- array-share-prefix-text
+    (λ c. search rules)  -- slice_bounds-print_table-end
+    (λ c κs. search rules)  -- print_table-n-requires
+    (λ c. search rules)  -- slice_bounds-text-end
     (λ c.
-    let put = c.before.before.print-table in
-    put_count put.ensures ∙ sym (ap length (put_text put.ensures)))  -- slice-aggregate-reads-to
-    (λ c κs. search rules)  -- reads-to-requires
+    let put = c.print_table-n in
+    put_count put.ensures ∙ sym (ap length (put_text put.ensures)))  -- slice_bounds-reads_to-end
+    (λ c κs. search rules)  -- reads_to-requires
     (λ c.
-    let put = c.before.before.before in
-    c.reads-to.ensures ∙ valid_read _ _ (put_text put.print-table.ensures)))  -- returns
+    c.reads_to.ensures ∙ valid_read _ _ (put_text c.print_table-n.ensures)))  -- returns

@@ -15,20 +15,15 @@ unfolding problem_in text_of print
 print_table_spec =
     tie.close
     (tie.spec
-    (λ c κs. search rules)  -- put-first-requires
-    (λ c κs. search rules)  -- put-arities-requires
-    (λ c κs. search rules)  -- put-clauses-requires
-    (λ c κs. search rules)  -- put-last-requires
-    (λ c. search rules)  -- same-length
+    (λ c κs. search rules)  -- put_first-first-requires
+    (λ c κs. search rules)  -- put_arities-arities-requires
+    (λ c κs. search rules)  -- put_clauses-clauses-requires
+    (λ c κs. search rules)  -- put_last-requires
+    (λ c. search rules)  -- shape_of-out
     (λ c.
-    let last = c.before.before in
-    let clauses = last.before.before.before.before in
-    let arities = clauses.before.before.before.before in
-    let first = arities.before.before.before.before in
-    let s = first.before.before.before.before in
-    let x : List ℕ = s.args.out.now in
-    let tb : List ℕ = s.args.table.now in
-    let room : 182 + 71 * min (get_or tb 2 0) 64 ≤ length x = s.requires.1 in
-    let two = put_then first.put_first.ensures (omega arith) arities.put-arities.ensures in
-    let three = put_then two (omega arith) clauses.put_clauses.ensures in
-    put_most (put_then three (omega arith) last.put_last.ensures) (omega arith)))  -- returns
+    let x : List ℕ = c.args.out.now in
+    let tb : List ℕ = c.args.table.now in
+    let room : 182 + 71 * min (get_or tb 2 0) 64 ≤ length x = c.requires.1 in
+    let two = put_then c.put_first-first.ensures (omega arith) c.put_arities-arities.ensures in
+    let three = put_then two (omega arith) c.put_clauses-clauses.ensures in
+    put_most (put_then three (omega arith) c.put_last.ensures) (omega arith)))  -- returns

@@ -10,13 +10,9 @@ pub put_arity_spec : {M : Type 1} → statement M
 put_arity_spec =
     tie.close
     (tie.spec
-    (λ c κs. search rules)  -- put-byte-requires
-    (λ c κs. search rules)  -- put-byte-requires-2
-    (λ c κs. search rules)  -- put-end-requires
-    (λ c. search rules)  -- same-length
+    (λ c κs. search rules)  -- put_byte-kind-requires
+    (λ c κs. search rules)  -- put_byte-next-requires
+    (λ c κs. search rules)  -- put_end-requires
+    (λ c. search rules)  -- shape_of-out
     (λ c.
-    let last = c.before.before in
-    let second = last.before.before.before.before in
-    let first = second.before.before.before.before in
-    let s = first.before.before.before in
-    put_line (2 ∷ s.args.a ∷ []) (put_hex (2 ∷ []) s.args.a (put_first 2 first.put_byte.ensures) (omega arith) second.put-byte2.ensures) (omega arith) last.put-end.ensures))  -- returns
+    put_line (2 ∷ c.args.a ∷ []) (put_hex (2 ∷ []) c.args.a (put_first 2 c.put_byte-kind.ensures) (omega arith) c.put_byte-next.ensures) (omega arith) c.put_end.ensures))  -- returns

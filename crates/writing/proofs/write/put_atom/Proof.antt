@@ -16,21 +16,17 @@ pub put_atom_spec : {M : Type 1} → statement M
 put_atom_spec =
     tie.close
     (tie.spec
-    (λ c. search rules)  -- shared-slice-read-b
-    (λ c κs. search rules)  -- put-byte-requires
-    (λ c. search rules)  -- add-put-bytes
-    (λ c κs. search rules)  -- arity-in-requires
-    (λ c κs. search rules)  -- put-bytes-requires
-    (λ c. search rules)  -- same-length
+    (λ c. search rules)  -- bounds-table-from
+    (λ c κs. search rules)  -- put_byte-next-requires
+    (λ c. search rules)  -- overflow_add-from
+    (λ c κs. search rules)  -- arity_in-requires
+    (λ c κs. search rules)  -- put_bytes-requires
+    (λ c. search rules)  -- shape_of-out
     (λ c.
-    let rest = c.before.before in
-    let arity = rest.before.before in
-    let first = arity.before.before.before in
-    let s = first.before.before.before.before.before in
-    let tb : List ℕ = s.args.table.now in
-    let from : ℕ = s.args.from in
-    let n : ℕ = arity.arity-in.result in
+    let tb : List ℕ = c.args.table.now in
+    let from : ℕ = c.args.from in
+    let n : ℕ = c.arity_in.result in
     let b : ℕ = get_or tb from 0 in
     put_as
-    (put_most (put_frame (b ∷ []) (tabulate (λ j. get_or tb (from + 1 + j) 0) n) (put_first b first.put_byte.ensures) (omega arith) rest.put-bytes.ensures) (omega arith))
-    (ap (flat_map hex_byte) (atom_bytes_lem (arities_in tb) tb from n arity.arity-in.ensures.0))))  -- returns
+    (put_most (put_frame (b ∷ []) (tabulate (λ j. get_or tb (from + 1 + j) 0) n) (put_first b c.put_byte-next.ensures) (omega arith) c.put_bytes.ensures) (omega arith))
+    (ap (flat_map hex_byte) (atom_bytes_lem (arities_in tb) tb from n c.arity_in.ensures.0))))  -- returns

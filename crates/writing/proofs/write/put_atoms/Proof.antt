@@ -21,11 +21,11 @@ digits_of a = flat_map hex_byte (atom_bytes a)
 abbrev atom_at : List ℕ → ℕ → ℕ → Atom
 atom_at table from i = atom_in (arities_in table) table (from + 6 * i)
 
-abbrev invariant-loop : tie.invariant-loop
+abbrev invariant-loop : tie.invariant-loop-i
 invariant-loop table from count out₀ at next₀ i₀ out next i =
     (i ≤ count) × Put out₀ at (flat_map digits_of (tabulate (atom_at table from) i)) (8 * i) next out × (length out ≡ length out₀)
 
-abbrev decreases-loop : tie.decreases-loop
+abbrev decreases-loop : tie.decreases-loop-i
 decreases-loop table from count out₀ at next₀ i₀ out next i = count - i
 
 pub put_atoms_spec : {M : Type 1} → statement M
@@ -35,23 +35,22 @@ put_atoms_spec =
     invariant-loop
     decreases-loop
     (λ c.
-    let s = c.before.before.args in
-    (omega arith, puts_none digits_of (atom_at s.table.now s.from) 8 s.out.now s.at, refl))  -- loop-holds
-    (λ c. omega arith)  -- cast-put-atom
-    (λ c. omega arith)  -- mul-put-atom
-    (λ c. omega arith)  -- add-put-atom
-    (λ c κs. omega arith)  -- put-atom-requires
-    (λ c. omega arith)  -- add-i
-    (λ c. omega arith)  -- loop-less
+    let s = c.args in
+    (omega arith, puts_none digits_of (atom_at s.table.now s.from) 8 s.out.now s.at, refl))  -- loop-i-init
+    (λ c. omega arith)  -- overflow_cast-i
+    (λ c. omega arith)  -- overflow_mul-i
+    (λ c. omega arith)  -- overflow_add-from
+    (λ c κs. omega arith)  -- put_atom-next-requires
+    (λ c. omega arith)  -- overflow_add-i
+    (λ c. omega arith)  -- loop-i-smaller
     (λ c.
-    let put = c.before.before in
-    let l = put.before.before.before.loop in
-    let s = put.before.before.before.before.before.before.args in
-    (omega arith, puts_more digits_of (atom_at s.table.now s.from) 8 l.i l.invariant.1 (omega arith) put.put-atom.ensures, put.put-atom.auto.1.1.0 ∙ l.invariant.2))  -- loop-again
-    (λ c. c.before.loop.invariant.2)  -- same-length
+    let l = c.loop-i in
+    let s = c.args in
+    (omega arith, puts_more digits_of (atom_at s.table.now s.from) 8 l.i l.invariant.1 (omega arith) c.put_atom-next.ensures, c.put_atom-next.auto.out ∙ l.invariant.2))  -- loop-i-preserved
+    (λ c. c.loop-i.invariant.2)  -- shape_of-out
     (λ c.
-    let l = c.before.loop in
-    let s = c.before.before.before.before.args in
+    let l = c.loop-i in
+    let s = c.args in
     put_as
     (puts_done digits_of (atom_at s.table.now s.from) 8 l.i s.count 32 l.invariant.1 (omega arith) (omega arith))
     (sym (flat_flat hex_byte atom_bytes (tabulate (atom_at s.table.now s.from) s.count)))))  -- returns

@@ -10,13 +10,12 @@ pub put_byte_spec : {M : Type 1} → statement M
 put_byte_spec =
     tie.close
     (tie.spec
-    (λ c κs. search rules)  -- digit-of-requires
-    (λ c. search rules)  -- slice-write-out
-    (λ c κs. search rules)  -- digit-of-requires-2
-    (λ c. search rules)  -- add-out
-    (λ c. simp length-set (omega arith))  -- slice-write-out-2
-    (λ c. search rules)  -- add-result
-    (λ c. search rules)  -- same-length
+    (λ c κs. search rules)  -- digit_of-requires
+    (λ c. search rules)  -- bounds-out-at
+    (λ c κs. search rules)  -- digit_of-requires-2
+    (λ c. search rules)  -- overflow_add-out
+    (λ c. simp length-set (omega arith))  -- bounds-out-at-2
+    (λ c. search rules)  -- overflow_add-result
+    (λ c. search rules)  -- shape_of-out
     (λ c.
-    let s = c.before.before.before in
-    put_two s.args.out.now s.args.at s.args.b c.before.digit-of.result c.digit-of2.result (omega arith) s.requires c.before.digit-of.ensures c.digit-of2.ensures))  -- returns
+    put_two c.args.out.now c.args.at c.args.b c.digit_of.result c.digit_of-2.result (omega arith) c.requires c.digit_of.ensures c.digit_of-2.ensures))  -- returns

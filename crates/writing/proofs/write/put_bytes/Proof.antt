@@ -11,11 +11,11 @@ use Rattle.writing.proofs.WriteLaws.{puts_none, puts_more, puts_done}
 use Rattle.writing.proofs.write.put_bytes.Statement.{statement}
 use Rattle.writing.proofs.write.put_bytes.Tie as tie
 
-abbrev invariant-loop : tie.invariant-loop
+abbrev invariant-loop : tie.invariant-loop-j
 invariant-loop table from count out₀ at next₀ j₀ out next j =
     (j ≤ count) × Put out₀ at (flat_map hex_byte (tabulate (λ i. get_or table (from + i) 0) j)) (2 * j) next out × (length out ≡ length out₀)
 
-abbrev decreases-loop : tie.decreases-loop
+abbrev decreases-loop : tie.decreases-loop-j
 decreases-loop table from count out₀ at next₀ j₀ out next j = count - j
 
 pub put_bytes_spec : {M : Type 1} → statement M
@@ -25,21 +25,17 @@ put_bytes_spec =
     invariant-loop
     decreases-loop
     (λ c.
-    let s = c.before.before in
-    (omega arith, puts_none hex_byte (λ i. get_or s.args.table.now (s.args.from + i) 0) 2 s.args.out.now s.args.at, refl))  -- loop-holds
-    (λ c. omega arith)  -- cast-i
-    (λ c. omega arith)  -- add-i
-    (λ c. omega arith)  -- shared-slice-read-put-byte
-    (λ c κs. omega arith)  -- put-byte-requires
-    (λ c. omega arith)  -- add-j
-    (λ c. omega arith)  -- loop-less
+    (omega arith, puts_none hex_byte (λ i. get_or c.args.table.now (c.args.from + i) 0) 2 c.args.out.now c.args.at, refl))  -- loop-j-init
+    (λ c. omega arith)  -- overflow_cast-i
+    (λ c. omega arith)  -- overflow_add-i
+    (λ c. omega arith)  -- bounds-table-i
+    (λ c κs. omega arith)  -- put_byte-next-requires
+    (λ c. omega arith)  -- overflow_add-j
+    (λ c. omega arith)  -- loop-j-smaller
     (λ c.
-    let k = c.before.before in
-    let l = k.before.before.before.before.loop in
-    let s = k.before.before.before.before.before.before.before in
-    (omega arith, puts_more hex_byte (λ i. get_or s.args.table.now (s.args.from + i) 0) 2 l.j l.invariant.1 (omega arith) k.put_byte.ensures, k.put_byte.auto.0 ∙ l.invariant.2))  -- loop-again
-    (λ c. c.before.loop.invariant.2)  -- same-length
+    let l = c.loop-j in
+    (omega arith, puts_more hex_byte (λ i. get_or c.args.table.now (c.args.from + i) 0) 2 l.j l.invariant.1 (omega arith) c.put_byte-next.ensures, c.put_byte-next.auto.out ∙ l.invariant.2))  -- loop-j-preserved
+    (λ c. c.loop-j.invariant.2)  -- shape_of-out
     (λ c.
-    let l = c.before.loop in
-    let s = c.before.before.before.before in
-    puts_done hex_byte (λ i. get_or s.args.table.now (s.args.from + i) 0) 2 l.j s.args.count (2 * s.args.count) l.invariant.1 (omega arith) (omega arith)))  -- returns
+    let l = c.loop-j in
+    puts_done hex_byte (λ i. get_or c.args.table.now (c.args.from + i) 0) 2 l.j c.args.count (2 * c.args.count) l.invariant.1 (omega arith) (omega arith)))  -- returns

@@ -20,11 +20,11 @@ line k = hex_line (clause_frame k)
 abbrev clause_at : List ℕ → ℕ → Clause
 clause_at table k = clause_in (arities_in table) table (144 + 56 * k)
 
-abbrev invariant-loop : tie.invariant-loop
+abbrev invariant-loop : tie.invariant-loop-k
 invariant-loop table out₀ at count next₀ k₀ out next k =
     (k ≤ count) × Put out₀ at (flat_map line (tabulate (clause_at table) k)) (71 * k) next out × (length out ≡ length out₀)
 
-abbrev decreases-loop : tie.decreases-loop
+abbrev decreases-loop : tie.decreases-loop-k
 decreases-loop table out₀ at count next₀ k₀ out next k = count - k
 
 pub put_clauses_spec : {M : Type 1} → statement M
@@ -33,24 +33,23 @@ put_clauses_spec =
     (tie.spec
     invariant-loop
     decreases-loop
-    (λ c. omega arith)  -- shared-slice-read-at-most
-    (λ c κs. tt)  -- at-most-requires
+    (λ c. omega arith)  -- bounds-table-2
+    (λ c κs. tt)  -- at_most-count-requires
     (λ c.
-    let s = c.before.before.before.before.args in
-    (omega arith, puts_none line (clause_at s.table.now) 71 s.out.now s.at, refl))  -- loop-holds
-    (λ c. omega arith)  -- cast-put-clause
-    (λ c. omega arith)  -- mul-put-clause
-    (λ c. omega arith)  -- add-put-clause
-    (λ c κs. omega arith)  -- put-clause-requires
-    (λ c. omega arith)  -- add-k
-    (λ c. omega arith)  -- loop-less
+    let s = c.args in
+    (omega arith, puts_none line (clause_at s.table.now) 71 s.out.now s.at, refl))  -- loop-k-init
+    (λ c. omega arith)  -- overflow_cast-k
+    (λ c. omega arith)  -- overflow_mul-k
+    (λ c. omega arith)  -- overflow_add-k
+    (λ c κs. omega arith)  -- put_clause-next-requires
+    (λ c. omega arith)  -- overflow_add-k-in-loop-k
+    (λ c. omega arith)  -- loop-k-smaller
     (λ c.
-    let put = c.before.before in
-    let l = put.before.before.before.loop in
-    let s = put.before.before.before.before.before.before.before.before.args in
-    (omega arith, puts_more line (clause_at s.table.now) 71 l.k l.invariant.1 (omega arith) put.put-clause.ensures, put.put-clause.auto.1.1.0 ∙ l.invariant.2))  -- loop-again
-    (λ c. c.before.loop.invariant.2)  -- same-length
+    let l = c.loop-k in
+    let s = c.args in
+    (omega arith, puts_more line (clause_at s.table.now) 71 l.k l.invariant.1 (omega arith) c.put_clause-next.ensures, c.put_clause-next.auto.out ∙ l.invariant.2))  -- loop-k-preserved
+    (λ c. c.loop-k.invariant.2)  -- shape_of-out
     (λ c.
-    let l = c.before.loop in
-    let tb : List ℕ = c.before.before.before.before.before.before.args.table.now in
+    let l = c.loop-k in
+    let tb : List ℕ = c.args.table.now in
     puts_done line (clause_at tb) 71 l.k (min (get_or tb 2 0) 64) (71 * min (get_or tb 2 0) 64) l.invariant.1 (omega arith) (omega arith)))  -- returns

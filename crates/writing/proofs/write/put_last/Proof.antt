@@ -13,19 +13,14 @@ pub put_last_spec : {M : Type 1} → statement M
 put_last_spec =
     tie.close
     (tie.spec
-    (λ c κs. search rules)  -- put-byte-requires
-    (λ c. search rules)  -- shared-slice-read-at-most
-    (λ c κs. search rules)  -- at-most-requires
-    (λ c κs. search rules)  -- put-byte-requires-2
-    (λ c κs. search rules)  -- put-end-requires
-    (λ c. search rules)  -- same-length
+    (λ c κs. search rules)  -- put_byte-kind-requires
+    (λ c. search rules)  -- bounds-table-2
+    (λ c κs. search rules)  -- at_most-requires
+    (λ c κs. search rules)  -- put_byte-count-requires
+    (λ c κs. search rules)  -- put_end-requires
+    (λ c. search rules)  -- shape_of-out
     (λ c.
-    let last = c.before.before in
-    let second = last.before.before.before.before in
-    let count = second.before in
-    let first = count.before.before.before.before.before in
-    let s = first.before.before.before.before in
-    let n : ℕ = count.at_most.result in
+    let n : ℕ = c.at_most.result in
     put_as
-    (put_line (255 ∷ n ∷ []) (put_hex (255 ∷ []) n (put_first 255 first.put_byte.ensures) (omega arith) second.put-byte2.ensures) (omega arith) last.put-end.ensures)
-    (ap hex_line (closing_frame_lem s.args.table.now n count.at_most.ensures))))  -- returns
+    (put_line (255 ∷ n ∷ []) (put_hex (255 ∷ []) n (put_first 255 c.put_byte-kind.ensures) (omega arith) c.put_byte-count.ensures) (omega arith) c.put_end.ensures)
+    (ap hex_line (closing_frame_lem c.args.table.now n c.at_most.ensures))))  -- returns

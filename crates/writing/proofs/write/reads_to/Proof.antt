@@ -10,17 +10,15 @@ pub reads_to_spec : {M : Type 1} → statement M
 reads_to_spec =
     tie.close
     (tie.spec
-    (λ c. search rules)  -- slice-aggregate-read-text
-    (λ c κs. search rules)  -- read-text-requires
-    (λ c. search rules)  -- enum_told
-    (λ c. search rules)  -- enum-told-2
-    (λ c. search rules)  -- slice-aggregate-same-table
-    (λ c κs. let s = c.before.before.before.before.before.before.before.before in let r = c.before.before.before.before.read-text in (read_ended s.args.text.now r.new.1.0 r.result r.ensures c.before.enum-told2.given.1, s.requires))  -- same-table-requires
+    (λ c. search rules)  -- slice_bounds-read_text-end
+    (λ c κs. search rules)  -- read_text-reading-requires
+    (λ c. search rules)  -- enum_told-1
+    (λ c. search rules)  -- enum_told-in-Accepted
+    (λ c. search rules)  -- slice_bounds-same_table-end
+    (λ c κs. let r = c.read_text-reading in (read_ended c.args.text.now r.new.table r.result r.ensures c.in-Accepted.is, c.requires))  -- same_table-requires
     (λ c.
-    let s = c.before.before.before.before.before.before.before in
-    let r = c.before.before.before.read-text in
-    not_read s.args.table.now s.args.text.now r.new.1.0 r.result r.ensures c.enum_told.given.1)  -- returns
+    let r = c.read_text-reading in
+    not_read c.args.table.now c.args.text.now r.new.table r.result r.ensures c.in-Refused.is)  -- returns-in-Refused
     (λ c.
-    let s = c.before.before.before.before.before.before.before.before.before in
-    let r = c.before.before.before.before.before.read-text in
-    c.same-table.ensures ∙ read_same s.args.table.now s.args.text.now r.new.1.0 r.result r.ensures c.before.before.enum-told2.given.1))  -- returns-2
+    let r = c.read_text-reading in
+    c.same_table.ensures ∙ read_same c.args.table.now c.args.text.now r.new.table r.result r.ensures c.in-Accepted.is))  -- returns-in-Accepted

@@ -12,21 +12,19 @@ pub same_table_spec : {M : Type 1} → statement M
 same_table_spec =
     tie.close
     (tie.spec
-    (λ c. search rules)  -- shared-slice-read-end
-    (λ c. search rules)  -- cast-end
-    (λ c. search rules)  -- mul-end
-    (λ c. search rules)  -- add-end
-    (λ c. let s = c.before.before.before.before in sym (length-take-le _ s.args.own.now (omega (arith, s.requires.0.few, s.requires.0.size))))  -- slice-aggregate-same
-    (λ c. let s = c.before.before.before.before.before in sym (length-take-le _ s.args.table.now (omega (arith, s.requires.0.few, s.requires.1))))  -- slice-aggregate-same-2
+    (λ c. search rules)  -- bounds-own-2
+    (λ c. search rules)  -- overflow_cast-end
+    (λ c. search rules)  -- overflow_mul-end
+    (λ c. search rules)  -- overflow_add-end
+    (λ c. sym (length-take-le _ c.args.own.now (omega (arith, c.requires.0.few, c.requires.0.size))))  -- slice_bounds-same-end
+    (λ c. sym (length-take-le _ c.args.table.now (omega (arith, c.requires.0.few, c.requires.1))))  -- slice_bounds-same-end-2
     (λ c κs. search rules)  -- same-requires
     (λ c.
-    let s = c.before.before.before.before.before.before.before in
-    front_differs s.args.own.now s.args.table.now _ s.requires.0 s.requires.1 refl (sym c.before.same.ensures ∙ not-true c.before.same.result c.if1.true))  -- returns
-    (λ c. search rules)  -- sub-all-zero
-    (λ c. search rules)  -- part-all-zero-start
-    (λ c. search rules)  -- part-all-zero-end
-    (λ c κs. search rules)  -- all-zero-requires
+    front_differs c.args.own.now c.args.table.now _ c.requires.0 c.requires.1 refl (sym c.same.ensures ∙ not-true c.same.result c.if-not-same.true-raw))  -- returns-then-not-same
+    (λ c. search rules)  -- slice_bounds-all_zero-count
+    (λ c. search rules)  -- slice_bounds-all_zero-start
+    (λ c. search rules)  -- slice_bounds-all_zero-end
+    (λ c κs. search rules)  -- all_zero-requires
     (λ c.
-    let s = c.before.before.before.before.before.before.before.before.before in
-    c.all-zero.ensures
-    ∙ rest_decides s.args.own.now s.args.table.now _ s.requires.0 s.requires.1 refl (sym c.before.before.before.same.ensures ∙ not-false c.before.before.before.same.result c.before.before.if1.false) _ refl))  -- returns-2
+    c.all_zero.ensures
+    ∙ rest_decides c.args.own.now c.args.table.now _ c.requires.0 c.requires.1 refl (sym c.same.ensures ∙ not-false c.same.result c.if-not-same.false-raw) _ refl))  -- returns

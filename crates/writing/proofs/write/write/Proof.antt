@@ -13,30 +13,26 @@ write_spec =
     tie.close
     (tie.spec
     (λ c.
-    let s = c.before.before.before.args in
-    write_short s.table.now s.out.now c.if1.true)  -- returns
+    let s = c.args in
+    write_short s.table.now s.out.now c.if-table-lt4096.true)  -- returns-then-table-lt4096
     (λ c.
-    let s = c.before.before.before.before.args in
-    write_narrow s.table.now s.out.now c.before.if1.false c.if2.true)  -- returns-2
+    let s = c.args in
+    write_narrow s.table.now s.out.now c.if-table-lt4096.false c.if-out-lt7168.true)  -- returns-then-out-lt7168
     (λ c.
-    let s = c.before.before.before.before.before.args in
-    sym (length-take-le 4096 s.table.now c.before.before.if1.false))  -- slice-aggregate-own
+    let s = c.args in
+    sym (length-take-le 4096 s.table.now c.if-table-lt4096.false))  -- slice_bounds-own-end
     (λ c κs.
-    let s = c.before.before.before.before.before.args in
-    length-take-le 4096 s.table.now c.before.before.if1.false)  -- valid-requires
+    let s = c.args in
+    length-take-le 4096 s.table.now c.if-table-lt4096.false)  -- valid-requires
     (λ c.
-    let v = c.before in
-    let s = v.before.before.before.before.before.before.args in
-    write_invalid s.table.now s.out.now (omega arith) (omega arith) (sym v.valid.ensures ∙ not-true v.valid.result c.if3.true))  -- returns-3
+    let s = c.args in
+    write_invalid s.table.now s.out.now (omega arith) (omega arith) (sym c.valid.ensures ∙ not-true c.valid.result c.if-not-valid.true-raw))  -- returns-then-not-valid
     (λ c κs.
-    let s = c.before.before.before.before.before.before.before.before.args in
-    (length-take-le 4096 s.table.now (omega arith), omega arith))  -- print-table-requires
-    (λ c. search rules)  -- cast-t11
-    (λ c. search rules)  -- same-length
+    let s = c.args in
+    (length-take-le 4096 s.table.now (omega arith), omega arith))  -- print_table-n-requires
+    (λ c. search rules)  -- overflow_cast-result
+    (λ c. search rules)  -- shape_of-out
     (λ c.
-    let put = c.before.before in
-    let else = put.before.before in
-    let v = else.before in
-    let s = v.before.before.before.before.before.before.args in
-    let good = sym v.valid.ensures ∙ not-false v.valid.result else.if3.false in
-    write_valid s.table.now s.out.now (omega arith) (omega arith) good put.print-table.ensures))  -- returns-4
+    let s = c.args in
+    let good = sym c.valid.ensures ∙ not-false c.valid.result c.if-not-valid.false-raw in
+    write_valid s.table.now s.out.now (omega arith) (omega arith) good c.print_table-n.ensures))  -- returns
