@@ -1,21 +1,26 @@
 // Runs the tickets in data/ and compares what is printed of each with the lines that stand beside it.
+#![tactic(auto)]
+
 ghost use Rattle.io.specs.Counts.{IsPrefixLen};
 
-use libc::STDOUT_FILENO;
 use report::program::{print_magic, print_relevancy};
+use std::fs;
+use std::os::fd::AsRawFd;
+
+// The descriptor of standard output.
+const STDOUT_FILENO: i32 = 1;
 
 // Reads a file. One that cannot be opened counts as empty, and no case expects to print nothing.
-fn load(path: &[u8], buffer: &mut [u8]) -> usize
+fn load(rt: &HostRuntime, path: &str, buffer: &mut [u8]) -> usize
     ensures { IsPrefixLen result buffer.new }
 {
-    let fd = os::open_read(path);
-    if fd < 0 {
-        os::fail(path);
-        return 0;
+    match fs::open(rt, path) {
+        Ok(file) => io::read_full(file.as_raw_fd(), buffer),
+        Err(error) => {
+            let _ = eprintln!(rt; "{path}: {error}");
+            0
+        }
     }
-    let n = io::read_full(fd, buffer);
-    libc::close(fd);
-    n
 }
 
 // Says how a case went.
@@ -30,11 +35,11 @@ fn say(name: &[u8], engine: &[u8], good: bool) {
 }
 
 // Runs a case: each engine must print the same lines.
-fn case(name: &[u8], source: &[u8], lines: &[u8]) {
+fn case(rt: &HostRuntime, name: &[u8], source: &str, lines: &str) {
     let mut text = [0u8; 8192];
-    let size = load(source, &mut text);
+    let size = load(rt, source, &mut text);
     let mut expected = [0u8; 12288];
-    let most = load(lines, &mut expected);
+    let most = load(rt, lines, &mut expected);
     let mut out = [0u8; 12288];
     let n = print_relevancy(&text[..size], &mut out);
     say(
@@ -47,39 +52,39 @@ fn case(name: &[u8], source: &[u8], lines: &[u8]) {
 }
 
 // One problem under four limits.
-fn limits() {
-    case(b"K1", b"K1.text", b"K1.lines");
-    case(b"K2", b"K2.text", b"K2.lines");
-    case(b"K3", b"K3.text", b"K3.lines");
-    case(b"K4", b"K4.text", b"K4.lines");
+fn limits(rt: &HostRuntime) {
+    case(rt, b"K1", "K1.text", "K1.lines");
+    case(rt, b"K2", "K2.text", "K2.lines");
+    case(rt, b"K3", "K3.text", "K3.lines");
+    case(rt, b"K4", "K4.text", "K4.lines");
 }
 
 // The other marked cases.
-fn marked() {
-    case(b"K5", b"K5.text", b"K5.lines");
-    case(b"K6", b"K6.text", b"K6.lines");
-    case(b"K7", b"K7.text", b"K7.lines");
-    case(b"K8", b"K8.text", b"K8.lines");
-    case(b"K9", b"K9.text", b"K9.lines");
+fn marked(rt: &HostRuntime) {
+    case(rt, b"K5", "K5.text", "K5.lines");
+    case(rt, b"K6", "K6.text", "K6.lines");
+    case(rt, b"K7", "K7.text", "K7.lines");
+    case(rt, b"K8", "K8.text", "K8.lines");
+    case(rt, b"K9", "K9.text", "K9.lines");
 }
 
 // The largest tickets, and those just past them.
-fn largest() {
-    case(b"K10", b"K10.text", b"K10.lines");
-    case(b"K10 refused", b"K10_refused.text", b"K10_refused.lines");
-    case(b"K11", b"K11.text", b"K11.lines");
-    case(b"K11 refused", b"K11_refused.text", b"K11_refused.lines");
+fn largest(rt: &HostRuntime) {
+    case(rt, b"K10", "K10.text", "K10.lines");
+    case(rt, b"K10 refused", "K10_refused.text", "K10_refused.lines");
+    case(rt, b"K11", "K11.text", "K11.lines");
+    case(rt, b"K11 refused", "K11_refused.text", "K11_refused.lines");
 }
 
 // Document 000's examples.
-fn examples() {
-    case(b"example 1", b"example_1.text", b"example_1.lines");
-    case(b"example 7", b"example_7.text", b"example_7.lines");
+fn examples(rt: &HostRuntime) {
+    case(rt, b"example 1", "example_1.text", "example_1.lines");
+    case(rt, b"example 7", "example_7.text", "example_7.lines");
 }
 
-fn main() {
-    limits();
-    marked();
-    largest();
-    examples();
+fn main(rt: HostRuntime) {
+    limits(&rt);
+    marked(&rt);
+    largest(&rt);
+    examples(&rt);
 }

@@ -1,4 +1,6 @@
 // Atoms and instances of a table's clauses, the alternatives to enter, and an engine's verdict.
+#![tactic(auto)]
+
 pub mod atom;
 pub mod branch;
 pub mod instance;

@@ -9,7 +9,7 @@ ghost use Rattle.ground.specs.terms.Chosen.{chosen_bit};
 use store::holds;
 
 // What an engine says: a refusal's number, or fits, none or spent with the count of entries.
-#[derive(Drop)]
+#[derive(Clone, Copy)]
 pub enum Verdict {
     Refused(u8),
     Satisfied(u32),

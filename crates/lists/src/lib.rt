@@ -1,4 +1,6 @@
 // Loops over bytes that every crate needs. Definitions on lists are in specs/, their laws in proofs/.
+#![tactic(auto)]
+
 ghost use Rattle.std.specs.Prelude.{◌≡◌, ◌++◌, ◌+◌, ◌*◌, ◌≤◌, length, drop, replicate};
 ghost use Rattle.lists.specs.Bytes.{same_list};
 

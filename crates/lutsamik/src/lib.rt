@@ -1,4 +1,6 @@
 // The operations, for a host in C: numbers and byte slices go in, and one number comes back.
+#![tactic(auto)]
+
 pub mod assume;
 pub mod by_stages;
 pub mod calls;

@@ -1,4 +1,6 @@
 // Parts of a problem that share no predicate, run one after another by either engine.
+#![tactic(auto)]
+
 pub mod labels;
 pub mod part;
 pub mod parts;

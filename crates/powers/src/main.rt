@@ -1,7 +1,10 @@
 // Prints c to the power k for c from 0 to 32 and k from 0 to 4, in decimal, one to a line, c slowest.
+#![tactic(auto)]
+
 ghost use Rattle.std.specs.Prelude.{◌≡◌, ◌^◌, ◌≤◌};
 
-use libc::STDOUT_FILENO;
+// The descriptor of standard output.
+const STDOUT_FILENO: i32 = 1;
 
 // c to the power k, by multiplying.
 fn power(c: u8, k: u8) -> u64

@@ -1,4 +1,6 @@
 // The relevancy engine's runs of a valid table: a first one, and going on with a session.
+#![tactic(auto)]
+
 pub mod alone;
 pub mod end;
 pub mod further;

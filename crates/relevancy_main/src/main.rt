@@ -1,6 +1,12 @@
 // Reads a ticket from standard input and prints what the relevancy engine says of it.
-use libc::{STDIN_FILENO, STDOUT_FILENO};
+#![tactic(auto)]
+
 use report::program::print_relevancy;
+
+// The descriptors that a program is started with.
+const STDIN_FILENO: i32 = 0;
+
+const STDOUT_FILENO: i32 = 1;
 
 fn main() {
     let mut text = [0u8; 8192];

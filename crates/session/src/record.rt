@@ -7,7 +7,7 @@ use ground::verdict::Verdict;
 // The entries made; how many the path has; the verdict (0 none, 1 fits, 2 spent); the next alternative of the path's last node. Of each entry of the path, the first one
 // first: its atom, and the next alternative of the node that it was entered from. How many entries the longest path had.
 #[repr(C)]
-#[derive(Drop)]
+#[derive(Clone, Copy)]
 pub struct Session {
     pub count: u32,
     pub length: u16,

@@ -1,3 +1,5 @@
 // The staged engine's operation.
+#![tactic(auto)]
+
 pub mod engine;
 pub mod whole;

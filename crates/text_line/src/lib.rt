@@ -1,4 +1,6 @@
 // One line of the text: its digits, its bytes, and the faults of the lines that are no clause; and the powers that reading needs.
+#![tactic(auto)]
+
 pub mod digit;
 pub mod judge;
 pub mod line;

@@ -5,7 +5,7 @@ ghost use Rattle.walk.specs.terms.Resume.{is_taken, split_stands};
 ghost use Rattle.walk.specs.terms.Alternatives.{listed, Listing};
 
 // In order: the first `count` of these atoms, four at most.
-#[derive(Drop)]
+#[derive(Clone, Copy)]
 pub struct Alternatives {
     pub count: u8,
     pub atoms: [u16; 4],

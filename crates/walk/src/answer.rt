@@ -1,7 +1,7 @@
 // The answers that an engine's functions give each other.
 
 // How a place is found, with the number of facts in the set. The split is written down in the path.
-#[derive(Drop)]
+#[derive(Clone, Copy)]
 pub enum Found {
     Closed(usize),
     Open(usize),
@@ -9,7 +9,7 @@ pub enum Found {
 }
 
 // How a part of the walk ends: all closed after so many entries; open after so many, at a depth; or the limit met, at the depth whose next alternative is due.
-#[derive(Drop)]
+#[derive(Clone, Copy)]
 pub enum Walked {
     Shut(u32),
     Opened(u32, usize),

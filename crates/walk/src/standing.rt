@@ -9,7 +9,7 @@ use crate::node::{mark, turn};
 use store::undo;
 
 // How a session goes on: its verdict, the next alternative of its last node, its count, and the limit, that count included.
-#[derive(Drop)]
+#[derive(Clone, Copy)]
 pub struct Onward {
     pub standing: u8,
     pub next: u8,
