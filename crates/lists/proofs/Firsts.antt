@@ -28,6 +28,7 @@ module _ {K : Type 0} (k : Key K) where
   firsts-All P (x ∷ xs) a = (a.0, others-All P x (firsts k xs) (firsts-All P xs a.1))
 
   others-Any : (P : K → Type 0) (x : K) (ds : List K) → Any P ds → P x ⊎ Any P (others k x ds)
+  others-Any P x [] a = elim a [ ]
   others-Any P x (y ∷ ds) a = go (k.same x y) (k.same_eq x y) (others-Any P x ds) a
     where
       go : (b : Bool) → (T b → x ≡ y) → (Any P ds → P x ⊎ Any P (others k x ds)) → P y ⊎ Any P ds → P x ⊎ Any P (cond b (others k x ds) (y ∷ others k x ds))
@@ -42,6 +43,7 @@ module _ {K : Type 0} (k : Key K) where
 
   -- what holds of some member
   pub firsts-Any : (P : K → Type 0) (xs : List K) → Any P xs → Any P (firsts k xs)
+  firsts-Any P [] x' = elim x' [ ]
   firsts-Any P (x ∷ xs) (inl p) = inl p
   firsts-Any P (x ∷ xs) (inr q) = others-Any P x (firsts k xs) (firsts-Any P xs q)
 

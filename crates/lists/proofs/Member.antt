@@ -73,6 +73,7 @@ module _ {ℓ} {A B : Type 0} where
 
 module _ {A : Type 0} where
   pub any_left : (P : A → Type 0) (xs ys : List A) → Any P xs → Any P (xs ++ ys)
+  any_left P [] ys x' = elim x' [ ]
   any_left P (x ∷ xs) ys (inl p) = inl p
   any_left P (x ∷ xs) ys (inr p) = inr (any_left P xs ys p)
 
@@ -82,12 +83,14 @@ module _ {A : Type 0} where
 
 pub any_flat : {A B : Type 0} (f : A → List B) (P : B → Type 0) (xs : List A) → Any (λ x. Any P (f x)) xs → Any P (flat_map f xs)
 unfolding flat_map
+any_flat {A = A} {B = B} f P [] x' = elim x' [ ]
 any_flat f P (x ∷ xs) (inl p) = any_left P (f x) (flat_map f xs) p
 any_flat f P (x ∷ xs) (inr p) = any_right P (f x) (flat_map f xs) (any_flat f P xs p)
 
 module _ {A : Type 0} where
   -- a member with a property, where every member has another
   pub any_zip {ℓ} : (P : A → Type 0) (Q : A → Type ℓ) (R : A → Type 0) → ((x : A) → P x → Q x → R x) → (xs : List A) → Any P xs → All Q xs → Any R xs
+  any_zip P Q R f [] x'' a = elim x'' [ ]
   any_zip P Q R f (x ∷ xs) (inl p) a = inl (f x p a.0)
   any_zip P Q R f (x ∷ xs) (inr p) a = inr (any_zip P Q R f xs p a.1)
 
@@ -101,6 +104,7 @@ module _ {A : Type 0} where
 
   -- where a test fails on the whole, it fails at some member
   pub some_fails : (p : A → Bool) (xs : List A) → T (not (every p xs)) → Any (λ x. T (not (p x))) xs
+  some_fails p [] t = elim t [ ]
   some_fails p (x ∷ xs) t = go (p x) (λ u. some_fails p xs u) t
     where
       go : (b : Bool) → (T (not (every p xs)) → Any (λ y. T (not (p y))) xs) → T (not (b && every p xs)) → T (not b) ⊎ Any (λ y. T (not (p y))) xs
@@ -170,11 +174,13 @@ module _ {A : Type 0} where
   every_same p q (x ∷ xs) a = rw (a.0, every_same p q xs a.1)
 
 pub any_mapped : {A B : Type 0} (f : A → B) (P : B → Type 0) (xs : List A) → Any (λ x. P (f x)) xs → Any P (map f xs)
+any_mapped {A = A} {B = B} f P [] x' = elim x' [ ]
 any_mapped f P (x ∷ xs) (inl p) = inl p
 any_mapped f P (x ∷ xs) (inr p) = inr (any_mapped f P xs p)
 
 -- what holds of every member holds of a member
 pub member_has {ℓ} : {A : Type 0} (P : A → Type ℓ) (xs : List A) (y : A) → All P xs → Any (λ x. x ≡ y) xs → P y
+member_has {A = A} P [] y a x'' = elim x'' [ ]
 member_has P (x ∷ xs) y a (inl e) = subst P e a.0
 member_has P (x ∷ xs) y a (inr m) = member_has P xs y a.1 m
 

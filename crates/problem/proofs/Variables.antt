@@ -56,6 +56,7 @@ pub record Seen (bs : List ℕ) (v : ℕ) : Type 0 where
   pub below : All (λ b. b < 128 + v) bs
 
 not_below : (v : ℕ) (bs : List ℕ) → All (λ b. b < 128 + v) bs → Stands v bs → ⊥
+not_below v [] a x'' = elim x'' [ ]
 not_below v (b ∷ bs) a (inl e) = omega (arith, a.0)
 not_below v (b ∷ bs) a (inr s) = not_below v bs a.1 s
 

@@ -22,7 +22,7 @@ use Rattle.search.proofs.Path.{Reached, entries-Reached}
 module _ {I : Type 0} where
   pub longest-append : (d : ℕ) (xs ys : List (Place I)) → longest d (xs ++ ys) ≡ longest (longest d xs) ys
   longest-append d [] ys = refl
-  longest-append d (t ∷ xs) ys = longest-append _ xs ys
+  longest-append d (t ∷ xs) ys = longest-append (max d (length t.path)) xs ys
 
   -- after one more entry
   pub longest_next : (d : ℕ) (es : List (Place I)) (t : Place I) → longest d (es ++ (t ∷ [])) ≡ max (longest d es) (length t.path)

@@ -1,5 +1,5 @@
 // What the walks of all engines share: the path in a buffer of its own, the alternatives of a split node, the answers about a place and about a part of the
-// walk, and where a session may stand. The walk's contracts are said in specs/contracts/ over a record of what differs between engines.
+// walk, and where a session may stand. The walk's contracts are said in specs/terms/ over a record of what differs between engines.
 #![tactic(auto)]
 
 pub mod alternatives;
