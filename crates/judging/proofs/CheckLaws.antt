@@ -2,7 +2,7 @@
 use Prim.Native.Nat.{ℕ}
 use mathlib.Core.Bool.{Bool, not}
 use mathlib.Core.HLevel.{⊥_prop}
-use mathlib.Core.List.{List, ◌∷◌}
+use mathlib.Core.List.{List, ◌∷◌, []}
 use mathlib.Core.Logic.{◌⊎◌, inl, inr, ∥∥₁_elim}
 use mathlib.Core.Option.{Option, none, some}
 use mathlib.Core.Path.{◌≡◌, refl, sym, ap, ◌∙◌}
@@ -26,11 +26,13 @@ use Rattle.judging.specs.Claims.{FirstViolated}
 
 module _ {A : Type 0} where
   any_map : (P Q : A → Type 0) → ((x : A) → P x → Q x) → (xs : List A) → Any P xs → Any Q xs
+  any_map P Q f [] x' = elim x' [ ]
   any_map P Q f (x ∷ xs) (inl p) = inl (f x p)
   any_map P Q f (x ∷ xs) (inr p) = inr (any_map P Q f xs p)
 
   -- no member passes a test that every member fails
   apart : (p : A → Bool) (xs : List A) → Any (λ x. T (p x)) xs → All (λ x. T (not (p x))) xs → ⊥
+  apart p [] x'' a = elim x'' [ ]
   apart p (x ∷ xs) (inl t) a = T_not (p x) a.0 t
   apart p (x ∷ xs) (inr t) a = apart p xs t a.1
 
