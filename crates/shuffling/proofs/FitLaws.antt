@@ -18,10 +18,12 @@ use Rattle.shuffling.proofs.RenumberLaws.{constant_by, variable_by}
 
 module _ (σ : ℕ → ℕ) where
   stands_by : (x : ℕ) (bs : List ℕ) → Stands x bs → Stands x (map (argument_by σ) bs)
+  stands_by x [] x'' = elim x'' [ ]
   stands_by x (b ∷ bs) (inl e) = inl (variable_by σ b (omega arith) ∙ e)
   stands_by x (b ∷ bs) (inr s) = inr (stands_by x bs s)
 
   named_by : (x : ℕ) (atoms : List Atom) → Any (λ a. Stands x a.args) atoms → Any (λ a. Stands x a.args) (map (atom_by σ) atoms)
+  named_by x [] x'' = elim x'' [ ]
   named_by x (a ∷ atoms) (inl s) = inl (stands_by x a.args s)
   named_by x (a ∷ atoms) (inr s) = inr (named_by x atoms s)
 

@@ -29,6 +29,7 @@ get_d_mapped f (x ∷ xs) zero h = refl
 get_d_mapped f (x ∷ xs) (suc i) h = get_d_mapped f xs i (omega arith)
 
 mapped_any : {A B : Type 0} (f : A → B) (P : B → Type 0) (xs : List A) → Any P (map f xs) → Any (λ x. P (f x)) xs
+mapped_any {A = A} {B = B} f P [] x' = elim x' [ ]
 mapped_any f P (x ∷ xs) (inl p) = inl p
 mapped_any f P (x ∷ xs) (inr p) = inr (mapped_any f P xs p)
 
