@@ -32,6 +32,7 @@ module _ {ℓ} {A : Type 0} (t : A → Bool) (P : A → Type ℓ) where
 
 -- one that passes, with a property, is among them
 pub Any-only : {A : Type 0} (t : A → Bool) (P : A → Type 0) (xs : List A) → Any (λ x. T (t x) × P x) xs → Any P (only t xs)
+Any-only {A = A} t P [] x' = elim x' [ ]
 Any-only t P (x ∷ xs) (inl h) = go (t x) h.0 h.1
   where
     go : (b : Bool) → T b → P x → Any P (cond b (x ∷ only t xs) (only t xs))

@@ -1,7 +1,7 @@
 -- Fits and none are right for the whole: the joined answer is a model and judged to be one, and where the runs say none there is no model.
 use Prim.Native.Nat.{ℕ, ◌≤◌, ◌<◌}
 use mathlib.Core.Bool.{Bool, true, false}
-use mathlib.Core.List.{List, ◌∷◌, ◌++◌, map}
+use mathlib.Core.List.{List, ◌∷◌, ◌++◌, map, []}
 use mathlib.Core.Logic.{inl, inr}
 use mathlib.Core.Path.{◌≡◌, refl, sym, ap, subst, ◌∙◌}
 use native.Mathlib.Omega.{arith}
@@ -100,6 +100,7 @@ module _ (by : Bool) (q : Problem) (f : Fits q) where
   whole_none e M m = go (parts_of q) ((said_of by q).refuted.0 e) (parts_fit q f) (apart q M m)
     where
       go : (ps : List Problem) → Any (λ p. T (is_refuted (run_by by p))) ps → All Fits ps → All (λ p. Model (ground_of p) M) ps → ⊥
+      go [] x3 a b = elim x3 [ ]
       go (p ∷ ps) (inl h) a b = part_none by p a.0 h M b.0
       go (p ∷ ps) (inr h) a b = go ps h a.1 b.1
 

@@ -45,6 +45,7 @@ every_mapped t f [] = refl
 every_mapped t f (x ∷ xs) = rw (every_mapped t f xs)
 
 one_fails : {A : Type 0} (t : A → Bool) (xs : List A) → Any (λ x. T (t x)) xs → every (λ x. not (t x)) xs ≡ false
+one_fails {A = A} t [] x' = elim x' [ ]
 one_fails t (x ∷ xs) (inl h) = rw (T-true (t x) h)
 one_fails t (x ∷ xs) (inr h) = go (t x) (one_fails t xs h)
   where

@@ -25,6 +25,7 @@ use Rattle.parting.specs.Claims.{Has, Joined, Within}
 
 -- some member of which P holds
 pub any_in : (P : ℕ → Type 0) (xs : List ℕ) → Any P xs → (x : ℕ) × (In nat_key xs x × P x)
+any_in P [] x' = elim x' [ ]
 any_in P (x ∷ xs) (inl h) = (x, (has_here nat_key x xs, h))
 any_in P (x ∷ xs) (inr h) = let m = any_in P xs h in (m.0, (has_there nat_key x xs m.0 m.1.0, m.1.1))
 

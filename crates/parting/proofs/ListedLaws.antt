@@ -132,6 +132,7 @@ predicates_are : (k : Clause) (p : ℕ) → In nat_key (predicates_of k) p ↔ A
 predicates_are k p = (λ h. of (k.conds ++ k.alts) (in_any (λ r. r ≡ p) (predicates_of k) p h refl), back)
   where
     of : (atoms : List Atom) → Any (λ r. r ≡ p) (map (λ a. a.pred) atoms) → Any (λ a. a.pred ≡ p) atoms
+    of [] x' = elim x' [ ]
     of (a ∷ atoms) (inl e) = inl e
     of (a ∷ atoms) (inr h) = inr (of atoms h)
 
