@@ -68,11 +68,11 @@
  * measured:
  *
  *   entries on the path             0       64      256    1,024
- *   a first run by relevancy   20,000   46,000  138,000  506,000
- *   a first run by magic       24,000   52,000  134,000  467,000
- *   a run by stages            27,000   45,000  109,000  367,000
- *   going on by relevancy      44,000   65,000  157,000  526,000
- *   going on by magic          69,000   88,000  174,000  518,000
+ *   a first run by relevancy   27,000   31,000   62,000  185,000
+ *   a first run by magic       30,000   40,000   71,000  194,000
+ *   a run by stages            26,000   38,000   84,000  268,000
+ *   going on by relevancy      50,000   56,000  105,000  302,000
+ *   going on by magic          75,000   80,000  129,000  326,000
  *
  * With open facts a call needs up to 7,000 more than a first run on a path of that length, and by parts up to 24,000
  * more.
