@@ -1,5 +1,5 @@
 -- What the last record of a lawful table tells of its clauses, and the table with a record after the others.
-use Prim.Native.Nat.{ℕ, zero, suc, ◌+◌, ◌-◌, ◌*◌, ◌/◌, ◌%◌, ◌≤◌, ◌<◌}
+use Prim.Native.Nat.{ℕ, zero, suc, ◌+◌, ◌*◌, ◌/◌, ◌%◌, ◌≤◌, ◌<◌}
 use mathlib.Core.List.{List, [], ◌∷◌, ◌++◌}
 use mathlib.Core.Path.{◌≡◌, refl, sym, ap, subst, ◌∙◌}
 use native.Mathlib.Omega.{arith}
@@ -90,15 +90,17 @@ part_set xs ys a k i b within h =
 
 -- a record put from a place on, then weighed, and the number of clauses
 abbrev pub with_record : ℕ → ℕ → List ℕ → ℕ → ℕ → List ℕ → List ℕ
-with_record from part r sum count tb = set (set (set (part_with from part tb r) (from + 6) (sum % 256)) (from + 7) (sum / 256 % 256)) 2 count
+with_record from part r sum count tb = set (set (set (part_with from part tb r) (from + 6) (sum % 256)) (from + 6 + 1) (sum / 256 % 256)) 2 count
 
 weighed : (tb r : List ℕ) (from part sum count : ℕ) → from ≤ length tb → length r ≡ 56
     → with_record from part r sum count tb ≡ set (part_with from part tb (set (set r 6 (sum % 256)) 7 (sum / 256 % 256))) 2 count
 weighed tb r from part sum count within wide =
     let low : ℕ = sum % 256 in
     let high : ℕ = sum / 256 % 256 in
-    ap (λ (l : List ℕ). set (set l (from + 7) high) 2 count) (part_set tb r from part 6 low within (omega arith))
-    ∙ ap (λ (l : List ℕ). set l 2 count) (part_set tb (set r 6 low) from part 7 high within (simp length-set (omega arith)))
+    let next : from + 6 + 1 ≡ from + 7 = omega arith in
+    rw next
+    (ap (λ (l : List ℕ). set (set l (from + 7) high) 2 count) (part_set tb r from part 6 low within (omega arith))
+    ∙ ap (λ (l : List ℕ). set l 2 count) (part_set tb (set r 6 low) from part 7 high within (simp length-set (omega arith))))
 
 -- the last of the clauses fits as they do
 pub last_fits : (c : ℕ) (arities : List ℕ) (ks : List Clause) (k : Clause) → All (ClauseFits c arities) (ks ++ (k ∷ [])) → ClauseFits c arities k

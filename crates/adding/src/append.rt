@@ -5,9 +5,10 @@ ghost use Rattle.problem.specs.Layout.{problem_in};
 ghost use Rattle.problem.specs.Table.{Lawful};
 ghost use Rattle.adding.specs.terms.Appended.{Appended};
 
-use lists::pair;
+use lists::{pair, put_pair};
 
 // What the clauses of a table weigh: what the record of the last one says of those before it, and its own weight.
+#[tactic(auto, using(crate::proofs::AppendLaws::table_size, crate::proofs::AppendLaws::few_clauses, crate::proofs::AppendLaws::none_weigh))]
 pub fn weight_of(table: &[u8]) -> usize
     requires { Lawful table.now }
     ensures { result ≡ weights (problem_in table.now).constants (problem_in table.now).clauses }
@@ -21,6 +22,7 @@ pub fn weight_of(table: &[u8]) -> usize
 }
 
 // Appends a clause's record to a table of fewer than 64 clauses.
+#[tactic(auto, using(crate::proofs::AppendLaws::table_size))]
 pub fn append(table: &mut [u8], rec: &[u8])
     requires lawful { Lawful table.old }
     requires table_bound { (get_or table.old 2 0 < 64) × (length rec.now ≡ 56) }
@@ -31,7 +33,6 @@ pub fn append(table: &mut [u8], rec: &[u8])
     let from = 144 + 56 * (count as usize);
     let to = from + 56;
     lists::copy(&mut table[from..to], rec);
-    table[from + 6] = (sum % 256) as u8;
-    table[from + 7] = (sum / 256 % 256) as u8;
+    put_pair(table, from + 6, sum);
     table[2] = count + 1;
 }

@@ -31,7 +31,8 @@ use Rattle.ground.specs.Names.{instance_key}
 use Rattle.ground.specs.Verdict.{verdict_of, answer_of}
 use Rattle.ground.specs.Walks.{magic}
 use Rattle.ground.proofs.Instances.{atoms_few}
-use Rattle.judging.specs.declared.judge.Judging.TheVariants.{Model as IsModel}
+use Rattle.std.specs.Prelude.{Ok}
+use Rattle.judging.specs.declared.judge.Judgement.TheVariants.{Model as IsModel}
 use Rattle.judging.specs.ModelCheck.{judge_result}
 use Rattle.judging.specs.Demand2.{ground_lent, limit_lent, Demand2}
 use Rattle.judging.proofs.Theorems.{theorems as judgings}
@@ -324,7 +325,7 @@ module _ (tb answer : List ℕ) (long : 4096 ≤ length tb) (wide : 1024 ≤ len
         opened_model = λ bs g others e. let same : bits ≡ others = cc in subst (λ (x : List Bool). (length x ≡ (ground_lent tb).atoms) × Model (ground_lent tb) (Marked x)) same given;
       }
 
-  model_judged : (n : ℕ) → judge_result tb (answer_of (Satisfied n bits) answer) ≡ IsModel
+  model_judged : (n : ℕ) → judge_result tb (answer_of (Satisfied n bits) answer) ≡ Ok IsModel
   unfolding entries proceed
   model_judged n = (judgings.demand_2 at_once 0 tb answer long wide valid sound_at_once).judged 0 refl
 

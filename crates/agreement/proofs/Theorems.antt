@@ -20,7 +20,7 @@ use Rattle.problem.specs.Layout.{problem_in}
 use Rattle.problem.specs.Table.{Valid}
 use Rattle.problem.proofs.Parse.{parse_text}
 use Rattle.problem.proofs.Theorems.{theorems as tables}
-use Rattle.reading.specs.declared.read.Reading.TheVariants.{Accepted}
+use Rattle.std.specs.Prelude.{Ok}
 use Rattle.reading.specs.Read.{read_result, read_leaves}
 use Rattle.reading.proofs.TextRead.{TextRead, text_read, text_fits, table_long, table_valid, table_back}
 use Rattle.ground.specs.Instance.{Instance, ground_of}
@@ -111,7 +111,7 @@ module _ (tb rules answer work₁ work₂ : List ℕ) (taken : BothTaken tb rule
 
 -- ---- from a text to the verdicts
 
-module _ (x tb rules answer work₁ work₂ : List ℕ) (accepted : read_result x tb ≡ Accepted)
+module _ (x tb rules answer work₁ work₂ : List ℕ) (accepted : read_result x tb ≡ Ok tt)
     (rules_long : 16384 ≤ length rules) (answer_long : 1024 ≤ length answer) (long₁ : 65536 ≤ length work₁) (long₂ : 65536 ≤ length work₂) where
   abbrev left : List ℕ
   left = read_leaves x tb

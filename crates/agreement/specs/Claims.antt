@@ -1,6 +1,6 @@
 -- Demand 3 at the operations: one claim about the two whole trails of a table. The contracts of `relevancy_calls::fit::fit` and `magic_calls::fit::fit` equate what they give
 -- and leave with `fit_result`, `fit_answer` and `magic_result`, `magic_rules`, `magic_answer`. `proofs/Theorems.antt` proves `Theorems`.
-use Rattle.std.specs.Prelude.{ℕ, ◌≤◌, ◌&&◌, List, ◌≡◌, length, take}
+use Rattle.std.specs.Prelude.{ℕ, ◌≤◌, ◌&&◌, List, ◌≡◌, length, take, Ok}
 use Rattle.lists.specs.Member.{All}
 use Rattle.search.specs.Relevancy.{is_true, is_relevant, find_r}
 use Rattle.search.specs.Magic.{tru, rel, holds}
@@ -9,7 +9,6 @@ use Rattle.search.specs.Machine.{Place, entered, root, entries, trail, outcome}
 use Rattle.problem.specs.Problem.{limit_of}
 use Rattle.problem.specs.Layout.{problem_in}
 use Rattle.problem.specs.Print.{TextOfProblem}
-use Rattle.reading.specs.declared.read.Reading.TheVariants.{Accepted}
 use Rattle.reading.specs.Read.{read_result, read_leaves}
 use Rattle.ground.specs.Instance.{Instance, ground_of}
 use Rattle.ground.specs.Names.{instance_key}
@@ -60,7 +59,7 @@ pub record TextFitted (x tb rules answer work₁ work₂ : List ℕ) : Type 1 wh
   pub one_walk : OneWalk tb rules answer work₁ work₂ (magic_rules tb rules answer work₂)
 
 pub record Theorems : Type 1 where
-  pub text_to_verdict : (x tb rules answer work₁ work₂ : List ℕ) → read_result x tb ≡ Accepted
+  pub text_to_verdict : (x tb rules answer work₁ work₂ : List ℕ) → read_result x tb ≡ Ok tt
       → 16384 ≤ length rules → 1024 ≤ length answer → 65536 ≤ length work₁ → 65536 ≤ length work₂
       → TextFitted x (read_leaves x tb) rules answer work₁ work₂
   pub demand_3 : (tb rules answer work₁ work₂ : List ℕ) → BothTaken tb rules answer work₁ work₂

@@ -1,6 +1,6 @@
 -- U1 at the operations: a ticket begun by either engine and brought back to either, any number of times; and a session of any origin. The contracts of the four calls
 -- equate what they give and leave with `begun`, `resumed`, `magic_begun` and `magic_resumed`, by `session/Calls`.
-use Rattle.std.specs.Prelude.{ℕ, ◌+◌, ◌≤◌, ◌<◌, Bool, true, false, List, [], ◌∷◌, ◌↔◌, ◌⊎◌, ◌≡◌, length, take}
+use Rattle.std.specs.Prelude.{ℕ, ◌+◌, ◌≤◌, ◌<◌, Bool, true, false, List, [], ◌∷◌, ◌↔◌, ◌⊎◌, ◌≡◌, length, take, Ok}
 use Rattle.std.proofs.Math.Option.{some}
 use Rattle.lists.specs.Member.{All}
 use Rattle.search.specs.Relevancy.{find_r}
@@ -10,7 +10,7 @@ use Rattle.search.specs.Session.{exhausted, Session, place_of, first_session, Ca
 use Rattle.search.specs.SessionRight.{Right, RunLeft, StandsThere}
 use Rattle.ground.specs.Instance.{Instance}
 use Rattle.ground.specs.Verdict.{verdict_of, answer_of}
-use Rattle.judging.specs.declared.judge.Judging.TheVariants.{Model as IsModel}
+use Rattle.judging.specs.declared.judge.Judgement.TheVariants.{Model as IsModel}
 use Rattle.judging.specs.ModelCheck.{judge_result}
 use Rattle.judging.specs.Demand2.{ground_lent, limit_lent, Demand2}
 use Rattle.rewriting.specs.Facts.{find_in}
@@ -113,7 +113,7 @@ pub record FromThere (tb bs answer : List ℕ) (r : Record) (further : ℕ) (o :
   pub trails : entries (find_in bs) further place ≡ entries (find_r (ground_lent tb)) further place
   pub facts : All (λ u. (x : ℕ) → SameFacts tb bs u x) (place ∷ entries (find_r (ground_lent tb)) further place)
   -- fits comes with a fitting
-  pub judged : (n : ℕ) (bits : List Bool) → o ≡ Satisfied n bits → judge_result tb (answer_of o answer) ≡ IsModel
+  pub judged : (n : ℕ) (bits : List Bool) → o ≡ Satisfied n bits → judge_result tb (answer_of o answer) ≡ Ok IsModel
   -- the record that is left holds the session left
   pub left_held : session_in (record_left (told o left) r) ≡ some left
   -- "A finished session answers again as before."

@@ -1,6 +1,5 @@
 // Assumptions by the magic engine.
 ghost use Rattle.std.specs.Prelude.{◌≡◌, length, replicate};
-ghost use Rattle.problem.specs.Table.{Lawful};
 ghost use Rattle.ground.specs.Verdict.{verdict_of};
 ghost use Rattle.rewriting.specs.Rewrite.{rules_over};
 ghost use Rattle.magic.specs.Engine.{magic_outcome};
@@ -13,23 +12,22 @@ use assuming::check::refused;
 use assuming::fact::add_facts;
 use ground::verdict::Verdict;
 use magic::alone::run;
+use problem::table::Table;
 use writing::lent::any_too_small;
 
 // A run whose model is not kept.
-fn verdict_of(table: &[u8], rules: &mut [u8], work: &mut [u8]) -> Verdict
-    requires lawful { Lawful table.now }
+fn verdict_of(table: &Table<'_>, rules: &mut [u8], work: &mut [u8]) -> Verdict
     requires rules_len { (length rules.old ≡ 16384) × (length work.old ≡ 65536) }
     ensures { (result ≡ verdict_of (magic_outcome table.now rules.old)) × (rules.new ≡ rules_over table.now rules.old) × (work.new ≡ replicate 65536 0) }
 {
     let mut model = [0u8; 1024];
-    let reply = run(table, rules, &mut model, work);
+    let reply = run(table.bytes, rules, &mut model, work);
     let verdict = reply.verdict;
     verdict
 }
 
 // The runs of a call: the table by itself and, unless that is none, with all facts.
-fn run_both(table: &[u8], facts: &[u32], rules: &mut [u8], work: &mut [u8]) -> Counted
-    requires lawful { Lawful table.now }
+fn run_both(table: &Table<'_>, facts: &[u32], rules: &mut [u8], work: &mut [u8]) -> Counted
     requires addable { Addable table.now facts.now × (length rules.old ≡ 16384) × (length work.old ≡ 65536) }
     ensures { MagicMade table.now facts.now rules.old result rules.new × (work.new ≡ replicate 65536 0) }
 {
@@ -38,8 +36,9 @@ fn run_both(table: &[u8], facts: &[u32], rules: &mut [u8], work: &mut [u8]) -> C
         return once(alone);
     }
     let mut longer = [0u8; 4096];
-    lists::copy(&mut longer, table);
+    lists::copy(&mut longer, table.bytes);
     add_facts(&mut longer, facts);
+    let longer = Table { bytes: &longer };
     let all = verdict_of(&longer, rules, work);
     twice(alone, all)
 }
@@ -64,12 +63,10 @@ pub fn assume_magic(
     if 0 < e {
         return Assumed::Refused(e);
     }
-    let made = run_both(
-        &table[..4096],
-        facts,
-        &mut rules[..16384],
-        &mut work[..65536],
-    );
+    let table = Table {
+        bytes: &table[..4096],
+    };
+    let made = run_both(&table, facts, &mut rules[..16384], &mut work[..65536]);
     *first = made.first;
     *second = made.second;
     let assumed = made.assumed;

@@ -1,6 +1,5 @@
 // Assumptions by the relevancy engine.
 ghost use Rattle.std.specs.Prelude.{◌≡◌, length, replicate};
-ghost use Rattle.problem.specs.Table.{Lawful};
 ghost use Rattle.ground.specs.Verdict.{verdict_of};
 ghost use Rattle.relevancy.specs.Engine.{outcome_in};
 ghost use Rattle.assuming.specs.Assume.{assumed_table, runs, assumed_of, first_left, second_left, work_left};
@@ -11,24 +10,23 @@ use assuming::assume::{Assumed, Counted, is_refuted, once, twice};
 use assuming::check::refused;
 use assuming::fact::add_facts;
 use ground::verdict::Verdict;
+use problem::table::Table;
 use relevancy::alone::run;
 use writing::lent::too_small;
 
 // A run whose model is not kept.
-fn verdict_of(table: &[u8], work: &mut [u8]) -> Verdict
-    requires lawful { Lawful table.now }
+fn verdict_of(table: &Table<'_>, work: &mut [u8]) -> Verdict
     requires work_len { length work.old ≡ 65536 }
     ensures { (result ≡ verdict_of (outcome_in table.now)) × (work.new ≡ replicate 65536 0) }
 {
     let mut model = [0u8; 1024];
-    let reply = run(table, &mut model, work);
+    let reply = run(table.bytes, &mut model, work);
     let verdict = reply.verdict;
     verdict
 }
 
 // The runs of a call: the table by itself and, unless that is none, with all facts.
-fn run_both(table: &[u8], facts: &[u32], work: &mut [u8]) -> Counted
-    requires lawful { Lawful table.now }
+fn run_both(table: &Table<'_>, facts: &[u32], work: &mut [u8]) -> Counted
     requires addable { Addable table.now facts.now × (length work.old ≡ 65536) }
     ensures { Made (runs (outcome_in table.now) (outcome_in (assumed_table table.now facts.now))) result × (work.new ≡ replicate 65536 0) }
 {
@@ -37,8 +35,9 @@ fn run_both(table: &[u8], facts: &[u32], work: &mut [u8]) -> Counted
         return once(alone);
     }
     let mut longer = [0u8; 4096];
-    lists::copy(&mut longer, table);
+    lists::copy(&mut longer, table.bytes);
     add_facts(&mut longer, facts);
+    let longer = Table { bytes: &longer };
     let all = verdict_of(&longer, work);
     twice(alone, all)
 }
@@ -58,7 +57,10 @@ pub fn assume_relevancy(
     if 0 < e {
         return Assumed::Refused(e);
     }
-    let made = run_both(&table[..4096], facts, &mut work[..65536]);
+    let table = Table {
+        bytes: &table[..4096],
+    };
+    let made = run_both(&table, facts, &mut work[..65536]);
     *first = made.first;
     *second = made.second;
     let assumed = made.assumed;

@@ -48,10 +48,7 @@ are_atoms n (a ∷ facts) = ltb a n && not (has nat_key facts a) && are_atoms n 
 
 -- "5 if clauses and open facts together pass 64, then 45 for more than 16 open facts, for an atom number of A or more, or for one repeated"; 0 where nothing is refused
 unfoldable pub facts_refusal : Problem → List ℕ → ℕ
-facts_refusal q facts =
-    cond (ltb 64 (length q.clauses + length facts))
-    5
-    (cond (leb (length facts) 16 && are_atoms (atom_count q.constants q.arities) facts) 0 45)
+facts_refusal q facts = cond (ltb 64 (length q.clauses + length facts)) 5 (cond (leb (length facts) 16 && are_atoms (atom_count q.constants q.arities) facts) 0 45)
 
 -- ---- the runs of a call
 

@@ -7,8 +7,7 @@ use Rattle.assuming.specs.Assume.{assumed_table, Runs, declined, once, twice, ru
 
 -- by the relevancy engine, from the table, the facts, the answer and the work lent
 unfoldable pub relevancy_runs : List ℕ → List ℕ → List ℕ → List ℕ → Runs
-relevancy_runs tb facts answer work =
-    screened (too_short tb answer work) tb facts (runs (outcome_in (take 4096 tb)) (outcome_in (assumed_table (take 4096 tb) facts)))
+relevancy_runs tb facts answer work = screened (too_short tb answer work) tb facts (runs (outcome_in (take 4096 tb)) (outcome_in (assumed_table (take 4096 tb) facts)))
 
 -- by the magic engine: each run by its own rules, over what the rules buffer was lent with
 unfoldable pub magic_runs : List ℕ → List ℕ → List ℕ → List ℕ → List ℕ → Runs

@@ -7,7 +7,7 @@ ghost use Rattle.assuming.specs.terms.Made.{is_refuted, said_with_all, said_by};
 use ground::verdict::Verdict;
 
 // A refusal's number; whether there is no model with any choice of the facts, with some but not all choices, or with none; or that a run is spent.
-#[derive(Drop)]
+#[derive(Clone, Copy, Debug, PartialEq, Eq)]
 pub enum Assumed {
     Refused(u8),
     Always,
@@ -17,7 +17,7 @@ pub enum Assumed {
 }
 
 // The answer, and the count of each run, 0 for one that is not made.
-#[derive(Drop)]
+#[derive(Clone, Copy, Debug, PartialEq, Eq)]
 pub struct Counted {
     pub assumed: Assumed,
     pub first: u32,
@@ -87,9 +87,8 @@ pub fn once(alone: Verdict) -> Counted
 pub fn twice(alone: Verdict, all: Verdict) -> Counted
     ensures { (result.assumed ≡ said_by alone all) × (result.first ≡ (verdict_numbers alone).value) × (result.second ≡ (verdict_numbers all).value) }
 {
-    let assumed = said(alone, all);
     Counted {
-        assumed: assumed,
+        assumed: said(alone, all),
         first: count_of(alone),
         second: count_of(all),
     }

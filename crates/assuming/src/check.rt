@@ -19,12 +19,10 @@ fn is_fresh(facts: &[u32], i: usize, atoms: usize) -> bool
     if atoms <= (a as usize) {
         return false;
     }
-    let mut j: usize = i + 1;
-    while j < facts.len() {
+    for j in i + 1..facts.len() {
         if facts[j] == a {
             return false;
         }
-        j += 1;
     }
     true
 }
@@ -34,12 +32,10 @@ fn are_atoms(facts: &[u32], atoms: usize) -> bool
     requires { length facts.now ≤ 16 }
     ensures { result ≡ are_atoms atoms facts.now }
 {
-    let mut i: usize = 0;
-    while i < facts.len() {
+    for i in 0..facts.len() {
         if !is_fresh(facts, i, atoms) {
             return false;
         }
-        i += 1;
     }
     true
 }

@@ -45,9 +45,7 @@ pub fn add_facts(table: &mut [u8], facts: &[u32])
     requires addable { Addable table.old facts.now }
     ensures { table.new ≡ assumed_table table.old facts.now }
 {
-    let mut i: usize = 0;
-    while i < facts.len() {
-        add_fact(table, facts[i] as usize);
-        i += 1;
+    for &a in facts {
+        add_fact(table, a as usize);
     }
 }

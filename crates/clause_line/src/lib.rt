@@ -2,3 +2,4 @@
 #![tactic(auto)]
 
 pub mod clause;
+pub mod table;

@@ -1,67 +1,18 @@
 -- Finding the alternative that is entered after n others: what is kept of the slots passed are the distinct numbers among them.
-use Prim.Native.Nat.{ℕ, zero, suc, ◌+◌, ◌-◌, ◌≤◌, ◌<◌}
-use mathlib.Core.Bool.{Bool, true, false, cond, ◌||◌}
+use Prim.Native.Nat.{ℕ, suc, ◌+◌, ◌-◌, ◌≤◌, ◌<◌}
+use mathlib.Core.Bool.{Bool, true, false, cond}
 use mathlib.Core.List.{List, [], ◌∷◌, ◌++◌}
 use mathlib.Core.Path.{◌≡◌, refl, sym, ap, subst, ◌∙◌}
 use native.Mathlib.Nat.{add-zero}
 use native.Mathlib.Numerals.{add-one}
 use native.Mathlib.Omega.{arith}
-use denote.Enum.Declared.{tag_of}
-use borrow.Author.Tests.{eq-eqb, ne_eqb}
-use lib.Dec.{eqb}
 use lib.ListN.{length, take, get_or, set, length-set, length-append}
-use lib.Seq.{length-take-le, take-suc, take-set-le, take-suc-set, get_or-append_seam}
-use types.Run.{OneOf}
+use lib.Seq.{length-take-le, take-set-le, take-suc-set, get_or-append_seam}
 use Rattle.lists.specs.Key.{nat_key}
 use Rattle.lists.specs.Member.{has, firsts}
 use Rattle.lists.specs.Tabulate.{tabulate}
 use Rattle.lists.proofs.Firsts.{firsts-length, firsts_snoc, firsts_stay}
 use Rattle.lists.proofs.Tabulate.{tabulate-length}
-use Rattle.ground.specs.terms.Branching.{NextOf}
-use Rattle.ground.specs.declared.branch.NextBranch.{NextBranch}
-use Rattle.ground.specs.declared.branch.NextBranch.TheVariants.{Atom, Nothing}
-use Rattle.ground.specs.contracts.branch.NextBranch.{the_type as branch-type}
-
--- ---- what the answer says
-
-pub next_atom : (ds : List ℕ) (n : ℕ) (r : NextBranch) (a : ℕ) → r ≡ Atom a → NextOf ds n r → NextOf ds n (Atom a)
-next_atom ds n r a e next = subst (NextOf ds n) e next
-
--- an answer that is an alternative, by its tag alone
-pub next_some : (ds : List ℕ) (n : ℕ) (r : NextBranch) → tag_of branch-type r ≡ 0 → NextOf ds n r → n < length ds
-next_some ds n (Atom a) tag next = next.0
-next_some ds n Nothing tag next = let z : ◌≡◌ {A = ℕ} 1 0 = tag in absurd (omega arith)
-
-pub next_nothing : (ds : List ℕ) (n : ℕ) (r : NextBranch) → OneOf (1 ∷ []) (tag_of branch-type r) → NextOf ds n r → length ds ≤ n
-next_nothing ds n (Atom a) tag next = let z : ◌≡◌ {A = ℕ} 0 1 = tag in absurd (omega arith)
-next_nothing ds n Nothing tag next = next
-
--- ---- whether a number is among the first ones
-
-has_snoc : (xs : List ℕ) (y a : ℕ) → has nat_key (xs ++ (y ∷ [])) a ≡ (has nat_key xs a || (eqb y a || false))
-has_snoc [] y a = refl
-has_snoc (x ∷ xs) y a = go (eqb x a) (has_snoc xs y a)
-  where
-    go : (b : Bool) → has nat_key (xs ++ (y ∷ [])) a ≡ (has nat_key xs a || (eqb y a || false))
-        → (b || has nat_key (xs ++ (y ∷ [])) a) ≡ ((b || has nat_key xs a) || (eqb y a || false))
-    go true e = refl
-    go false e = e
-
--- a further one is another number
-pub seen_more : (seen : List ℕ) (a j : ℕ) → j < length seen → has nat_key (take j seen) a ≡ false → (get_or seen j 0 ≡ a → ⊥) → has nat_key (take (j + 1) seen) a ≡ false
-seen_more seen a j l none ne =
-    rw (add-one, take-suc seen j 0, has_snoc (take j seen) (get_or seen j 0) a, none, ne_eqb (get_or seen j 0) a ne)
-
--- one of them is this number
-pub seen_there : (seen : List ℕ) (a j n : ℕ) → j < n → n ≤ length seen → get_or seen j 0 ≡ a → has nat_key (take n seen) a ≡ true
-seen_there [] a j n l m e = absurd (omega arith)
-seen_there (x ∷ seen) a j zero l m e = absurd (omega arith)
-seen_there (x ∷ seen) a zero (suc n) l m e = rw (eq-eqb x a e)
-seen_there (x ∷ seen) a (suc j) (suc n) l m e = go (eqb x a) (seen_there seen a j n (omega arith) (omega arith) e)
-  where
-    go : (b : Bool) → has nat_key (take n seen) a ≡ true → (b || has nat_key (take n seen) a) ≡ true
-    go true h = refl
-    go false h = h
 
 pub one_at_most : (b : Bool) (n : ℕ) → n ≡ cond b 0 1 → n ≤ 1
 one_at_most true n e = omega arith
@@ -77,9 +28,6 @@ pub record SlotsPassed (f : ℕ → ℕ) (n i found : ℕ) (seen : List ℕ) : T
   pub are : take found seen ≡ firsts nat_key (tabulate f i)
 
 module _ (f : ℕ → ℕ) (n : ℕ) where
-  pub passed_none : (seen : List ℕ) → length seen ≡ 4 → SlotsPassed f n 0 0 seen
-  passed_none seen four = record { four = four; part = omega arith; within = omega arith; are = refl }
-
   module _ (i found : ℕ) (seen : List ℕ) (few : i < 4) (p : SlotsPassed f n i found seen) (a : ℕ) (a_is : a ≡ f i) (more : ℕ) (more_is : more ≡ cond (has nat_key (take found seen) a) 0 1) where
     room : found < length seen
     room = omega (arith, p.part, p.four)
@@ -121,10 +69,6 @@ module _ (f : ℕ → ℕ) (n : ℕ) where
             let whole : suc i + d ≡ count = omega arith in
             let stay = firsts_stay nat_key f 0 (suc i) n d (omega (arith, size)) in
             (subst (λ (c : ℕ). n < length (firsts nat_key (tabulate f c))) whole stay.0, sym (subst (λ (c : ℕ). get_or (firsts nat_key (tabulate f c)) n 0 ≡ get_or (firsts nat_key (tabulate f (suc i))) n 0) whole stay.1 ∙ here))
-
-  -- all are passed
-  pub passed_all : (i found : ℕ) (seen : List ℕ) → i ≤ 4 → SlotsPassed f n i found seen → length (firsts nat_key (tabulate f i)) ≤ n
-  passed_all i found seen few p = omega (arith, ap length p.are, length-take-le found seen (omega (arith, p.part, p.four)), p.within)
 
   -- there are no more than alternatives
   pub few_all : (count : ℕ) → count ≤ n → length (firsts nat_key (tabulate f count)) ≤ n

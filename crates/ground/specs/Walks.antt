@@ -4,6 +4,7 @@ use Rattle.search.specs.Ground.{Found}
 use Rattle.search.specs.Relevancy.{find_r}
 use Rattle.search.specs.Magic.{rewriting, find_m}
 use Rattle.search.specs.Machine.{outcome}
+use Rattle.problem.specs.Faults.{fault_number}
 use Rattle.problem.specs.Numbers.{refused_at}
 use Rattle.problem.specs.Problem.{Problem, limit_of}
 use Rattle.problem.specs.Parse.{refused, parsed, parse}
@@ -20,4 +21,4 @@ magic q = find_m instance_key (ground_of q).atoms (rewriting (ground_of q))
 
 -- what is printed of a text by a walk
 unfoldable pub printed : (Problem → List ℕ → Found Instance) → List ℕ → List ℕ
-printed walk x = elim (parse x) [ refused e line ↦ head_line (refused_at e line) | parsed q ↦ report q (outcome (walk q) (limit_of q.limit)) ]
+printed walk x = elim (parse x) [ refused e line ↦ head_line (refused_at (fault_number e) line) | parsed q ↦ report q (outcome (walk q) (limit_of q.limit)) ]

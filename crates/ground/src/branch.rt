@@ -8,29 +8,20 @@ ghost use Rattle.ground.specs.terms.Branching.{SlotsNumbered, slot_numbers, Next
 
 use crate::atom::number_in;
 
-// The alternative that is entered next, by the number of its atom, or that none is left.
-#[derive(Drop)]
-pub enum NextBranch {
-    Atom(usize),
-    Nothing,
-}
-
 // 1 if a is not among the first n numbers of `seen`, else 0.
 fn fresh(seen: &[usize], n: usize, a: usize) -> usize
     requires { (length seen.now ≡ 4) × (n ≤ 4) }
     ensures { result ≡ cond (has nat_key (take n seen.now) a) 0 1 }
 {
-    let mut j: usize = 0;
-    while j < n {
+    for j in 0..n {
         if seen[j] == a {
             return 0;
         }
-        j += 1;
     }
     1
 }
 
-// The alternative that is entered after n others, of a split whose `count` alternatives stand from place `first` on, `stride` bytes apart, in bytes that begin as a
+// The alternative that is entered after n others, by the number of its atom, of a split whose `count` alternatives stand from place `first` on, `stride` bytes apart, in bytes that begin as a
 // table does. One that is equal to an earlier one is passed over and does not count.
 pub fn branch_after(
     bs: &[u8],
@@ -39,26 +30,24 @@ pub fn branch_after(
     count: usize,
     values: &[u8],
     n: usize,
-) -> NextBranch
+) -> Option<usize>
     requires headed { Headed bs.now }
     requires slots_numbered { SlotsNumbered bs.now first stride count values.now }
     ensures { NextOf (branches (slot_numbers bs.now first stride values.now count)) n result }
 {
     if n >= count {
-        return NextBranch::Nothing;
+        return None;
     }
     let mut seen = [0usize; 4];
     let mut found: usize = 0;
-    let mut i: usize = 0;
-    while i < count {
+    for i in 0..count {
         let a = number_in(bs, first + stride * i, values);
         let more = fresh(&seen, found, a);
         if found + more > n {
-            return NextBranch::Atom(a);
+            return Some(a);
         }
         seen[found] = a;
         found += more;
-        i += 1;
     }
-    NextBranch::Nothing
+    None
 }

@@ -21,7 +21,7 @@ pub enum Verdict {
 pub fn number_of(a: u8, b: u8, c: u8, d: u8) -> u32
     ensures { result ≡ horner 256 (a ∷ b ∷ c ∷ d ∷ []) }
 {
-    (((a as u32) * 256 + (b as u32)) * 256 + (c as u32)) * 256 + (d as u32)
+    u32::from_be_bytes([a, b, c, d])
 }
 
 // The limit in a table.
@@ -32,22 +32,13 @@ pub fn limit_in(table: &[u8]) -> u32
     number_of(table[4], table[5], table[6], table[7])
 }
 
-// The bit of an atom that is not relevant: it is in the model given.
-const IRRELEVANT: u8 = 1;
-
 // Whether atom a is in the model given: it is true, or not relevant.
 fn in_model(work: &[u8], a: usize) -> u8
     requires a_bound { 1025 + a ≤ 6149 }
     requires in_bounds { 6150 ≤ length work.now }
     ensures { result ≡ bit (chosen_bit work.now a) }
 {
-    if holds(work, a) {
-        return 1;
-    }
-    if holds(work, 1025 + a) {
-        return 0;
-    }
-    IRRELEVANT
+    u8::from(holds(work, a) || !holds(work, 1025 + a))
 }
 
 // Puts the model's bits into the answer.
@@ -55,9 +46,7 @@ pub fn give(work: &[u8], answer: &mut [u8], atoms: usize)
     requires { (atoms ≤ 1024) × (atoms ≤ length answer.old) × (6150 ≤ length work.now) }
     ensures { answer.new ≡ map bit (model_bits atoms (is_set work.now) (λ a. is_set work.now (1025 + a))) ++ drop atoms answer.old }
 {
-    let mut a: usize = 0;
-    while a < atoms {
+    for a in 0..atoms {
         answer[a] = in_model(work, a);
-        a += 1;
     }
 }

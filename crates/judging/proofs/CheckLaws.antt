@@ -16,7 +16,7 @@ use Rattle.lists.proofs.Test.{decided, fails, not-not}
 use Rattle.lists.specs.Test.{and-T, T_left, T_right}
 use Rattle.search.specs.Ground.{Model}
 use Rattle.problem.specs.Problem.{Problem}
-use Rattle.judging.specs.declared.judge.Judging.TheVariants.{Model as IsModel, Violated}
+use Rattle.judging.specs.declared.judge.Judgement.TheVariants.{Model as IsModel, Violated}
 use Rattle.ground.specs.Instance.{Instance, number, clause_of, ground_atoms, ground_of}
 use Rattle.lists.specs.Bytes.{is_set}
 use Rattle.judging.specs.ModelCheck.{violates, named, check_of}

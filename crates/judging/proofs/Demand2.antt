@@ -27,7 +27,8 @@ use Rattle.ground.specs.Instance.{Instance}
 use Rattle.ground.specs.Verdict.{verdict_of, answer_of}
 use Rattle.ground.proofs.AnswerLaws.{given_set, given_length, given_marks}
 use Rattle.ground.proofs.Instances.{atoms_are, atoms_few, ground_proper}
-use Rattle.judging.specs.declared.judge.Judging.TheVariants.{Model as IsModel}
+use Rattle.std.specs.Prelude.{Ok}
+use Rattle.judging.specs.declared.judge.Judgement.TheVariants.{Model as IsModel}
 use Rattle.judging.specs.ModelCheck.{judge_result}
 use Rattle.judging.specs.Demand2.{ground_lent, Demand2}
 use Rattle.judging.proofs.CheckLaws.{model_checked}
@@ -160,7 +161,7 @@ module _ (find : List ℕ → Found Instance) (limit : ℕ) (tb answer : List �
         λ a h. ap (λ (x : List ℕ). is_set x a) left_is ∙ given_set bits answer a (omega (arith, given.0)) in
         model_same p (Marked bits) (λ a. T (is_set (answer_of o answer) a)) proper (λ a h m. subst T (sym (same a h)) m) (λ a h m. subst T (same a h) m) given.1
 
-    judged : judge_result tb (answer_of o answer) ≡ IsModel
+    judged : judge_result tb (answer_of o answer) ≡ Ok IsModel
     unfolding judge_result
     judged =
         let few : length bits ≤ 1024 = omega (arith, given.0, atoms_few q lawful.fits) in
@@ -171,7 +172,7 @@ module _ (find : List ℕ → Found Instance) (limit : ℕ) (tb answer : List �
         ∙ ap (λ (m : ℕ). every (λ b. ltb b 2) (take m (map bit bits ++ drop (length bits) answer))) (sym (given.0 ∙ atoms_are q))
         ∙ given_marks bits answer in
         let good : is_valid (take 4096 tb) ≡ true = T-true (is_valid (take 4096 tb)) ((tables.valid (take 4096 tb)).1 valid) in
-        rw (le-ltb (length tb) 4096 long, le-ltb (length (answer_of o answer)) 1024 room, good, marks) (model_checked q (answer_of o answer) model)
+        rw (le-ltb (length tb) 4096 long, le-ltb (length (answer_of o answer)) 1024 room, good, marks) (ap Ok (model_checked q (answer_of o answer) model))
 
   pub demand_2 : Demand2 find p limit tb (verdict_of o) (answer_of o answer)
   demand_2 =

@@ -24,10 +24,10 @@ use Rattle.ground.specs.Instance.{Instance, InstanceOf, number, no_clause, claus
 use Rattle.ground.specs.terms.Placed.{Placed}
 use Rattle.ground.proofs.Order.{instances_all}
 use Rattle.ground.proofs.Turns.{ClauseKnown, clause_known, numbers_take}
-use Rattle.judging.specs.declared.judge.Judging.{Judging}
-use Rattle.judging.specs.declared.judge.Judging.TheVariants.{Unjudged}
-use Rattle.judging.specs.declared.how_far.Holding.{Holding}
-use Rattle.judging.specs.declared.how_far.Holding.TheVariants.{Unheld, Held}
+use Rattle.std.specs.Prelude.{Result, Ok, Err}
+use Rattle.problem.specs.declared.fault.Fault.{Fault}
+use Rattle.problem.specs.declared.fault.Fault.TheVariants.{ShortBuffer, NoTable, BadAnswer, NoInstance}
+use Rattle.judging.specs.declared.judge.Judgement.{Judgement}
 use Rattle.judging.specs.ModelCheck.{violates, named, check_of, judge_result}
 use Rattle.judging.specs.Holding.{holding_of, instance_named, is_named, holding_named, holding_result}
 use Rattle.judging.proofs.CheckLaws.{violated_from, violated_to}
@@ -67,7 +67,7 @@ module _ (tb : List ℕ) (h : Lawful tb) (flags : List ℕ) (k : ℕ) (four : Li
   abbrev bytes : List ℕ
   bytes = map (λ d. d % 256) four
 
-  pub clause_lacking : get_or tb 2 0 ≤ k → Unheld 44 ≡ holding_named q flags k four
+  pub clause_lacking : get_or tb 2 0 ≤ k → Err NoInstance ≡ holding_named q flags k four
   clause_lacking l = rw (le-ltb k (length q.clauses) (omega (arith, count_in tb h)))
 
   module _ (less : k < get_or tb 2 0) where
@@ -86,7 +86,7 @@ module _ (tb : List ℕ) (h : Lawful tb) (flags : List ℕ) (k : ℕ) (four : Li
         ap (λ (c : ℕ). every (λ d. ltb d c) (take (get_or tb (144 + 56 * k + 2) 0) four)) clause_there.constants
         ∙ ap (λ (w : ℕ). every (λ d. ltb d q.constants) (take w four)) clause_there.variables
 
-    pub value_lacking : own_test ≡ false → Unheld 44 ≡ holding_named q flags k four
+    pub value_lacking : own_test ≡ false → Err NoInstance ≡ holding_named q flags k four
     value_lacking e = rw (lt-ltb k (length q.clauses) known, sym own_is ∙ e)
 
     module _ (long : length four ≡ 4) (wide : 1024 ≤ length flags) (e : own_test ≡ true) where
@@ -108,13 +108,13 @@ module _ (tb : List ℕ) (h : Lawful tb) (flags : List ℕ) (k : ℕ) (four : Li
             flagged = omega (arith, h.fits.atoms_fit);
           }
 
-      pub named_held : (n : ℕ) → n ≡ lead (is_set flags) (ground_atoms q bytes (clause_of q k).conds) → Held n ≡ holding_named q flags k four
+      pub named_held : (n : ℕ) → n ≡ lead (is_set flags) (ground_atoms q bytes (clause_of q k).conds) → Ok n ≡ holding_named q flags k four
       unfolding ground_of
       named_held n s =
           let cs = (clause_of q k).conds in
           let same : ground_atoms q bytes cs ≡ ground_atoms q (take v four) cs =
           sym (numbers_take q.constants q.arities v bytes cs clause_there.fits.conds_fit) ∙ ap (λ (w : List ℕ). ground_atoms q w cs) keep in
-          rw (lt-ltb k (length q.clauses) known, own) (ap (λ (m : ℕ). Held m) (s ∙ ap (lead (is_set flags)) same))
+          rw (lt-ltb k (length q.clauses) known, own) (ap (λ (m : ℕ). Ok m) (s ∙ ap (lead (is_set flags)) same))
 
 -- ---- what is claimed
 
@@ -177,54 +177,44 @@ module _ (q : Problem) (answer : List ℕ) (i : Instance) where
 
 -- ---- the call is refused as judging is
 
-unjudged_number : (m n : ℕ) → ◌≡◌ {A = Judging} (Unjudged m) (Unjudged n) → m ≡ n
-unjudged_number m n e = cc
-
--- what judging names is no refusal
-named_judges : (o : Option Instance) (e : ℕ) → named o ≡ Unjudged e → ⊥
-named_judges none e p = let z : ◌≡◌ {A = ℕ} 0 1 = cc in omega arith
-named_judges (some i) e p = let z : ◌≡◌ {A = ℕ} 0 1 = cc in omega arith
-
 module _ (tb answer : List ℕ) (k a b c d : ℕ) where
   abbrev lent : Problem
   lent = problem_in (take 4096 tb)
 
-  abbrev asks : Holding
+  abbrev asks : Result ℕ Fault
   asks = holding_named lent answer k (a ∷ b ∷ c ∷ d ∷ [])
 
   -- by the three tests: too short, valid, and bits
-  tests_refuse : (short valid bits : Bool) (judged : Judging) (e : ℕ) → (judged ≡ Unjudged e → ⊥)
-      → cond short (Unjudged 11) (cond valid (cond bits judged (Unjudged 32)) (Unjudged 31)) ≡ Unjudged e
-      → cond short (Unheld 11) (cond valid (cond bits asks (Unheld 32)) (Unheld 31)) ≡ Unheld e
-  tests_refuse true valid bits judged e other p = ap Unheld (unjudged_number 11 e p)
-  tests_refuse false false bits judged e other p = ap Unheld (unjudged_number 31 e p)
-  tests_refuse false true false judged e other p = ap Unheld (unjudged_number 32 e p)
-  tests_refuse false true true judged e other p = absurd (other p)
+  tests_refuse : (short valid bits : Bool) (judged : Judgement) (e : Fault)
+      → ◌≡◌ {A = Result Judgement Fault} (cond short (Err ShortBuffer) (cond valid (cond bits (Ok judged) (Err BadAnswer)) (Err NoTable))) (Err e)
+      → cond short (Err ShortBuffer) (cond valid (cond bits asks (Err BadAnswer)) (Err NoTable)) ≡ Err e
+  tests_refuse true valid bits judged e p = cc
+  tests_refuse false false bits judged e p = cc
+  tests_refuse false true false judged e p = cc
+  tests_refuse false true true judged e p = cc
 
-  tests_ask : (short valid bits : Bool) (judged : Judging)
-      → ((e : ℕ) → cond short (Unjudged 11) (cond valid (cond bits judged (Unjudged 32)) (Unjudged 31)) ≡ Unjudged e → ⊥)
-      → cond short (Unheld 11) (cond valid (cond bits asks (Unheld 32)) (Unheld 31)) ≡ asks
-  tests_ask true valid bits judged taken = absurd (taken 11 refl)
-  tests_ask false false bits judged taken = absurd (taken 31 refl)
-  tests_ask false true false judged taken = absurd (taken 32 refl)
+  tests_ask : (short valid bits : Bool) (judged : Judgement)
+      → ((e : Fault) → ◌≡◌ {A = Result Judgement Fault} (cond short (Err ShortBuffer) (cond valid (cond bits (Ok judged) (Err BadAnswer)) (Err NoTable))) (Err e) → ⊥)
+      → cond short (Err ShortBuffer) (cond valid (cond bits asks (Err BadAnswer)) (Err NoTable)) ≡ asks
+  tests_ask true valid bits judged taken = absurd (taken ShortBuffer refl)
+  tests_ask false false bits judged taken = absurd (taken NoTable refl)
+  tests_ask false true false judged taken = absurd (taken BadAnswer refl)
   tests_ask false true true judged taken = refl
 
   abbrev are_bits : Bool
   are_bits = every (λ n. ltb n 2) (take (atom_count lent.constants lent.arities) answer)
 
-  pub refused_as_judged : (e : ℕ) → judge_result tb answer ≡ Unjudged e → holding_result tb answer k a b c d ≡ Unheld e
-  unfolding judge_result holding_result check_of
-  refused_as_judged e =
-      tests_refuse (ltb (length tb) 4096 || ltb (length answer) 1024) (is_valid (take 4096 tb)) are_bits (check_of lent answer) e
-      (named_judges (first (violates lent answer) (ground_of lent).instances) e)
+  pub refused_as_judged : (e : Fault) → judge_result tb answer ≡ Err e → holding_result tb answer k a b c d ≡ Err e
+  unfolding judge_result holding_result
+  refused_as_judged e = tests_refuse (ltb (length tb) 4096 || ltb (length answer) 1024) (is_valid (take 4096 tb)) are_bits (check_of lent answer) e
 
-  asked_as_judged : ((e : ℕ) → judge_result tb answer ≡ Unjudged e → ⊥) → holding_result tb answer k a b c d ≡ asks
+  asked_as_judged : ((e : Fault) → judge_result tb answer ≡ Err e → ⊥) → holding_result tb answer k a b c d ≡ asks
   unfolding judge_result holding_result
   asked_as_judged = tests_ask (ltb (length tb) 4096 || ltb (length answer) 1024) (is_valid (take 4096 tb)) are_bits (check_of lent answer)
 
-  pub told : ((e : ℕ) → judge_result tb answer ≡ Unjudged e → ⊥) → T (is_named lent k (a ∷ b ∷ c ∷ d ∷ []))
-      → holding_result tb answer k a b c d ≡ Held (holding_of lent answer (instance_named lent k (a ∷ b ∷ c ∷ d ∷ [])))
+  pub told : ((e : Fault) → judge_result tb answer ≡ Err e → ⊥) → T (is_named lent k (a ∷ b ∷ c ∷ d ∷ []))
+      → holding_result tb answer k a b c d ≡ Ok (holding_of lent answer (instance_named lent k (a ∷ b ∷ c ∷ d ∷ [])))
   told judged name = asked_as_judged judged ∙ rw (T-true (is_named lent k (a ∷ b ∷ c ∷ d ∷ [])) name)
 
-  pub lacked : ((e : ℕ) → judge_result tb answer ≡ Unjudged e → ⊥) → (T (is_named lent k (a ∷ b ∷ c ∷ d ∷ [])) → ⊥) → holding_result tb answer k a b c d ≡ Unheld 44
+  pub lacked : ((e : Fault) → judge_result tb answer ≡ Err e → ⊥) → (T (is_named lent k (a ∷ b ∷ c ∷ d ∷ [])) → ⊥) → holding_result tb answer k a b c d ≡ Err NoInstance
   lacked judged name = asked_as_judged judged ∙ rw (T-false (is_named lent k (a ∷ b ∷ c ∷ d ∷ [])) (fails (is_named lent k (a ∷ b ∷ c ∷ d ∷ [])) name))

@@ -1,5 +1,5 @@
 -- What is claimed of the model check, whatever the code. `proofs/Theorems.antt` proves `Theorems`.
-use Rattle.std.specs.Prelude.{ℕ, ◌≤◌, ◌<◌, not, List, [], ◌∷◌, ◌++◌, ◌↔◌, ◌≡◌, T, length, take, get_or}
+use Rattle.std.specs.Prelude.{ℕ, ◌≤◌, ◌<◌, not, List, [], ◌∷◌, ◌++◌, ◌↔◌, ◌≡◌, T, length, take, get_or, Ok, Err}
 use Rattle.lists.specs.Member.{All, Any}
 use Rattle.search.specs.Ground.{Model, Found}
 use Rattle.search.specs.Machine.{outcome}
@@ -7,8 +7,9 @@ use Rattle.search.specs.Sound.{SoundFind}
 use Rattle.problem.specs.Problem.{Problem, Fits}
 use Rattle.problem.specs.Layout.{problem_in}
 use Rattle.problem.specs.Table.{Valid}
-use Rattle.judging.specs.declared.judge.Judging.TheVariants.{Unjudged, Model as IsModel, Violated}
-use Rattle.judging.specs.declared.how_far.Holding.TheVariants.{Unheld, Held}
+use Rattle.problem.specs.declared.fault.Fault.{Fault}
+use Rattle.problem.specs.declared.fault.Fault.TheVariants.{NoInstance}
+use Rattle.judging.specs.declared.judge.Judgement.TheVariants.{Model as IsModel, Violated}
 use Rattle.ground.specs.Instance.{Instance, clause_of, ground_of}
 use Rattle.lists.specs.Bytes.{is_set}
 use Rattle.ground.specs.Verdict.{verdict_of, answer_of}
@@ -49,11 +50,11 @@ pub record Theorems : Type 1 where
   pub instance_is_named : (q : Problem) → Fits q → (k : ℕ) (four : List ℕ) → length four ≡ 4
       → T (is_named q k four) ↔ Any (λ i. i ≡ instance_named q k four) (ground_of q).instances
   -- the companion call is refused as judging is; else it tells the number of the instance that is named, and 44 where none is
-  pub refused_as_judged : (tb answer : List ℕ) (k a b c d e : ℕ) → judge_result tb answer ≡ Unjudged e → holding_result tb answer k a b c d ≡ Unheld e
-  pub told : (tb answer : List ℕ) (k a b c d : ℕ) → ((e : ℕ) → judge_result tb answer ≡ Unjudged e → ⊥) → T (is_named (problem_in (take 4096 tb)) k (a ∷ b ∷ c ∷ d ∷ []))
-      → holding_result tb answer k a b c d ≡ Held (holding_of (problem_in (take 4096 tb)) answer (instance_named (problem_in (take 4096 tb)) k (a ∷ b ∷ c ∷ d ∷ [])))
-  pub lacked : (tb answer : List ℕ) (k a b c d : ℕ) → ((e : ℕ) → judge_result tb answer ≡ Unjudged e → ⊥)
-      → (T (is_named (problem_in (take 4096 tb)) k (a ∷ b ∷ c ∷ d ∷ [])) → ⊥) → holding_result tb answer k a b c d ≡ Unheld 44
+  pub refused_as_judged : (tb answer : List ℕ) (k a b c d : ℕ) (e : Fault) → judge_result tb answer ≡ Err e → holding_result tb answer k a b c d ≡ Err e
+  pub told : (tb answer : List ℕ) (k a b c d : ℕ) → ((e : Fault) → judge_result tb answer ≡ Err e → ⊥) → T (is_named (problem_in (take 4096 tb)) k (a ∷ b ∷ c ∷ d ∷ []))
+      → holding_result tb answer k a b c d ≡ Ok (holding_of (problem_in (take 4096 tb)) answer (instance_named (problem_in (take 4096 tb)) k (a ∷ b ∷ c ∷ d ∷ [])))
+  pub lacked : (tb answer : List ℕ) (k a b c d : ℕ) → ((e : Fault) → judge_result tb answer ≡ Err e → ⊥)
+      → (T (is_named (problem_in (take 4096 tb)) k (a ∷ b ∷ c ∷ d ∷ [])) → ⊥) → holding_result tb answer k a b c d ≡ Err NoInstance
   -- values past the clause's own variables do not matter
   pub past_unseen : (tb answer : List ℕ) (k a b c d e f g h : ℕ)
       → take (clause_of (problem_in (take 4096 tb)) k).vars (a ∷ b ∷ c ∷ d ∷ []) ≡ take (clause_of (problem_in (take 4096 tb)) k).vars (e ∷ f ∷ g ∷ h ∷ [])

@@ -1,5 +1,5 @@
 // The model check (01: judging): whether the atoms that an answer marks are a model.
-ghost use Rattle.std.specs.Prelude.{◌≡◌, ◌≤◌, ◌<◌, length, get_or, take, ltb};
+ghost use Rattle.std.specs.Prelude.{◌≡◌, ◌≤◌, ◌<◌, length, get_or, take, ltb, Ok, Err};
 ghost use Rattle.lists.specs.Member.{every};
 ghost use Rattle.problem.specs.Layout.{problem_in};
 ghost use Rattle.problem.specs.Table.{Lawful};
@@ -8,12 +8,12 @@ ghost use Rattle.ground.specs.terms.Placed.{Placed};
 
 use ground::instance::{holding, none_holds, step};
 use lists::pair;
-use writing::lent::refusal;
+use problem::fault::Fault;
+use writing::lent::taken;
 
-// What the model check says: a refusal's number, that the answer is a model, or the first violated instance, by clause and values.
-#[derive(Drop)]
-pub enum Judging {
-    Unjudged(u8),
+// What the model check says: that the answer is a model, or the first violated instance, by clause and values.
+#[derive(Clone, Copy, Debug, PartialEq, Eq)]
+pub enum Judgement {
     Model,
     Violated(u8, u8, u8, u8, u8),
 }
@@ -24,14 +24,12 @@ fn violated(table: &[u8], k: u8, values: &[u8], flags: &[u8]) -> bool
     requires placed { Placed table.now k values.now flags.now }
     ensures { result ≡ violated_by (problem_in table.now) flags.now k values.now }
 {
-    if holding(table, k, values, flags) < table[144 + 56 * (k as usize)] {
-        return false;
-    }
-    none_holds(table, k, values, flags)
+    holding(table, k, values, flags) == table[144 + 56 * (k as usize)]
+        && none_holds(table, k, values, flags)
 }
 
 // The first violated instance of clause k, if there is one.
-fn check_clause(table: &[u8], k: u8, flags: &[u8]) -> Judging
+fn check_clause(table: &[u8], k: u8, flags: &[u8]) -> Judgement
     requires lawful { Lawful table.now }
     requires k_bound { (k < get_or table.now 2 0) × (1024 ≤ length flags.now) }
     ensures { result ≡ clause_check (problem_in table.now) flags.now k }
@@ -41,36 +39,27 @@ fn check_clause(table: &[u8], k: u8, flags: &[u8]) -> Judging
     let v = table[at + 2];
     let count = pair(table[at + 4], table[at + 5]);
     let mut values = [0u8; 4];
-    let mut i: usize = 0;
-    while i < count {
+    for _ in 0..count {
         if violated(table, k, &values, flags) {
-            return Judging::Violated(k, values[0], values[1], values[2], values[3]);
+            return Judgement::Violated(k, values[0], values[1], values[2], values[3]);
         }
         step(&mut values, v, c);
-        i += 1;
     }
-    Judging::Model
+    Judgement::Model
 }
 
 // The first violated instance of a table's clauses, if there is one.
-fn check_clauses(table: &[u8], flags: &[u8]) -> Judging
+fn check_clauses(table: &[u8], flags: &[u8]) -> Judgement
     requires lawful { Lawful table.now }
     requires in_bounds { 1024 ≤ length flags.now }
     ensures { result ≡ check_of (problem_in table.now) flags.now }
 {
-    let count = table[2];
-    let mut k: u8 = 0;
-    while k < count {
-        let judging = check_clause(table, k, flags);
-        match judging {
-            Judging::Violated(j, a, b, c, d) => {
-                return Judging::Violated(j, a, b, c, d);
-            }
-            _ => {}
+    for k in 0..table[2] {
+        if let Judgement::Violated(j, a, b, c, d) = check_clause(table, k, flags) {
+            return Judgement::Violated(j, a, b, c, d);
         }
-        k += 1;
     }
-    Judging::Model
+    Judgement::Model
 }
 
 // Whether the first n bytes are each 0 or 1.
@@ -78,37 +67,29 @@ fn are_bits(answer: &[u8], n: usize) -> bool
     requires { n ≤ length answer.now }
     ensures { result ≡ every (λ b. ltb b 2) (take n answer.now) }
 {
-    let mut i: usize = 0;
-    while i < n {
+    for i in 0..n {
         if 1 < answer[i] {
             return false;
         }
-        i += 1;
     }
     true
 }
 
-// The number of the refusal of a lent table and answer, or 0: 11, then 31, then 32 if an answer byte that counts is neither 0 nor 1.
-pub fn refused(table: &[u8], answer: &[u8]) -> u8
-    ensures { result ≡ judgeable table.now answer.now (λ e. e) (λ q. 0) }
+// Whether a lent table and answer are judged: refused as every lent table is, and then if an answer byte that counts is neither 0 nor 1.
+pub fn judgeable(table: &[u8], answer: &[u8]) -> Result<(), Fault>
+    ensures { result ≡ judgeable table.now answer.now Err (λ q. Ok tt) }
 {
-    let e = refusal(table, answer.len() < 1024);
-    if 0 < e {
-        return e;
-    }
+    taken(table, answer.len() < 1024)?;
     if !are_bits(answer, pair(table[8], table[9])) {
-        return 32;
+        return Err(Fault::BadAnswer);
     }
-    0
+    Ok(())
 }
 
 // Judges an answer by a lent table.
-pub fn judge(table: &[u8], answer: &[u8]) -> Judging
+pub fn judge(table: &[u8], answer: &[u8]) -> Result<Judgement, Fault>
     ensures { result ≡ judge_result table.now answer.now }
 {
-    let e = refused(table, answer);
-    if 0 < e {
-        return Judging::Unjudged(e);
-    }
-    check_clauses(&table[..4096], answer)
+    judgeable(table, answer)?;
+    Ok(check_clauses(&table[..4096], answer))
 }

@@ -1,7 +1,7 @@
 -- Laws of powers and digits, to any base and of any width: digits and the number that they stand for determine each other, the lists of digits are as many as the
 -- numbers and stand in their order, and the next list stands for the next number. Numbers are read where their bytes stand.
 use Prim.Native.Nat.{ℕ, zero, suc, ◌+◌, ◌-◌, ◌*◌, ◌^◌, ◌/◌, ◌%◌, ◌≤◌, ◌<◌}
-use mathlib.Core.List.{List, [], ◌∷◌, ◌++◌, map, flat_map, reverse-reverse}
+use mathlib.Core.List.{List, [], ◌∷◌, ◌++◌, map, reverse-reverse}
 use mathlib.Core.Path.{◌≡◌, refl, sym, ap, subst, ◌∙◌}
 use native.Mathlib.Nat.{le_trans, add-zero, zero-add, add_comm, add_assoc, mul-one, mul_comm, mul_assoc, add-mul, suc-mul, zero-mul, pow-zero, pow-succ', pow-le-pow_left, pow-le-pow_right, one-le-pow, div-one, div-div-eq-div-mul, div-lt_iff_lt-mul, mod-one, mod-lt, mod-eq_of_lt, mul-add-div_right, mul-add-mod_self_right}
 use native.Mathlib.Numerals.{add-one}
@@ -13,7 +13,7 @@ use Rattle.lists.specs.Digits.{horner_from, horner, digits_of, bytes_of, low_byt
 use Rattle.lists.specs.Member.{All, Any}
 use Rattle.lists.specs.Tabulate.{tabulate}
 use Rattle.lists.proofs.Bytes.{tabulate_of}
-use Rattle.lists.proofs.Member.{All-append, all_flat, all_mapped, all_map, flat_snoc}
+use Rattle.lists.proofs.Member.{All-append, all_flat, all_mapped, all_map}
 use Rattle.lists.proofs.Tabulate.{tabulate-length, tabulate_same, tabulate-map, All-tabulate, Any-tabulate, flat_rows}
 
 -- a power grows with its base and its exponent

@@ -1,7 +1,7 @@
 // Loops over bytes that every crate needs. Definitions on lists are in specs/, their laws in proofs/.
 #![tactic(auto)]
 
-ghost use Rattle.std.specs.Prelude.{◌≡◌, ◌++◌, ◌+◌, ◌*◌, ◌≤◌, length, drop, replicate};
+ghost use Rattle.std.specs.Prelude.{◌≡◌, ◌++◌, ◌+◌, ◌*◌, ◌/◌, ◌%◌, ◌≤◌, length, drop, replicate, set};
 ghost use Rattle.lists.specs.Bytes.{same_list};
 
 // Puts the bytes of src in front of dst's, over those that were there.
@@ -9,10 +9,8 @@ pub fn copy(dst: &mut [u8], src: &[u8])
     requires { length src.now ≤ length dst.old }
     ensures { dst.new ≡ src.now ++ drop (length src.now) dst.old }
 {
-    let mut i: usize = 0;
-    while i < src.len() {
+    for i in 0..src.len() {
         dst[i] = src[i];
-        i += 1;
     }
 }
 
@@ -20,34 +18,30 @@ pub fn copy(dst: &mut [u8], src: &[u8])
 pub fn same(a: &[u8], b: &[u8]) -> bool
     ensures { result ≡ same_list a.now b.now }
 {
-    if a.len() != b.len() {
-        return false;
-    }
-    let mut all = true;
-    let mut i: usize = 0;
-    while i < a.len() {
-        if a[i] != b[i] {
-            all = false;
-        }
-        i += 1;
-    }
-    all
+    a == b
 }
 
 // Makes every byte 0.
 pub fn zero(dst: &mut [u8])
     ensures { dst.new ≡ replicate (length dst.old) 0 }
 {
-    let mut i: usize = 0;
-    while i < dst.len() {
-        dst[i] = 0;
-        i += 1;
-    }
+    dst.fill(0);
 }
 
 // A number of two bytes.
+// Kept: `u16::from_le_bytes` takes an array, and the functions that reading reaches make none but those that tests/forms names.
 pub fn pair(low: u8, high: u8) -> usize
     ensures { result ≡ low + 256 * high }
 {
     (low as usize) + 256 * (high as usize)
+}
+
+// Puts the low two bytes of a number at a place, the lowest first.
+pub fn put_pair(bytes: &mut [u8], at: usize, n: usize)
+    requires { at + 2 ≤ length bytes.old }
+    ensures { bytes.new ≡ set (set bytes.old at (n % 256)) (at + 1) (n / 256 % 256) }
+{
+    let digits = n.to_le_bytes();
+    bytes[at] = digits[0];
+    bytes[at + 1] = digits[1];
 }

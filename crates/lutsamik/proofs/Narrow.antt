@@ -27,6 +27,9 @@ use Rattle.search.proofs.Session.{in_stands, stands_reached}
 use Rattle.search.proofs.SessionRight.{in_right}
 use Rattle.search.proofs.SessionLeft.{run_made}
 use Rattle.search.proofs.Theorems.{theorems as walks}
+use Rattle.std.specs.Prelude.{Result, Ok, Err}
+use Rattle.problem.specs.declared.fault.Fault.{Fault}
+use Rattle.problem.specs.declared.fault.Fault.TheVariants.{ShortBuffer, NoTable, BadAnswer, NoInstance}
 use Rattle.problem.specs.Problem.{Problem, Fits, atom_count, limit_of}
 use Rattle.problem.specs.Parse.{Parsed, refused, parsed, parse}
 use Rattle.problem.specs.Layout.{problem_in}
@@ -35,25 +38,17 @@ use Rattle.problem.specs.Table.{is_valid}
 use Rattle.problem.proofs.Refusals.{parse_refuses}
 use Rattle.problem.proofs.Theorems.{valid_table}
 use Rattle.problem.proofs.WellFormed.{text_short}
-use Rattle.reading.specs.declared.read.Reading.{Reading}
-use Rattle.reading.specs.declared.read.Reading.TheVariants as reading
-use Rattle.reading.specs.Read.{reading_of, read_result}
-use Rattle.writing.specs.declared.write.Writing.{Writing}
-use Rattle.writing.specs.declared.write.Writing.TheVariants as writing
+use Rattle.std.specs.Prelude.{Ok, Err}
+use Rattle.problem.specs.declared.fault.Fault.TheVariants.{ShortBuffer}
+use Rattle.problem.specs.Faults.{fault_number}
+use Rattle.reading.specs.Read.{Reading, reading_of, read_result}
 use Rattle.writing.specs.Write.{write_result}
 use Rattle.ground.specs.Instance.{Instance, InstanceOf, ground_of, ground_in}
 use Rattle.ground.proofs.Order.{instances_are}
 use Rattle.ground.proofs.Instances.{ground_proper}
-use Rattle.offering.specs.declared.offer.Offering.{Offering}
-use Rattle.offering.specs.declared.offer.Offering.TheVariants as offering
-use Rattle.offering.specs.Offer.{offer_result, set_result}
-use Rattle.offering.specs.Claims.{clause_refusals}
-use Rattle.offering.proofs.Theorems.{theorems as offerings}
-use Rattle.judging.specs.declared.judge.Judging.{Judging}
-use Rattle.judging.specs.declared.judge.Judging.TheVariants as judging
+use Rattle.judging.specs.declared.judge.Judgement.{Judgement}
+use Rattle.judging.specs.declared.judge.Judgement.TheVariants as judging
 use Rattle.judging.specs.ModelCheck.{violates, named, check_of, judgeable, judge_result}
-use Rattle.judging.specs.declared.how_far.Holding.{Holding}
-use Rattle.judging.specs.declared.how_far.Holding.TheVariants as holding
 use Rattle.judging.specs.Holding.{holding_of, instance_named, is_named, holding_named, holding_result}
 use Rattle.judging.proofs.HoldingLaws.{holding_few}
 use Rattle.session.specs.declared.record.Session.{Session as Record}
@@ -63,8 +58,6 @@ use Rattle.session.proofs.CallLaws.{called_held, called_none}
 use Rattle.relevancy.specs.Engine.{too_short}
 use Rattle.relevancy.specs.Sessions.{begun, resumed}
 use Rattle.staged.specs.Engine.{staged_outcome}
-use Rattle.rewriting.specs.declared.rewrite.Rewriting.{Rewriting}
-use Rattle.rewriting.specs.declared.rewrite.Rewriting.TheVariants as rewriting
 use Rattle.rewriting.specs.Rules.{rewriting_of}
 use Rattle.rewriting.specs.RulesLayout.{rules_layout}
 use Rattle.rewriting.specs.Facts.{find_in}
@@ -82,30 +75,22 @@ abbrev Value : ℕ → Type 0
 Value n = n < 4294967296
 
 abbrev pub NarrowReading : Reading → Type 0
-NarrowReading (reading.Refused e line) = Number e × Value line
-NarrowReading reading.Accepted = Unit
+NarrowReading (Err r) = Number (fault_number r.fault) × Value r.line
+NarrowReading (Ok u) = Unit
 
-abbrev pub NarrowWriting : Writing → Type 0
-NarrowWriting (writing.Unwritten e) = Number e
-NarrowWriting (writing.Written n) = Value n
-
-abbrev pub NarrowOffering : Offering → Type 0
-NarrowOffering (offering.Refused e) = Number e
-NarrowOffering offering.Done = Unit
+-- of a number or a refusal
+abbrev pub NarrowValue : Result ℕ Fault → Type 0
+NarrowValue (Err e) = Unit
+NarrowValue (Ok n) = Value n
 
 -- each of the values 80 to 83 in a byte of its own
-abbrev pub NarrowJudging : Judging → Type 0
-NarrowJudging (judging.Unjudged e) = Number e
-NarrowJudging judging.Model = Unit
-NarrowJudging (judging.Violated k a b c d) = (k < 256) × All (λ x. x < 256) (d ∷ c ∷ b ∷ a ∷ [])
+abbrev pub NarrowJudgement : Judgement → Type 0
+NarrowJudgement judging.Model = Unit
+NarrowJudgement (judging.Violated k a b c d) = (k < 256) × All (λ x. x < 256) (d ∷ c ∷ b ∷ a ∷ [])
 
-abbrev pub NarrowHolding : Holding → Type 0
-NarrowHolding (holding.Unheld e) = Number e
-NarrowHolding (holding.Held n) = Value n
-
-abbrev pub NarrowRewriting : Rewriting → Type 0
-NarrowRewriting (rewriting.Refused e) = Number e
-NarrowRewriting (rewriting.Rewritten n) = Value n
+abbrev pub NarrowJudging : Result Judgement Fault → Type 0
+NarrowJudging (Err e) = Unit
+NarrowJudging (Ok j) = NarrowJudgement j
 
 -- what an operation says: 11, then 31, then what it is for
 said : {R : Type 0} (P : R → Type 0) (short valid : Bool) (x y z : R) → P x → (valid ≡ true → P y) → P z → P (cond short x (cond valid y z))
@@ -129,40 +114,15 @@ narrow_reading x tb = short (ltb (length tb) 4096)
     told (refused e line) s = let r = parse_refuses x e line s in ((omega arith, omega arith), omega arith)
     told (parsed q) s = tt
 
-    short : (b : Bool) → NarrowReading (cond b (reading.Refused 11 0) (reading_of (parse x)))
+    short : (b : Bool) → NarrowReading (cond b (Err (record { fault = ShortBuffer; line = 0 })) (reading_of (parse x)))
     short true = (number_11, omega arith)
     short false = told (parse x) refl
 
-pub narrow_writing : (tb out : List ℕ) → NarrowWriting (write_result tb out)
+pub narrow_writing : (tb out : List ℕ) → NarrowValue (write_result tb out)
 unfolding write_result print
 narrow_writing tb out =
-    said NarrowWriting (ltb (length tb) 4096 || ltb (length out) 7168) (is_valid (take 4096 tb)) (writing.Unwritten 11) (writing.Written (length (print (take 4096 tb)))) (writing.Unwritten 31)
-    number_11 (λ v. omega (arith, text_short (problem_in (take 4096 tb)) (valid_table (take 4096 tb) v).fits)) number_31
-
--- ---- an offer, and what is set
-
--- one of a few numbers
-abbrev is_number : ℕ → Bool
-is_number e = ltb 0 e && ltb e 256
-
-number_of : (numbers : List ℕ) → T (every is_number numbers) → (e : ℕ) → In nat_key numbers e → Number e
-number_of numbers each e h =
-    let t : T (is_number e) = has_all nat_key (λ n. T (is_number n)) numbers (every-All is_number numbers each) e h in
-    (ltb→lt 0 e (T_left (ltb 0 e) (ltb e 256) t), ltb→lt e 256 (T_right (ltb 0 e) (ltb e 256) t))
-
-pub narrow_offer : (tb f slip : List ℕ) → NarrowOffering (offer_result tb f slip)
-narrow_offer tb f slip = go (offer_result tb f slip) refl
-  where
-    go : (o : Offering) → offer_result tb f slip ≡ o → NarrowOffering o
-    go (offering.Refused e) q = number_of (11 ∷ 31 ∷ clause_refusals) tt e (offerings.refusals tb f slip e q)
-    go offering.Done q = tt
-
-pub narrow_set : (tb slip : List ℕ) → NarrowOffering (set_result tb slip)
-narrow_set tb slip = go (set_result tb slip) refl
-  where
-    go : (o : Offering) → set_result tb slip ≡ o → NarrowOffering o
-    go (offering.Refused e) q = number_of (11 ∷ 31 ∷ 43 ∷ clause_refusals) tt e (offerings.set_refusals tb slip e q)
-    go offering.Done q = tt
+    said NarrowValue (ltb (length tb) 4096 || ltb (length out) 7168) (is_valid (take 4096 tb)) (Err ShortBuffer) (Ok (length (print (take 4096 tb)))) (Err NoTable)
+    tt (λ v. omega (arith, text_short (problem_in (take 4096 tb)) (valid_table (take 4096 tb) v).fits)) tt
 
 -- ---- a violated instance
 
@@ -171,17 +131,17 @@ at_all P [] i z a = z
 at_all P (x ∷ xs) zero z a = a.0
 at_all P (x ∷ xs) (suc i) z a = at_all P xs i z a.1
 
-narrow_check : (q : Problem) → Fits q → (answer : List ℕ) → NarrowJudging (check_of q answer)
+narrow_check : (q : Problem) → Fits q → (answer : List ℕ) → NarrowJudgement (check_of q answer)
 unfolding check_of
 narrow_check q fits answer = go (first (violates q answer) (ground_of q).instances) refl
   where
-    named_narrow : (i : Instance) → InstanceOf q i → NarrowJudging (named (some i))
+    named_narrow : (i : Instance) → InstanceOf q i → NarrowJudgement (named (some i))
     named_narrow i o =
         let small : All (λ x. x < 256) i.values = all_map (λ x. x < q.constants) (λ x. x < 256) (λ x l. omega (arith, fits.constants_fit)) i.values o.constants in
         let each : (n : ℕ) → get_or i.values n 0 < 256 = λ n. at_all (λ x. x < 256) i.values n (omega arith) small in
         (omega (arith, o.known, fits.clauses_fit), (each 3, (each 2, (each 1, (each 0, tt)))))
 
-    go : (o : Option Instance) → first (violates q answer) (ground_of q).instances ≡ o → NarrowJudging (named o)
+    go : (o : Option Instance) → first (violates q answer) (ground_of q).instances ≡ o → NarrowJudgement (named o)
     go none e = tt
     go (some i) e =
         named_narrow i
@@ -189,33 +149,33 @@ narrow_check q fits answer = go (first (violates q answer) (ground_of q).instanc
         (all_map (InstanceOf q) (λ j. T (violates q answer j) → InstanceOf q j) (λ j o t. o) (ground_of q).instances (instances_are q)) i e)
 
 -- what a judge says: 11, 31, 32, or by the problem
-judged : {R : Type 0} (P : R → Type 0) (tb answer : List ℕ) (f : ℕ → R) (g : Problem → R) → ((e : ℕ) → Number e → P (f e)) → ((q : Problem) → Fits q → P (g q)) → P (judgeable tb answer f g)
+judged : {R : Type 0} (P : R → Type 0) (tb answer : List ℕ) (f : Fault → R) (g : Problem → R) → ((e : Fault) → P (f e)) → ((q : Problem) → Fits q → P (g q)) → P (judgeable tb answer f g)
 judged {R} P tb answer f g small fit =
     let q = problem_in (take 4096 tb) in
     let marked = every (λ b. ltb b 2) (take (atom_count q.constants q.arities) answer) in
-    said P (ltb (length tb) 4096 || ltb (length answer) 1024) (is_valid (take 4096 tb)) (f 11) (cond marked (g q) (f 32)) (f 31)
-    (small 11 number_11) (λ v. bits marked (fit q (valid_table (take 4096 tb) v).fits)) (small 31 number_31)
+    said P (ltb (length tb) 4096 || ltb (length answer) 1024) (is_valid (take 4096 tb)) (f ShortBuffer) (cond marked (g q) (f BadAnswer)) (f NoTable)
+    (small ShortBuffer) (λ v. bits marked (fit q (valid_table (take 4096 tb) v).fits)) (small NoTable)
   where
-    bits : (b : Bool) → P (g (problem_in (take 4096 tb))) → P (cond b (g (problem_in (take 4096 tb))) (f 32))
+    bits : (b : Bool) → P (g (problem_in (take 4096 tb))) → P (cond b (g (problem_in (take 4096 tb))) (f BadAnswer))
     bits true h = h
-    bits false h = small 32 (omega arith, omega arith)
+    bits false h = small BadAnswer
 
 pub narrow_judging : (tb answer : List ℕ) → NarrowJudging (judge_result tb answer)
 unfolding judge_result
-narrow_judging tb answer = judged NarrowJudging tb answer (λ e. judging.Unjudged e) (λ q. check_of q answer) (λ e h. h) (λ q fits. narrow_check q fits answer)
+narrow_judging tb answer = judged NarrowJudging tb answer Err (λ q. Ok (check_of q answer)) (λ e. tt) (λ q fits. narrow_check q fits answer)
 
 -- ---- the conditions that hold
 
-pub narrow_holding : (tb answer : List ℕ) (k a b c d : ℕ) → NarrowHolding (holding_result tb answer k a b c d)
+pub narrow_holding : (tb answer : List ℕ) (k a b c d : ℕ) → NarrowValue (holding_result tb answer k a b c d)
 unfolding holding_result
 narrow_holding tb answer k a b c d =
-    judged NarrowHolding tb answer (λ e. holding.Unheld e) (λ q. holding_named q answer k (a ∷ b ∷ c ∷ d ∷ [])) (λ e h. h)
+    judged NarrowValue tb answer Err (λ q. holding_named q answer k (a ∷ b ∷ c ∷ d ∷ [])) (λ e. tt)
     (λ q fits. go q (is_named q k (a ∷ b ∷ c ∷ d ∷ [])) (λ t. holding_few q fits k (a ∷ b ∷ c ∷ d ∷ []) answer t))
   where
     go : (q : Problem) (t : Bool) → (T t → holding_of q answer (instance_named q k (a ∷ b ∷ c ∷ d ∷ [])) ≤ 4)
-        → NarrowHolding (cond t (holding.Held (holding_of q answer (instance_named q k (a ∷ b ∷ c ∷ d ∷ [])))) (holding.Unheld 44))
+        → NarrowValue (cond t (Ok (holding_of q answer (instance_named q k (a ∷ b ∷ c ∷ d ∷ [])))) (Err NoInstance))
     go q true h = omega (arith, h tt)
-    go q false h = (omega arith, omega arith)
+    go q false h = tt
 
 -- ---- a run: its count, and its deepest figure
 
@@ -347,9 +307,9 @@ module _ (tb answer work : List ℕ) where
 
 -- ---- the rules
 
-pub narrow_rewriting : (tb rules : List ℕ) → NarrowRewriting (rewrite_result tb rules)
+pub narrow_rewriting : (tb rules : List ℕ) → NarrowValue (rewrite_result tb rules)
 unfolding rewrite_result
 narrow_rewriting tb rules =
-    said NarrowRewriting (ltb (length tb) 4096 || ltb (length rules) 16384) (is_valid (take 4096 tb)) (rewriting.Refused 11)
-    (rewriting.Rewritten (length (rewriting_of (problem_in (take 4096 tb))))) (rewriting.Refused 31)
-    number_11 (λ v. omega (arith, rules_count (problem_in (take 4096 tb)) (valid_table (take 4096 tb) v).fits)) number_31
+    said NarrowValue (ltb (length tb) 4096 || ltb (length rules) 16384) (is_valid (take 4096 tb)) (Err ShortBuffer)
+    (Ok (length (rewriting_of (problem_in (take 4096 tb))))) (Err NoTable)
+    tt (λ v. omega (arith, rules_count (problem_in (take 4096 tb)) (valid_table (take 4096 tb) v).fits)) tt

@@ -16,27 +16,22 @@ use Rattle.problem.specs.Problem.{limit_of}
 use Rattle.problem.specs.Layout.{problem_in}
 use Rattle.problem.specs.Table.{is_valid}
 use Rattle.problem.specs.Numbers.{Numbers, refused_at, answered}
-use Rattle.reading.specs.declared.read.Reading.{Reading}
-use Rattle.reading.specs.declared.read.Reading.TheVariants as reading
-use Rattle.reading.specs.Read.{read_result}
-use Rattle.writing.specs.declared.write.Writing.{Writing}
-use Rattle.writing.specs.declared.write.Writing.TheVariants as writing
+use Rattle.std.specs.Prelude.{Result, Ok, Err}
+use Rattle.problem.specs.declared.fault.Fault.{Fault}
+use Rattle.problem.specs.declared.fault.Fault.TheVariants.{BadLine, BadKind, BadLength, BadVersion, BadCount, Unknown, BadNumbering, FreeVariable, TooManyAtoms, TooManyMarks, ShortBuffer, NoTable, BadAnswer, TooManyEntries, NoSession, StaleSlip, NoInstance, BadFacts}
+use Rattle.problem.specs.Faults.{fault_number}
+use Rattle.problem.proofs.Faults.{fault_back}
+use Rattle.reading.specs.Read.{Reading, read_result}
 use Rattle.writing.specs.Write.{write_result}
-use Rattle.offering.specs.declared.offer.Offering.{Offering}
-use Rattle.offering.specs.declared.offer.Offering.TheVariants as offering
-use Rattle.offering.specs.Offer.{offer_result, set_result}
+use Rattle.offering.specs.Offer.{Offering, offer_result, set_result}
 use Rattle.ground.specs.declared.verdict.Verdict.{Verdict}
 use Rattle.ground.specs.declared.verdict.Verdict.TheVariants as verdict
 use Rattle.ground.specs.Verdict.{verdict_of}
 use Rattle.ground.specs.Instance.{ground_in}
-use Rattle.judging.specs.declared.judge.Judging.{Judging}
-use Rattle.judging.specs.declared.judge.Judging.TheVariants as judging
+use Rattle.judging.specs.declared.judge.Judgement.{Judgement}
+use Rattle.judging.specs.declared.judge.Judgement.TheVariants as judging
 use Rattle.judging.specs.ModelCheck.{judge_result, judging_numbers}
-use Rattle.judging.specs.declared.how_far.Holding.{Holding}
-use Rattle.judging.specs.declared.how_far.Holding.TheVariants as holding
 use Rattle.judging.specs.Holding.{holding_result}
-use Rattle.rewriting.specs.declared.rewrite.Rewriting.{Rewriting}
-use Rattle.rewriting.specs.declared.rewrite.Rewriting.TheVariants as rewriting
 use Rattle.rewriting.specs.Rewrite.{rewrite_result}
 use Rattle.session.specs.Calls.{screened, verdict_told, deepest_told}
 use Rattle.relevancy.specs.Engine.{too_short}
@@ -45,12 +40,12 @@ use Rattle.relevancy.proofs.Theorems.{theorems as relevancy}
 use Rattle.staged.specs.Engine.{staged_outcome, staged_result}
 use Rattle.magic.specs.Sessions.{magic_begun, magic_resumed}
 use Rattle.magic.proofs.Theorems.{theorems as magic}
-use Rattle.lutsamik.specs.Pack.{packed, pack_reading, pack_writing, pack_offering, pack_judging, pack_holding, with_deepest, pack_verdict, pack_rewriting, unpacked, as_reading, as_writing, as_offering, violated_by, as_judging, as_holding, verdict_by, as_verdict, as_rewriting}
+use Rattle.lutsamik.specs.Pack.{pack_value, as_value, packed, pack_reading, pack_offering, pack_judging, with_deepest, pack_verdict, unpacked, as_reading, as_offering, violated_by, as_judging, verdict_by, as_verdict}
 use Rattle.lutsamik.specs.Claims.{Narrow, VerdictBack, Theorems}
 use Rattle.lutsamik.proofs.AssumeLaws.{relevancy_assumed_back, magic_assumed_back}
 use Rattle.lutsamik.proofs.PartsLaws.{parted_back}
 use Rattle.lutsamik.proofs.StagedLaws.{figure_none, staged_told}
-use Rattle.lutsamik.proofs.Narrow.{NarrowReading, NarrowWriting, NarrowOffering, NarrowJudging, NarrowHolding, NarrowCall, NarrowRewriting, narrow_reading, narrow_writing, narrow_offer, narrow_set, narrow_judging, narrow_holding, narrow_begun, narrow_resumed, narrow_staged, narrow_magic_begun, narrow_magic_resumed, narrow_rewriting}
+use Rattle.lutsamik.proofs.Narrow.{NarrowReading, NarrowValue, NarrowJudging, NarrowCall, narrow_reading, narrow_writing, narrow_judging, narrow_holding, narrow_begun, narrow_resumed, narrow_staged, narrow_magic_begun, narrow_magic_resumed, narrow_rewriting}
 
 -- a part of a number, between what stands above it and what stands below
 part : (n above w q m below : ℕ) → n ≡ (above * w + q) * m + below → q < w → below < m → n / m % w ≡ q
@@ -76,31 +71,52 @@ answered-Narrow number value h l = record { refusal = omega arith; number = h; c
 -- ---- each answer is what its numbers say
 
 reading_back : (r : Reading) → NarrowReading r → as_reading (unpacked (pack_reading r)) ≡ r
-reading_back (reading.Refused e line) h =
-    ap as_reading (parts_back (refused_at e line) (refused_narrow e line h.0.1 h.1)) ∙ rw (ne_eqb e 0 (omega arith))
-reading_back reading.Accepted h = refl
+reading_back (Err r) h =
+    let e = fault_number r.fault in
+    ap as_reading (parts_back (refused_at e r.line) (refused_narrow e r.line h.0.1 h.1)) ∙ rw (ne_eqb e 0 (omega (arith, h.0.0)), fault_back r.fault)
+reading_back (Ok u) h = refl
 
-writing_back : (w : Writing) → NarrowWriting w → as_writing (unpacked (pack_writing w)) ≡ w
-writing_back (writing.Unwritten e) h = ap as_writing (parts_back (refused_at e 0) (refused_narrow e 0 h.1 (omega arith))) ∙ rw (ne_eqb e 0 (omega arith))
-writing_back (writing.Written n) h = ap as_writing (parts_back (answered 0 n) (answered-Narrow 0 n (omega arith) h))
+-- a refusal's number has room, and names it
+fault_small : (e : Fault) → (0 < fault_number e) × (fault_number e < 256)
+fault_small BadLine = (omega arith, omega arith)
+fault_small BadKind = (omega arith, omega arith)
+fault_small BadLength = (omega arith, omega arith)
+fault_small BadVersion = (omega arith, omega arith)
+fault_small BadCount = (omega arith, omega arith)
+fault_small Unknown = (omega arith, omega arith)
+fault_small BadNumbering = (omega arith, omega arith)
+fault_small FreeVariable = (omega arith, omega arith)
+fault_small TooManyAtoms = (omega arith, omega arith)
+fault_small TooManyMarks = (omega arith, omega arith)
+fault_small ShortBuffer = (omega arith, omega arith)
+fault_small NoTable = (omega arith, omega arith)
+fault_small BadAnswer = (omega arith, omega arith)
+fault_small TooManyEntries = (omega arith, omega arith)
+fault_small NoSession = (omega arith, omega arith)
+fault_small StaleSlip = (omega arith, omega arith)
+fault_small NoInstance = (omega arith, omega arith)
+fault_small BadFacts = (omega arith, omega arith)
 
-offering_back : (o : Offering) → NarrowOffering o → as_offering (unpacked (pack_offering o)) ≡ o
-offering_back (offering.Refused e) h = ap as_offering (parts_back (refused_at e 0) (refused_narrow e 0 h.1 (omega arith))) ∙ rw (ne_eqb e 0 (omega arith))
-offering_back offering.Done h = refl
+fault_told : (e : Fault) → unpacked (packed (refused_at (fault_number e) 0)) ≡ refused_at (fault_number e) 0
+fault_told e = parts_back (refused_at (fault_number e) 0) (refused_narrow (fault_number e) 0 (fault_small e).1 (omega arith))
 
-judging_back : (j : Judging) → NarrowJudging j → as_judging (unpacked (pack_judging j)) ≡ j
-judging_back (judging.Unjudged e) h = ap as_judging (parts_back (refused_at e 0) (refused_narrow e 0 h.1 (omega arith))) ∙ rw (ne_eqb e 0 (omega arith))
-judging_back judging.Model h = refl
-judging_back (judging.Violated k a b c d) h =
+value_back : (r : Result ℕ Fault) → NarrowValue r → as_value (unpacked (pack_value r)) ≡ r
+value_back (Err e) h = ap as_value (fault_told e) ∙ rw (ne_eqb (fault_number e) 0 (omega (arith, fault_small e)), fault_back e)
+value_back (Ok n) h = ap as_value (parts_back (answered 0 n) (answered-Narrow 0 n (omega arith) h))
+
+offering_back : (o : Offering) → as_offering (unpacked (pack_offering o)) ≡ o
+offering_back (Err e) = ap as_offering (fault_told e) ∙ rw (ne_eqb (fault_number e) 0 (omega (arith, fault_small e)), fault_back e)
+offering_back (Ok u) = refl
+
+judging_back : (j : Result Judgement Fault) → NarrowJudging j → as_judging (unpacked (pack_judging j)) ≡ j
+judging_back (Err e) h = ap as_judging (fault_told e) ∙ rw (ne_eqb (fault_number e) 0 (omega (arith, fault_small e)), fault_back e)
+judging_back (Ok judging.Model) h = refl
+judging_back (Ok (judging.Violated k a b c d)) h =
     let values = d ∷ c ∷ b ∷ a ∷ [] in
     ap as_judging
-    (parts_back (judging_numbers (judging.Violated k a b c d))
+    (parts_back (judging_numbers (Ok (judging.Violated k a b c d)))
     (record { refusal = omega arith; number = omega arith; clause = h.0; value = horner_below 256 values h.1 }))
-    ∙ ap (violated_by k) (digits_horner 256 values h.1)
-
-holding_back : (r : Holding) → NarrowHolding r → as_holding (unpacked (pack_holding r)) ≡ r
-holding_back (holding.Unheld e) h = ap as_holding (parts_back (refused_at e 0) (refused_narrow e 0 h.1 (omega arith))) ∙ rw (ne_eqb e 0 (omega arith))
-holding_back (holding.Held n) h = ap as_holding (parts_back (answered 0 n) (answered-Narrow 0 n (omega arith) h))
+    ∙ ap (λ (vs : List ℕ). Ok (violated_by k vs)) (digits_horner 256 values h.1)
 
 -- a number, a count and a figure
 told_back : (v : Verdict) (k n d : ℕ) → pack_verdict v d ≡ with_deepest (answered k n) d → v ≡ verdict_by k n → k < 256 → n < 4294967296 → d < 65536 → VerdictBack v d
@@ -140,21 +156,17 @@ staged_back tb answer work =
     subst (λ (v : Verdict). VerdictBack v 0) (staged_told tb answer work s)
     (alone_back (screened (too_short tb answer work) (is_valid t) (told (staged_outcome t) s)) (narrow_staged tb answer work))
 
-rewriting_back : (r : Rewriting) → NarrowRewriting r → as_rewriting (unpacked (pack_rewriting r)) ≡ r
-rewriting_back (rewriting.Refused e) h = ap as_rewriting (parts_back (refused_at e 0) (refused_narrow e 0 h.1 (omega arith))) ∙ rw (ne_eqb e 0 (omega arith))
-rewriting_back (rewriting.Rewritten n) h = ap as_rewriting (parts_back (answered 0 n) (answered-Narrow 0 n (omega arith) h))
-
 pub theorems : Theorems
 theorems =
     record {
       parts_back = parts_back;
       reading_back = λ x tb. reading_back (read_result x tb) (narrow_reading x tb);
-      writing_back = λ tb out. writing_back (write_result tb out) (narrow_writing tb out);
-      offer_back = λ tb f slip. offering_back (offer_result tb f slip) (narrow_offer tb f slip);
-      set_back = λ tb slip. offering_back (set_result tb slip) (narrow_set tb slip);
+      writing_back = λ tb out. value_back (write_result tb out) (narrow_writing tb out);
+      offer_back = λ tb f slip. offering_back (offer_result tb f slip);
+      set_back = λ tb slip. offering_back (set_result tb slip);
       judging_back = λ tb answer. judging_back (judge_result tb answer) (narrow_judging tb answer);
-      holding_back = λ tb answer k a b c d. holding_back (holding_result tb answer k a b c d) (narrow_holding tb answer k a b c d);
-      rewriting_back = λ tb rules. rewriting_back (rewrite_result tb rules) (narrow_rewriting tb rules);
+      holding_back = λ tb answer k a b c d. value_back (holding_result tb answer k a b c d) (narrow_holding tb answer k a b c d);
+      rewriting_back = λ tb rules. value_back (rewrite_result tb rules) (narrow_rewriting tb rules);
       relevancy_back = λ tb answer work.
           rw (← (relevancy.begun_same tb answer work).0, ← (relevancy.begun_shows tb answer work)) (call_back (begun tb answer work) (narrow_begun tb answer work));
       magic_back = λ tb rules answer work.

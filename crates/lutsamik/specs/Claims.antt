@@ -18,7 +18,7 @@ use Rattle.magic.specs.Sessions.{magic_resumed}
 use Rattle.assuming.specs.Assume.{assumed_of}
 use Rattle.assuming.specs.Engines.{relevancy_runs, magic_runs}
 use Rattle.parting.specs.Runs.{parts_result}
-use Rattle.lutsamik.specs.Pack.{packed, pack_reading, pack_writing, pack_offering, pack_judging, pack_holding, pack_verdict, pack_staged, pack_rewriting, pack_assumed, pack_parting, unpacked, deepest_of, as_reading, as_writing, as_offering, as_judging, as_holding, as_verdict, as_rewriting, as_assumed, as_parting}
+use Rattle.lutsamik.specs.Pack.{packed, pack_reading, pack_value, pack_offering, pack_judging, pack_verdict, pack_staged, pack_assumed, pack_parting, unpacked, deepest_of, as_reading, as_value, as_offering, as_judging, as_verdict, as_assumed, as_parting}
 
 -- numbers that have room in their bits
 pub record Narrow (a : Numbers) : Type 0 where
@@ -35,12 +35,12 @@ pub record VerdictBack (v : Verdict) (d : ℕ) : Type 0 where
 pub record Theorems : Type 0 where
   pub parts_back : (a : Numbers) → Narrow a → unpacked (packed a) ≡ a
   pub reading_back : (x tb : List ℕ) → as_reading (unpacked (pack_reading (read_result x tb))) ≡ read_result x tb
-  pub writing_back : (tb out : List ℕ) → as_writing (unpacked (pack_writing (write_result tb out))) ≡ write_result tb out
+  pub writing_back : (tb out : List ℕ) → as_value (unpacked (pack_value (write_result tb out))) ≡ write_result tb out
   pub offer_back : (tb f slip : List ℕ) → as_offering (unpacked (pack_offering (offer_result tb f slip))) ≡ offer_result tb f slip
   pub set_back : (tb slip : List ℕ) → as_offering (unpacked (pack_offering (set_result tb slip))) ≡ set_result tb slip
   pub judging_back : (tb answer : List ℕ) → as_judging (unpacked (pack_judging (judge_result tb answer))) ≡ judge_result tb answer
-  pub holding_back : (tb answer : List ℕ) (k a b c d : ℕ) → as_holding (unpacked (pack_holding (holding_result tb answer k a b c d))) ≡ holding_result tb answer k a b c d
-  pub rewriting_back : (tb rules : List ℕ) → as_rewriting (unpacked (pack_rewriting (rewrite_result tb rules))) ≡ rewrite_result tb rules
+  pub holding_back : (tb answer : List ℕ) (k a b c d : ℕ) → as_value (unpacked (pack_value (holding_result tb answer k a b c d))) ≡ holding_result tb answer k a b c d
+  pub rewriting_back : (tb rules : List ℕ) → as_value (unpacked (pack_value (rewrite_result tb rules))) ≡ rewrite_result tb rules
   -- an engine's verdict, and its deepest figure, which is 0 where it is refused
   pub relevancy_back : (tb answer work : List ℕ) → VerdictBack (fit_result tb answer work) (fit_deepest tb answer work)
   pub magic_back : (tb rules answer work : List ℕ) → VerdictBack (magic_result tb rules answer work) (magic_deepest tb rules answer work)

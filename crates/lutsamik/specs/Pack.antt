@@ -1,26 +1,15 @@
 -- An operation's answer as one number: bits 0 to 7 the refusal's number, 0 where there is none; bits 8 to 15 the number of what is answered; bits 24 to 31 the clause
 -- that it names; bits 32 to 63 the value that goes with it. Of an engine's verdict, bits 16 to 31 are the deepest figure.
-use Rattle.std.specs.Prelude.{ℕ, zero, suc, ◌+◌, ◌*◌, ◌/◌, ◌%◌, cond, List, eqb, get_or}
+use Rattle.std.specs.Prelude.{ℕ, zero, suc, ◌+◌, ◌*◌, ◌/◌, ◌%◌, cond, List, eqb, get_or, Result, Ok, Err}
 use Rattle.lists.specs.Digits.{bytes_of}
-use Rattle.problem.specs.Numbers.{Numbers}
-use Rattle.reading.specs.declared.read.Reading.{Reading}
-use Rattle.reading.specs.declared.read.Reading.TheVariants as reading
-use Rattle.reading.specs.Read.{reading_numbers}
-use Rattle.writing.specs.declared.write.Writing.{Writing}
-use Rattle.writing.specs.declared.write.Writing.TheVariants as writing
-use Rattle.writing.specs.Write.{writing_numbers}
-use Rattle.offering.specs.declared.offer.Offering.{Offering}
-use Rattle.offering.specs.declared.offer.Offering.TheVariants as offering
-use Rattle.offering.specs.Offer.{offering_numbers}
-use Rattle.judging.specs.declared.judge.Judging.{Judging}
-use Rattle.judging.specs.declared.judge.Judging.TheVariants as judging
+use Rattle.problem.specs.declared.fault.Fault.{Fault}
+use Rattle.problem.specs.Faults.{fault_number, fault_of}
+use Rattle.problem.specs.Numbers.{Numbers, refused_as, answered}
+use Rattle.reading.specs.Read.{Reading, reading_numbers}
+use Rattle.offering.specs.Offer.{Offering, offering_numbers}
+use Rattle.judging.specs.declared.judge.Judgement.{Judgement}
+use Rattle.judging.specs.declared.judge.Judgement.TheVariants as judging
 use Rattle.judging.specs.ModelCheck.{judging_numbers}
-use Rattle.judging.specs.declared.how_far.Holding.{Holding}
-use Rattle.judging.specs.declared.how_far.Holding.TheVariants as holding
-use Rattle.judging.specs.Holding.{holding_numbers}
-use Rattle.rewriting.specs.declared.rewrite.Rewriting.{Rewriting}
-use Rattle.rewriting.specs.declared.rewrite.Rewriting.TheVariants as rewriting
-use Rattle.rewriting.specs.Rewrite.{rewriting_numbers}
 use Rattle.ground.specs.declared.verdict.Verdict.{Verdict}
 use Rattle.ground.specs.declared.verdict.Verdict.TheVariants as verdict
 use Rattle.ground.specs.Verdict.{verdict_numbers}
@@ -37,17 +26,16 @@ packed a = a.refusal + 256 * a.number + 16777216 * a.clause + 4294967296 * a.val
 abbrev pub pack_reading : Reading → ℕ
 pack_reading r = packed (reading_numbers r)
 
-abbrev pub pack_writing : Writing → ℕ
-pack_writing w = packed (writing_numbers w)
+-- a number, or a refusal: what writing, rewriting and asking how far an instance holds answer
+abbrev pub pack_value : Result ℕ Fault → ℕ
+pack_value (Err e) = packed (refused_as (fault_number e))
+pack_value (Ok n) = packed (answered 0 n)
 
 abbrev pub pack_offering : Offering → ℕ
 pack_offering o = packed (offering_numbers o)
 
-abbrev pub pack_judging : Judging → ℕ
+abbrev pub pack_judging : Result Judgement Fault → ℕ
 pack_judging j = packed (judging_numbers j)
-
-abbrev pub pack_holding : Holding → ℕ
-pack_holding h = packed (holding_numbers h)
 
 -- the figure of a verdict's answer beside its numbers, which leave these bits free
 abbrev pub with_deepest : Numbers → ℕ → ℕ
@@ -62,9 +50,6 @@ pack_verdict (verdict.Exhausted n) d = with_deepest (verdict_numbers (verdict.Ex
 -- a verdict without a figure: the staged engine's
 abbrev pub pack_staged : Verdict → ℕ
 pack_staged v = packed (verdict_numbers v)
-
-abbrev pub pack_rewriting : Rewriting → ℕ
-pack_rewriting r = packed (rewriting_numbers r)
 
 abbrev pub pack_assumed : Assumed → ℕ
 pack_assumed a = packed (assumed_numbers a)
@@ -82,26 +67,20 @@ abbrev pub deepest_of : ℕ → ℕ
 deepest_of n = n / 65536 % 65536
 
 abbrev pub as_reading : Numbers → Reading
-as_reading a = cond (eqb a.refusal 0) reading.Accepted (reading.Refused a.refusal a.value)
+as_reading a = cond (eqb a.refusal 0) (Ok tt) (Err (record { fault = fault_of a.refusal; line = a.value }))
 
-abbrev pub as_writing : Numbers → Writing
-as_writing a = cond (eqb a.refusal 0) (writing.Written a.value) (writing.Unwritten a.refusal)
+abbrev pub as_value : Numbers → Result ℕ Fault
+as_value a = cond (eqb a.refusal 0) (Ok a.value) (Err (fault_of a.refusal))
 
 abbrev pub as_offering : Numbers → Offering
-as_offering a = cond (eqb a.refusal 0) offering.Done (offering.Refused a.refusal)
+as_offering a = cond (eqb a.refusal 0) (Ok tt) (Err (fault_of a.refusal))
 
 -- clause k with the values of 83, 82, 81 and 80
-abbrev pub violated_by : ℕ → List ℕ → Judging
+abbrev pub violated_by : ℕ → List ℕ → Judgement
 violated_by k values = judging.Violated k (get_or values 3 0) (get_or values 2 0) (get_or values 1 0) (get_or values 0 0)
 
-abbrev pub as_judging : Numbers → Judging
-as_judging a =
-    cond (eqb a.refusal 0)
-    (cond (eqb a.number 1) judging.Model (violated_by a.clause (bytes_of 4 a.value)))
-    (judging.Unjudged a.refusal)
-
-abbrev pub as_holding : Numbers → Holding
-as_holding a = cond (eqb a.refusal 0) (holding.Held a.value) (holding.Unheld a.refusal)
+abbrev pub as_judging : Numbers → Result Judgement Fault
+as_judging a = cond (eqb a.refusal 0) (Ok (cond (eqb a.number 1) judging.Model (violated_by a.clause (bytes_of 4 a.value)))) (Err (fault_of a.refusal))
 
 abbrev pub verdict_by : ℕ → ℕ → Verdict
 verdict_by zero n = verdict.Refuted n
@@ -110,9 +89,6 @@ verdict_by (suc (suc k)) n = verdict.Exhausted n
 
 abbrev pub as_verdict : Numbers → Verdict
 as_verdict a = cond (eqb a.refusal 0) (verdict_by a.number a.value) (verdict.Refused a.refusal)
-
-abbrev pub as_rewriting : Numbers → Rewriting
-as_rewriting a = cond (eqb a.refusal 0) (rewriting.Rewritten a.value) (rewriting.Refused a.refusal)
 
 abbrev pub assumed_by : ℕ → Assumed
 assumed_by zero = assumed.Always

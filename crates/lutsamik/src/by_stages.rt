@@ -18,5 +18,5 @@ fn pack_staged(v: Verdict) -> u64
 pub extern "C" fn lutsamik_fit_staged(table: &[u8], answer: &mut [u8], work: &mut [u8]) -> u64
     ensures { (result ≡ pack_staged (staged_result table.now answer.old work.old)) × (answer.new ≡ staged_answer table.now answer.old work.old) × (work.new ≡ fit_work table.now answer.old work.old) }
 {
-    pack_staged(staged::engine::fit(table, answer, work))
+    pack_staged(staged::fit::fit(table, answer, work))
 }

@@ -16,16 +16,12 @@ ghost use Rattle.judging.specs.Holding.{holding_result};
 ghost use Rattle.relevancy.specs.Engine.{fit_result, fit_deepest, fit_answer, fit_work};
 ghost use Rattle.magic.specs.Engine.{magic_result, magic_deepest, magic_rules, magic_answer, magic_work};
 ghost use Rattle.rewriting.specs.Rewrite.{rewrite_result, rewrite_leaves};
-ghost use Rattle.lutsamik.specs.Pack.{packed, pack_reading, pack_writing, pack_offering, pack_judging, pack_holding, with_deepest, pack_verdict, pack_rewriting};
+ghost use Rattle.lutsamik.specs.Pack.{packed, pack_reading, pack_value, pack_offering, pack_judging, with_deepest, pack_verdict};
 
 use ground::verdict::{Verdict, number_of};
-use judging::how_far::Holding;
-use judging::judge::Judging;
-use offering::offer::Offering;
-use reading::read::Reading;
-use rewriting::rewrite::Rewriting;
+use judging::judge::Judgement;
+use problem::fault::{Fault, Refusal};
 use session::record::Reply;
-use writing::write::Writing;
 
 // An answer's numbers as one.
 fn packed(refusal: u8, number: u8, clause: u8, value: u32) -> u64
@@ -37,49 +33,50 @@ fn packed(refusal: u8, number: u8, clause: u8, value: u32) -> u64
         + 4294967296 * (value as u64)
 }
 
-fn pack_reading(r: Reading) -> u64
+fn pack_reading(r: Result<(), Refusal>) -> u64
     ensures { result ≡ pack_reading r }
 {
     match r {
-        Reading::Refused(e, line) => packed(e, 0, 0, line as u32),
-        Reading::Accepted => packed(0, 0, 0, 0),
+        Err(refusal) => packed(refusal.fault.number(), 0, 0, refusal.line as u32),
+        Ok(()) => packed(0, 0, 0, 0),
     }
 }
 
-fn pack_writing(w: Writing) -> u64
-    ensures { result ≡ pack_writing w }
+// A count, or the refusal.
+fn pack_count(r: Result<u16, Fault>) -> u64
+    ensures { result ≡ pack_value r }
 {
-    match w {
-        Writing::Unwritten(e) => packed(e, 0, 0, 0),
-        Writing::Written(size) => packed(0, 0, 0, size as u32),
+    match r {
+        Err(fault) => packed(fault.number(), 0, 0, 0),
+        Ok(count) => packed(0, 0, 0, count as u32),
     }
 }
 
-fn pack_offering(o: Offering) -> u64
+fn pack_offering(o: Result<(), Fault>) -> u64
     ensures { result ≡ pack_offering o }
 {
     match o {
-        Offering::Refused(e) => packed(e, 0, 0, 0),
-        Offering::Done => packed(0, 0, 0, 0),
+        Err(fault) => packed(fault.number(), 0, 0, 0),
+        Ok(()) => packed(0, 0, 0, 0),
     }
 }
 
-fn pack_judging(j: Judging) -> u64
+fn pack_judging(j: Result<Judgement, Fault>) -> u64
     ensures { result ≡ pack_judging j }
 {
     match j {
-        Judging::Unjudged(e) => packed(e, 0, 0, 0),
-        Judging::Model => packed(0, 1, 0, 0),
-        Judging::Violated(k, a, b, c, d) => packed(0, 2, k, number_of(d, c, b, a)),
+        Err(fault) => packed(fault.number(), 0, 0, 0),
+        Ok(Judgement::Model) => packed(0, 1, 0, 0),
+        Ok(Judgement::Violated(k, a, b, c, d)) => packed(0, 2, k, number_of(d, c, b, a)),
     }
 }
 
-fn pack_holding(h: Holding) -> u64
-    ensures { result ≡ pack_holding h }
+fn pack_holding(h: Result<u8, Fault>) -> u64
+    ensures { result ≡ pack_value h }
 {
     match h {
-        Holding::Unheld(e) => packed(e, 0, 0, 0),
-        Holding::Held(n) => packed(0, 0, 0, n as u32),
+        Err(fault) => packed(fault.number(), 0, 0, 0),
+        Ok(held) => packed(0, 0, 0, held as u32),
     }
 }
 
@@ -109,15 +106,6 @@ fn pack_reply(reply: Reply) -> u64
     pack_verdict(verdict, reply.deepest)
 }
 
-fn pack_rewriting(r: Rewriting) -> u64
-    ensures { result ≡ pack_rewriting r }
-{
-    match r {
-        Rewriting::Refused(e) => packed(e, 0, 0, 0),
-        Rewriting::Rewritten(count) => packed(0, 0, 0, count as u32),
-    }
-}
-
 // Reads a text into a table of 4,096 bytes.
 #[unsafe(no_mangle)]
 pub extern "C" fn lutsamik_read(text: &[u8], table: &mut [u8]) -> u64
@@ -129,9 +117,9 @@ pub extern "C" fn lutsamik_read(text: &[u8], table: &mut [u8]) -> u64
 // Writes a table out as text, into 7,168 bytes.
 #[unsafe(no_mangle)]
 pub extern "C" fn lutsamik_write(table: &[u8], out: &mut [u8]) -> u64
-    ensures { (result ≡ pack_writing (write_result table.now out.old)) × (out.new ≡ write_leaves table.now out.old) }
+    ensures { (result ≡ pack_value (write_result table.now out.old)) × (out.new ≡ write_leaves table.now out.old) }
 {
-    pack_writing(writing::write::write(table, out))
+    pack_count(writing::write::write(table, out))
 }
 
 // Offers the bytes of a clause frame to a table, with a slip of 37 bytes.
@@ -169,7 +157,7 @@ pub extern "C" fn lutsamik_holding(
     c: u32,
     d: u32,
 ) -> u64
-    ensures { result ≡ pack_holding (holding_result table.now answer.now clause a b c d) }
+    ensures { result ≡ pack_value (holding_result table.now answer.now clause a b c d) }
 {
     pack_holding(judging::how_far::how_far(table, answer, clause, a, b, c, d))
 }
@@ -185,9 +173,9 @@ pub extern "C" fn lutsamik_fit_relevancy(table: &[u8], answer: &mut [u8], work: 
 // Rewrites a table into magic rules, in a rules buffer of 16,384 bytes.
 #[unsafe(no_mangle)]
 pub extern "C" fn lutsamik_rewrite(table: &[u8], rules: &mut [u8]) -> u64
-    ensures { (result ≡ pack_rewriting (rewrite_result table.now rules.old)) × (rules.new ≡ rewrite_leaves table.now rules.old) }
+    ensures { (result ≡ pack_value (rewrite_result table.now rules.old)) × (rules.new ≡ rewrite_leaves table.now rules.old) }
 {
-    pack_rewriting(rewriting::rewrite::rewrite(table, rules))
+    pack_count(rewriting::rewrite::rewrite(table, rules))
 }
 
 // Fits a table by the magic engine, with 16,384 bytes for the rules, 1,024 answer bytes and 65,536 to work in.

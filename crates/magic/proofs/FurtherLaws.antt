@@ -1,11 +1,8 @@
 -- What going on with the session of a record says and leaves, in a buffer for the rules and in one for work.
 use Prim.Native.Nat.{ℕ}
 use mathlib.Core.List.{List, [], ◌∷◌, ◌++◌, append-nil}
-use mathlib.Core.Logic.{inl, inr}
 use mathlib.Core.Path.{◌≡◌, refl, sym, ap, subst, ◌∙◌}
 use native.Mathlib.Omega.{arith}
-use denote.Enum.Declared.{tag_of}
-use types.Run.{OneOf}
 use lib.ListN.{length, take, drop, replicate, drop_of_length-le}
 use lib.Seq.{take_all}
 use Rattle.search.specs.Ground.{Found}
@@ -17,7 +14,6 @@ use Rattle.ground.specs.declared.verdict.Verdict.{Verdict}
 use Rattle.ground.specs.declared.verdict.Verdict.TheVariants.{Refused}
 use Rattle.ground.specs.Instance.{Instance}
 use Rattle.ground.specs.Verdict.{verdict_of}
-use Rattle.ground.specs.contracts.verdict.Verdict.{the_type as verdict-type}
 use Rattle.rewriting.specs.RulesLayout.{rules_layout}
 use Rattle.rewriting.specs.Facts.{find_in}
 use Rattle.rewriting.specs.Rewrite.{rules_over}
@@ -52,23 +48,18 @@ says_alike c d r answer e m left h = subst (λ (x : Called). Says x r answer m l
 
 -- ---- its verdict alone tells a refusal
 
-pub refused_declined : (c : Called) (v : Verdict) → v ≡ verdict_told c → tag_of verdict-type v ≡ 0 → (e : ℕ) × (c ≡ declined e)
-refused_declined (declined e) v is tag = (e, refl)
-refused_declined (told o s) v is tag = absurd (go o (sym (ap (tag_of verdict-type) is) ∙ tag))
+pub refused_declined : (c : Called) (v : Verdict) (n : ℕ) → v ≡ verdict_told c → v ≡ Refused n → (e : ℕ) × (c ≡ declined e)
+refused_declined (declined e) v n is refused = (e, refl)
+refused_declined (told o s) v n is refused = absurd (go o (sym is ∙ refused))
   where
-    go : (o : Outcome) → tag_of verdict-type (verdict_of o) ≡ 0 → ⊥
-    go (Satisfied n bits) t = let z : ◌≡◌ {A = ℕ} 1 0 = t in omega arith
-    go (Refuted n) t = let z : ◌≡◌ {A = ℕ} 2 0 = t in omega arith
-    go (Exhausted n) t = let z : ◌≡◌ {A = ℕ} 3 0 = t in omega arith
+    go : (o : Outcome) → verdict_of o ≡ Refused n → ⊥
+    go (Satisfied m bits) h = let z : ◌≡◌ {A = ℕ} 0 1 = cc in omega arith
+    go (Refuted m) h = let z : ◌≡◌ {A = ℕ} 0 1 = cc in omega arith
+    go (Exhausted m) h = let z : ◌≡◌ {A = ℕ} 0 1 = cc in omega arith
 
-pub else_told : (c : Called) (v : Verdict) → v ≡ verdict_told c → OneOf (1 ∷ 2 ∷ 3 ∷ []) (tag_of verdict-type v) → (o : Outcome) × (s : Session) × (c ≡ told o s)
-else_told (told o s) v is tag = (o, s, refl)
-else_told (declined e) v is tag = absurd (none_of (subst (OneOf (1 ∷ 2 ∷ 3 ∷ [])) (ap (tag_of verdict-type) is) tag))
-  where
-    none_of : OneOf (1 ∷ 2 ∷ 3 ∷ []) 0 → ⊥
-    none_of (inl z) = omega arith
-    none_of (inr (inl z)) = omega arith
-    none_of (inr (inr z)) = omega arith
+pub else_told : (c : Called) (v : Verdict) → v ≡ verdict_told c → ((e : ℕ) → v ≡ Refused e → ⊥) → (o : Outcome) × (s : Session) × (c ≡ told o s)
+else_told (told o s) v is unrefused = (o, s, refl)
+else_told (declined e) v is unrefused = absurd (unrefused e is)
 
 -- ---- with all buffers
 

@@ -8,9 +8,10 @@ ghost use Rattle.session.specs.terms.End.{Replied};
 ghost use Rattle.magic_walk.specs.terms.Place.{magic_walker};
 ghost use Rattle.magic.specs.Engine.{magic_outcome, magic_deepest_in};
 
-use crate::end::reply;
 use crate::whole::walk_whole;
+use ending::reply;
 use ground::verdict::limit_in;
+use magic_walk::place::ByRules;
 use rewriting::rewrite::write_rules;
 use session::record::Reply;
 
@@ -22,8 +23,14 @@ fn decide(rules: &[u8], limit: u32, answer: &mut [u8], path: &mut [u8]) -> Reply
 {
     let mut facts = [0u8; 6150];
     let whole = walk_whole(rules, &mut facts, path, limit);
-    let walked = whole.walked;
-    reply(rules, &facts, path, answer, walked, limit)
+    reply(
+        &ByRules { rules },
+        &facts,
+        path,
+        answer,
+        whole.walked,
+        limit,
+    )
 }
 
 // Rewrites a valid table, runs by the rules alone in the first part of the work buffer, and leaves it zero.

@@ -8,16 +8,15 @@ ghost use Rattle.rewriting.specs.Rewrite.{rules_over};
 ghost use Rattle.session.specs.Calls.{called_in, verdict_told, record_left, answer_left, work_left};
 ghost use Rattle.magic.specs.Sessions.{rules_left};
 
-use crate::end::conclude;
+use ending::conclude;
+use engine::left::root_alternatives;
+use engine::resume::go_on;
 use ground::verdict::Verdict;
 use lists::pair;
 use magic_plan::index::build;
-use magic_resume::left::root_alternatives;
-use magic_resume::resume::go_on;
-use magic_walk::place::root;
+use magic_walk::place::Magic;
 use rewriting::rewrite::write_rules;
 use session::record::{Moved, Session, is_kept, refused};
-use walk::answer::Resumed;
 use walk::node::bring;
 use walk::standing::Onward;
 
@@ -44,8 +43,12 @@ fn further_run(
     let steps = session.length as usize;
     let limit = session.count + further;
     bring(&mut path, session.deepest as usize);
-    let found = root(rules, &index, &mut facts, &mut path);
-    let used = root_alternatives(rules, &path, found);
+    let engine = Magic {
+        rules,
+        index: &index,
+    };
+    let found = engine.root(&mut facts, &mut path);
+    let used = root_alternatives(&engine, &path, found);
     let on = Onward {
         standing: session.verdict,
         next: session.next,
@@ -53,12 +56,12 @@ fn further_run(
         limit,
     };
     let went = go_on(
-        rules, &index, &mut facts, &mut path, &entered, &nexts, steps, found, on,
+        &engine, &mut facts, &mut path, &entered, &nexts, steps, found, on,
     );
-    let Resumed::On(walked) = went else {
+    let Some(walked) = went else {
         return refused(session, 42);
     };
-    conclude(rules, &facts, &path, answer, walked, limit, used)
+    conclude(&engine, &facts, &path, answer, walked, limit, used)
 }
 
 // 41, then 42 where the record can hold no session of the table, then the run by the table's rules, which are written in memory of its own too.

@@ -2,6 +2,5 @@
 #![tactic(auto)]
 
 pub mod alone;
-pub mod end;
 pub mod further;
 pub mod whole;

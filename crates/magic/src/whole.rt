@@ -7,19 +7,12 @@ ghost use Rattle.walk.specs.terms.Walker.{from_root};
 ghost use Rattle.walk.specs.terms.Walk.{Walks};
 ghost use Rattle.magic_walk.specs.terms.Place.{magic_walker};
 
+use engine::left::root_alternatives;
+use engine::visiting::from_root;
 use magic_plan::index::build;
-use magic_resume::left::root_alternatives;
-use magic_walk::place::root;
-use magic_walk::trail::from_root;
-use walk::answer::Walked;
+use magic_walk::place::Magic;
+use walk::answer::Whole;
 use walk::node::bring;
-
-// How it ends, and how many alternatives the root has.
-#[derive(Drop)]
-pub struct Whole {
-    pub walked: Walked,
-    pub used: u8,
-}
 
 // The walk under a limit, in an empty set for its facts and a buffer for its path, which may hold anything.
 pub fn walk_whole(rules: &[u8], facts: &mut [u8], path: &mut [u8], limit: u32) -> Whole
@@ -30,11 +23,12 @@ pub fn walk_whole(rules: &[u8], facts: &mut [u8], path: &mut [u8], limit: u32) -
     let mut index = [0u16; 6656];
     build(rules, &mut index);
     bring(path, 0);
-    let found = root(rules, &index, facts, path);
-    let used = root_alternatives(rules, path, found);
-    let walked = from_root(rules, &index, facts, path, found, limit);
-    Whole {
-        walked: walked,
-        used: used,
-    }
+    let engine = Magic {
+        rules,
+        index: &index,
+    };
+    let found = engine.root(facts, path);
+    let used = root_alternatives(&engine, path, found);
+    let walked = from_root(&engine, facts, path, found, limit);
+    Whole { walked, used }
 }

@@ -19,7 +19,7 @@ use Rattle.walk.specs.declared.answer.Found.TheVariants.{Closed as ToldClosed, O
 use Rattle.walk.proofs.PathLaws.{site_back}
 use Rattle.walk.proofs.PlaceLaws.{found_here, found_split}
 use Rattle.magic_walk.specs.terms.Place.{Splitting, RestedAtSplit, magic_walker, HeldFresh}
-use Rattle.magic_walk.proofs.SoundLaws.{sound}
+use Rattle.magic_walk.specs.SoundLaws.{sound}
 
 -- the settled node, by another name of the answer
 pub settled_as : (bs r : List ℕ) (n : ℕ) (x y : Node) (left : List ℕ) → x ≡ y → HeldSettled bs r n x left → HeldSettled bs r n y left

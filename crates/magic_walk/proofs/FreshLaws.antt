@@ -25,7 +25,7 @@ use Rattle.walk.specs.declared.answer.Found.{Found as Told}
 use Rattle.walk.proofs.PathLaws.{path_deep, path_entered}
 use Rattle.walk.proofs.PlaceLaws.{named_entered, entered_kept, place_made}
 use Rattle.magic_walk.specs.terms.Place.{rule_site, RestedAtSplit, magic_walker, HeldFresh}
-use Rattle.magic_walk.proofs.SoundLaws.{sound}
+use Rattle.magic_walk.specs.SoundLaws.{sound}
 
 module _ (bs : List ℕ) (h : Ruled bs) (facts path : List ℕ) (depth : ℕ) (node : Parted (magic_walker bs) facts path depth)
     (some_left : next_at path depth < length (alts_at (magic_walker bs) path depth)) where

@@ -1,1 +1,4 @@
 pub mod terms
+pub mod AltLaws
+pub mod SoundLaws
+pub mod TiedLaws

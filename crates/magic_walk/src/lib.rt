@@ -1,5 +1,4 @@
-// The magic engine's walk by the rules of a buffer. It is lent no table, and keeps all facts of a node going down.
+// The magic engine's places by the rules of a buffer, by which it walks. It is lent no table, and keeps all facts of a node going down.
 #![tactic(auto)]
 
 pub mod place;
-pub mod trail;

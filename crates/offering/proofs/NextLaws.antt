@@ -1,22 +1,21 @@
 -- What judging a frame as the next clause line asks of a table and of the line that the frame is written as, and what it gives.
+use Rattle.std.specs.Prelude.{Ok, Err}
+use Rattle.problem.specs.declared.fault.Fault.{Fault}
+use Rattle.problem.specs.declared.fault.Fault.TheVariants.{BadKind, BadLength, BadCount, Unknown, BadNumbering}
 use Prim.Native.Nat.{ℕ, suc, ◌+◌, ◌*◌, ◌/◌, ◌%◌, ◌≤◌, ◌<◌}
-use mathlib.Core.Bool.{Bool, true, false, cond, ◌&&◌}
 use mathlib.Core.List.{List, [], ◌∷◌}
 use mathlib.Core.Path.{◌≡◌, refl, sym, ap, subst, ◌∙◌}
 use native.Mathlib.Omega.{arith}
-use borrow.Author.Tests.{le-leb, lt-leb, eq-eqb, ne_eqb}
-use lib.Dec.{leb}
+use borrow.Author.Tests.{eq-eqb, ne_eqb}
 use lib.ListN.{length, take, drop, get_or, take-append-drop}
 use Rattle.lists.specs.Digits.{low_bytes}
 use Rattle.lists.specs.Member.{All}
 use Rattle.lists.proofs.Member.{append_left}
 use Rattle.problem.specs.declared.line.Line.TheVariants.{Holds}
-use Rattle.problem.specs.declared.judge.Judged.{Judged}
-use Rattle.problem.specs.declared.judge.Judged.TheVariants.{Fault, Found}
 use Rattle.problem.specs.Digit.{hex_line}
 use Rattle.problem.specs.Line.{line_at, frame_at}
 use Rattle.problem.specs.Problem.{first_atom, weights}
-use Rattle.problem.specs.Judge.{judge_clause}
+use Rattle.problem.specs.Judge.{Judged, judge_clause}
 use Rattle.problem.specs.Layout.{arities_in, problem_in, predicate_record}
 use Rattle.problem.specs.Table.{Lawful}
 use Rattle.problem.specs.Extended.{judge_next, past_line}
@@ -82,43 +81,24 @@ front_bytes n f a = append_left (λ b. b < 256) (take n f) (drop n f) (subst (Al
 
 -- ---- what the first 35 bytes of a longer frame tell
 
-module _ (o : Judged) where
-  pub past_kept : (e : ℕ) → o ≡ Fault e → 5 ≤ e → e ≤ 7 → Fault e ≡ past_line o
-  unfolding past_line
-  past_kept e q l h = rw (q, le-leb 5 e l, le-leb e 7 h)
-
-  pub past_low : (e : ℕ) → o ≡ Fault e → e < 5 → Fault 3 ≡ past_line o
-  unfolding past_line
-  past_low e q l = rw (q, lt-leb 5 e l)
-
-  pub past_high : (e : ℕ) → o ≡ Fault e → 7 < e → Fault 3 ≡ past_line o
-  unfolding past_line
-  past_high e q l = rw (q, le-leb 5 e (omega arith), lt-leb e 7 l)
-
-  pub past_found : (v : ℕ) → o ≡ Found v → Fault 3 ≡ past_line o
-  unfolding past_line
-  past_found v q = rw q
-
-past_never : (o : Judged) (v : ℕ) → past_line o ≡ Found v → ⊥
+past_never : (o : Judged) (v : ℕ) → past_line o ≡ Ok v → ⊥
 unfolding past_line
-past_never (Fault e) v q = go (leb 5 e && leb e 7) q
-  where
-    go : (b : Bool) → cond b (Fault e) (Fault 3) ≡ Found v → ⊥
-    go true q = fault_found e v q
-    go false q = fault_found 3 v q
-past_never (Found w) v q = fault_found 3 v q
+past_never (Err BadCount) v q = fault_found BadCount v q
+past_never (Err Unknown) v q = fault_found Unknown v q
+past_never (Err BadNumbering) v q = fault_found BadNumbering v q
+past_never _ v q = fault_found BadLength v q
 
 -- ---- judging a frame as the next clause line
 
 module _ (tb f rec : List ℕ) (size : length rec ≡ 56) where
-  next_fault : (e : ℕ) → Fault e ≡ judge_next (problem_in tb) f → NextFilled tb f (Fault e) rec
+  next_fault : (e : Fault) → Err e ≡ judge_next (problem_in tb) f → NextFilled tb f (Err e) rec
   next_fault e q = record { judged = q; filled = λ v r. absurd (fault_found e v r); size = size }
 
-  pub other_kind : (get_or f 0 0 ≡ 3 → ⊥) → NextFilled tb f (Fault 2) rec
+  pub other_kind : (get_or f 0 0 ≡ 3 → ⊥) → NextFilled tb f (Err BadKind) rec
   unfolding judge_next
-  other_kind other = next_fault 2 (rw (ne_eqb (get_or f 0 0) 3 other) refl)
+  other_kind other = next_fault BadKind (rw (ne_eqb (get_or f 0 0) 3 other) refl)
 
-  pub no_bytes : length f ≡ 0 → NextFilled tb f (Fault 2) rec
+  pub no_bytes : length f ≡ 0 → NextFilled tb f (Err BadKind) rec
   no_bytes none = other_kind (go f none)
     where
       go : (g : List ℕ) → length g ≡ 0 → get_or g 0 0 ≡ 3 → ⊥
@@ -126,9 +106,9 @@ module _ (tb f rec : List ℕ) (size : length rec ≡ 56) where
       go (b ∷ g) n e = absurd (omega arith)
 
   module _ (h : Lawful tb) (kind : get_or f 0 0 ≡ 3) where
-    pub full_table : get_or tb 2 0 ≡ 64 → NextFilled tb f (Fault 5) rec
+    pub full_table : get_or tb 2 0 ≡ 64 → NextFilled tb f (Err BadCount) rec
     unfolding judge_next
-    full_table full = next_fault 5 (rw (eq-eqb (get_or f 0 0) 3 kind, eq-eqb (length (problem_in tb).clauses) 64 (sym (clause_count tb h) ∙ full)) refl)
+    full_table full = next_fault BadCount (rw (eq-eqb (get_or f 0 0) 3 kind, eq-eqb (length (problem_in tb).clauses) 64 (sym (clause_count tb h) ∙ full)) refl)
 
     module _ (room : get_or tb 2 0 ≡ 64 → ⊥) where
       next_judged : judge_next (problem_in tb) f ≡ judge_clause (problem_in tb).constants (problem_in tb).arities (weights (problem_in tb).constants (problem_in tb).clauses) f

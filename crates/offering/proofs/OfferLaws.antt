@@ -1,5 +1,7 @@
 -- The steps of offering and setting, over lists.
-use Prim.Native.Nat.{ℕ, ◌+◌, ◌-◌, ◌≤◌, ◌<◌}
+use Rattle.std.specs.Prelude.{Ok, Err}
+use Rattle.problem.specs.declared.fault.Fault.TheVariants.{BadLength, StaleSlip}
+use Prim.Native.Nat.{ℕ, ◌-◌, ◌≤◌, ◌<◌}
 use mathlib.Core.Bool.{cond}
 use mathlib.Core.List.{List, [], ◌∷◌, ◌++◌, append-nil}
 use mathlib.Core.Path.{◌≡◌, refl, sym, ap, subst, ◌∙◌}
@@ -11,10 +13,9 @@ use lib.Seq.{take_at, drop_at, get_or-take, length-take-le}
 use Rattle.lists.specs.Bytes.{pad}
 use Rattle.lists.specs.Member.{All}
 use Rattle.lists.proofs.Bytes.{pad-length, zeros_split, part_with}
-use Rattle.problem.specs.declared.judge.Judged.{Judged}
-use Rattle.problem.specs.declared.judge.Judged.TheVariants.{Fault, Found}
+use Rattle.problem.specs.declared.fault.Fault.{Fault}
 use Rattle.problem.specs.Problem.{Problem, Fits}
-use Rattle.problem.specs.Judge.{clause_at}
+use Rattle.problem.specs.Judge.{Judged, clause_at}
 use Rattle.problem.specs.Parse.{parse}
 use Rattle.problem.specs.Layout.{problem_in, layout}
 use Rattle.problem.specs.Table.{Lawful}
@@ -23,13 +24,11 @@ use Rattle.problem.proofs.Next.{next_clause, next_line}
 use Rattle.problem.proofs.Theorems.{valid_table}
 use Rattle.problem.proofs.WellFormed.{clause_bytes}
 use Rattle.reading.specs.Read.{table_of, read_leaves}
-use Rattle.writing.specs.terms.Lent.{refusal_of}
-use Rattle.writing.proofs.LentLaws.{refused_says, taken_says, Taken, taken}
+use Rattle.writing.specs.terms.Lent.{taken_of}
+use Rattle.writing.proofs.LentLaws.{fault_says, ok_says, Taken, taken_by}
 use Rattle.adding.specs.terms.Appended.{Appended}
 use Rattle.adding.proofs.AppendLaws.{table_size, clause_count, last_fits}
-use Rattle.offering.specs.declared.offer.Offering.{Offering}
-use Rattle.offering.specs.declared.offer.Offering.TheVariants.{Refused, Done}
-use Rattle.offering.specs.Offer.{slip_over, count_held, frame_held, offering_of, unless_fault, offer_result, offer_leaves, judge_slip, set_result, set_leaves}
+use Rattle.offering.specs.Offer.{Offering, slip_over, count_held, frame_held, offering_of, unless_fault, offer_result, offer_leaves, judge_slip, set_result, set_leaves}
 use Rattle.offering.specs.terms.Next.{NextFilled, Added}
 
 -- ---- a slip filled
@@ -63,7 +62,7 @@ module _ (slip z : List ℕ) (room : 37 ≤ length slip) (zeros : z ≡ replicat
 
 -- ---- a clause added
 
-module _ (q : Problem) (f : List ℕ) (v : ℕ) (fits : Fits q) (found : judge_next q f ≡ Found v) where
+module _ (q : Problem) (f : List ℕ) (v : ℕ) (fits : Fits q) (found : judge_next q f ≡ Ok v) where
   pub frame_short : length f ≤ 35
   frame_short = (next_clause q f v found fits).short
 
@@ -84,22 +83,22 @@ module _ (q : Problem) (f : List ℕ) (v : ℕ) (fits : Fits q) (found : judge_n
   frame_kind = ap (λ (l : List ℕ). get_or l 0 0) (sym (next_clause q f v found fits).said)
 
   -- the text with this line is read to the longer problem
-  pub next_read_lem : parse (text_with q f) ≡ next_read q f (Found v)
+  pub next_read_lem : parse (text_with q f) ≡ next_read q f (Ok v)
   next_read_lem = next_line q f fits frame_bytes frame_short frame_kind ∙ ap (next_read q f) found
 
 module _ (tb f : List ℕ) (h : Lawful tb) (o : Judged) (judged : o ≡ judge_next (problem_in tb) f) where
-  pub add_fault : (e : ℕ) → o ≡ Fault e → Added tb f (Refused e) tb
+  pub add_fault : (e : Fault) → o ≡ Err e → Added tb f (Err e) tb
   add_fault e q =
-      let said : judge_next (problem_in tb) f ≡ Fault e = sym judged ∙ q in
+      let said : judge_next (problem_in tb) f ≡ Err e = sym judged ∙ q in
       record { said = rw said; table = rw said }
 
-  module _ (v : ℕ) (found : o ≡ Found v) where
+  module _ (v : ℕ) (found : o ≡ Ok v) where
     pub add_room : get_or tb 2 0 < 64
     add_room = rw (clause_count tb h) (room_left (problem_in tb) f v h.fits (sym judged ∙ found))
 
-    pub add_done : (rec left : List ℕ) → NextFilled tb f o rec → Appended tb rec left → Added tb f Done left
+    pub add_done : (rec left : List ℕ) → NextFilled tb f o rec → Appended tb rec left → Added tb f (Ok tt) left
     add_done rec left filled appended =
-        let said : judge_next (problem_in tb) f ≡ Found v = sym judged ∙ found in
+        let said : judge_next (problem_in tb) f ≡ Ok v = sym judged ∙ found in
         let k = clause_at (problem_in tb).arities f v in
         let whole : left ≡ layout (with_clause (problem_in tb) k) = appended.table k _ (next_clause (problem_in tb) f v said h.fits).fits (filled.filled v found) in
         let short : length tb ≤ 4096 = omega (arith, table_size tb h) in
@@ -123,37 +122,32 @@ module _ (tb slip : List ℕ) (taken : Taken tb (ltb (length slip) 37)) where
 
 -- ---- offering: what it says, and what it leaves in the slip
 
-module _ (tb f slip : List ℕ) (n : ℕ) (refusal : n ≡ refusal_of tb (ltb (length slip) 37)) where
+module _ (tb f slip : List ℕ) where
   abbrev Says : Offering → List ℕ → Type 0
   Says r left = (r ≡ offer_result tb f slip) × (left ≡ offer_leaves tb f slip)
 
-  pub offer_refused : 0 < n → Says (Refused n) slip
+  pub offer_refused : {e : Fault} → taken_of tb (ltb (length slip) 37) ≡ Err e → Says (Err e) slip
   unfolding offer_result offer_leaves
-  offer_refused some =
-      let short = ltb (length slip) 37 in
-      let refused : 0 < refusal_of tb short = rw refusal at some in
-      rw refusal (refused_says tb short Refused _ refused, refused_says tb short (λ e. slip) _ refused)
+  offer_refused t = (fault_says tb (ltb (length slip) 37) Err _ t, fault_says tb (ltb (length slip) 37) (λ e. slip) _ t)
 
-  module _ (none : n ≡ 0) where
+  module _ {u : Unit {0}} (t : taken_of tb (ltb (length slip) 37) ≡ Ok u) where
     pub lent : Taken tb (ltb (length slip) 37)
-    lent = taken tb (ltb (length slip) 37) (sym refusal ∙ none)
+    lent = taken_by tb (ltb (length slip) 37) t
 
     pub offer_taken : (offering_of (judge_next (own tb) f) ≡ offer_result tb f slip) × (unless_fault (judge_next (own tb) f) slip (slip_over (length (own tb).clauses) f slip) ≡ offer_leaves tb f slip)
     unfolding offer_result offer_leaves
-    offer_taken =
-        let short = ltb (length slip) 37 in
-        (taken_says tb short Refused _ (sym refusal ∙ none), taken_says tb short (λ e. slip) _ (sym refusal ∙ none))
+    offer_taken = (ok_says tb (ltb (length slip) 37) Err _ t, ok_says tb (ltb (length slip) 37) (λ e. slip) _ t)
 
     module _ (o : Judged) (judged : o ≡ judge_next (own tb) f) where
-      pub offer_fault : (e : ℕ) → o ≡ Fault e → Says (Refused e) slip
+      pub offer_fault : (e : Fault) → o ≡ Err e → Says (Err e) slip
       offer_fault e q = subst (λ (j : Judged). (offering_of j ≡ offer_result tb f slip) × (unless_fault j slip (slip_over (length (own tb).clauses) f slip) ≡ offer_leaves tb f slip)) (sym judged ∙ q) offer_taken
 
-      pub offer_done : (v : ℕ) (left : List ℕ) → o ≡ Found v → left ≡ slip_over (get_or (take 4096 tb) 2 0) f slip → Says Done left
+      pub offer_done : (v : ℕ) (left : List ℕ) → o ≡ Ok v → left ≡ slip_over (get_or (take 4096 tb) 2 0) f slip → Says (Ok tt) left
       offer_done v left q e =
           let both = subst (λ (j : Judged). (offering_of j ≡ offer_result tb f slip) × (unless_fault j slip (slip_over (length (own tb).clauses) f slip) ≡ offer_leaves tb f slip)) (sym judged ∙ q) offer_taken in
           (both.0, e ∙ ap (λ (k : ℕ). slip_over k f slip) (clause_count (take 4096 tb) (own_lawful tb slip lent)) ∙ both.1)
 
-      pub offer_short : (v : ℕ) → o ≡ Found v → length f ≤ 35
+      pub offer_short : (v : ℕ) → o ≡ Ok v → length f ≤ 35
       offer_short v q = frame_short (own tb) f v (own_lawful tb slip lent).fits (sym judged ∙ q)
 
 -- ---- setting: what it says, and what it leaves in the table
@@ -166,49 +160,44 @@ added_leaves tb f r left long h added = go (judge_next (own tb) f) refl added.ta
   where
     go : (o : Judged) → judge_next (own tb) f ≡ o → left ≡ table_of (next_read (own tb) f o) (take 4096 tb)
         → left ++ drop 4096 tb ≡ unless_fault o tb (cond (ltb (length tb) 4096) tb (table_of (parse (text_with (own tb) f)) tb))
-    go (Fault e) q t = rw t (take-append-drop 4096 tb)
-    go (Found v) q t =
+    go (Err e) q t = rw t (take-append-drop 4096 tb)
+    go (Ok v) q t =
         let short : length (take 4096 tb) ≤ 4096 = omega (arith, length-take-le 4096 tb long) in
         let none : drop 4096 (take 4096 tb) ≡ [] = drop_of_length-le (take 4096 tb) short in
         rw (t, none, append-nil, le-ltb (length tb) 4096 long, next_read_lem (own tb) f v h.fits q) refl
 
-module _ (tb slip : List ℕ) (n : ℕ) (refusal : n ≡ refusal_of tb (ltb (length slip) 37)) where
+module _ (tb slip : List ℕ) where
   abbrev Sets : Offering → List ℕ → Type 0
   Sets r left = (r ≡ set_result tb slip) × (left ≡ set_leaves tb slip)
 
-  pub set_refused : 0 < n → Sets (Refused n) tb
+  pub set_refused : {e : Fault} → taken_of tb (ltb (length slip) 37) ≡ Err e → Sets (Err e) tb
   unfolding set_result set_leaves
-  set_refused some =
-      let short = ltb (length slip) 37 in
-      let refused : 0 < refusal_of tb short = rw refusal at some in
-      rw refusal (refused_says tb short Refused _ refused, refused_says tb short (λ e. tb) _ refused)
+  set_refused t = (fault_says tb (ltb (length slip) 37) Err _ t, fault_says tb (ltb (length slip) 37) (λ e. tb) _ t)
 
-  module _ (none : n ≡ 0) where
+  module _ {u : Unit {0}} (t : taken_of tb (ltb (length slip) 37) ≡ Ok u) where
     pub set_lent : Taken tb (ltb (length slip) 37)
-    set_lent = taken tb (ltb (length slip) 37) (sym refusal ∙ none)
+    set_lent = taken_by tb (ltb (length slip) 37) t
 
     abbrev Judges : Judged → Type 0
     Judges j = (offering_of j ≡ set_result tb slip) × (unless_fault j tb (read_leaves (text_with (own tb) (frame_held slip)) tb) ≡ set_leaves tb slip)
 
     pub set_taken : Judges (judge_slip (own tb) slip)
     unfolding set_result set_leaves
-    set_taken =
-        let short = ltb (length slip) 37 in
-        (taken_says tb short Refused _ (sym refusal ∙ none), taken_says tb short (λ e. tb) _ (sym refusal ∙ none))
+    set_taken = (ok_says tb (ltb (length slip) 37) Err _ t, ok_says tb (ltb (length slip) 37) (λ e. tb) _ t)
 
     count_same : count_held slip ≡ get_or tb 2 0 → count_held slip ≡ length (own tb).clauses
     count_same e = e ∙ own_count tb slip set_lent
 
-    pub set_stale : (count_held slip ≡ get_or tb 2 0 → ⊥) → Sets (Refused 43) tb
+    pub set_stale : (count_held slip ≡ get_or tb 2 0 → ⊥) → Sets (Err StaleSlip) tb
     unfolding judge_slip
     set_stale other =
-        let judged : judge_slip (own tb) slip ≡ Fault 43 = rw (ne_eqb (count_held slip) (length (own tb).clauses) (λ e. other (e ∙ sym (own_count tb slip set_lent)))) refl in
+        let judged : judge_slip (own tb) slip ≡ Err StaleSlip = rw (ne_eqb (count_held slip) (length (own tb).clauses) (λ e. other (e ∙ sym (own_count tb slip set_lent)))) refl in
         subst Judges judged set_taken
 
-    pub set_long : count_held slip ≡ get_or tb 2 0 → 35 < get_or slip 1 0 → Sets (Refused 3) tb
+    pub set_long : count_held slip ≡ get_or tb 2 0 → 35 < get_or slip 1 0 → Sets (Err BadLength) tb
     unfolding judge_slip
     set_long e long =
-        let judged : judge_slip (own tb) slip ≡ Fault 3 = rw (eq-eqb (count_held slip) (length (own tb).clauses) (count_same e), le-ltb (get_or slip 1 0) 36 long) refl in
+        let judged : judge_slip (own tb) slip ≡ Err BadLength = rw (eq-eqb (count_held slip) (length (own tb).clauses) (count_same e), le-ltb (get_or slip 1 0) 36 long) refl in
         subst Judges judged set_taken
 
     pub set_added : count_held slip ≡ get_or tb 2 0 → get_or slip 1 0 ≤ 35 → (r : Offering) (left : List ℕ) → Added (take 4096 tb) (frame_held slip) r left → Sets r (left ++ drop 4096 tb)

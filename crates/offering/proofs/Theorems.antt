@@ -1,5 +1,8 @@
 -- The claims of `specs/Claims.antt`, proved.
-use Prim.Native.Nat.{ℕ, zero, suc, ◌+◌, ◌-◌, ◌≤◌, ◌<◌}
+use Rattle.std.specs.Prelude.{Result, Ok, Err}
+use Rattle.problem.specs.declared.fault.Fault.{Fault}
+use Rattle.problem.specs.declared.fault.Fault.TheVariants.{BadLength, ShortBuffer, NoTable, StaleSlip}
+use Prim.Native.Nat.{ℕ, ◌+◌, ◌-◌, ◌≤◌, ◌<◌}
 use mathlib.Core.Bool.{Bool, true, false, cond, ◌||◌}
 use mathlib.Core.List.{List, [], ◌∷◌, ◌++◌, append_assoc}
 use mathlib.Core.Path.{◌≡◌, refl, sym, ap, subst, ◌∙◌}
@@ -13,10 +16,9 @@ use Rattle.lists.specs.Key.{nat_key}
 use Rattle.lists.specs.Member.{All, In}
 use Rattle.lists.proofs.Bytes.{pad-length}
 use Rattle.lists.proofs.Test.{T-true, T-false, fails}
-use Rattle.problem.specs.declared.judge.Judged.{Judged}
-use Rattle.problem.specs.declared.judge.Judged.TheVariants.{Fault, Found}
+use Rattle.problem.specs.Faults.{fault_number}
 use Rattle.problem.specs.Problem.{Problem, Fits}
-use Rattle.problem.specs.Judge.{clause_at}
+use Rattle.problem.specs.Judge.{Judged, clause_at}
 use Rattle.problem.specs.Layout.{layout, problem_in}
 use Rattle.problem.specs.Print.{text_of}
 use Rattle.problem.specs.Table.{Valid, is_valid}
@@ -26,25 +28,23 @@ use Rattle.problem.proofs.Next.{next_clause, next_line}
 use Rattle.problem.proofs.TableLayout.{layout-length, problem_back}
 use Rattle.problem.proofs.Theorems.{valid_from, valid_to, Valid-Lawful}
 use Rattle.reading.specs.Read.{reading_of, read_result, read_leaves}
-use Rattle.writing.specs.terms.Lent.{refusal_of}
-use Rattle.writing.proofs.LentLaws.{refusal_none, Taken}
-use Rattle.offering.specs.declared.offer.Offering.{Offering}
-use Rattle.offering.specs.declared.offer.Offering.TheVariants.{Refused, Done}
-use Rattle.offering.specs.Offer.{slip_over, count_held, frame_held, offering_of, unless_fault, offer_result, offer_leaves, judge_slip, set_result, set_leaves}
+use Rattle.writing.specs.terms.Lent.{taken_of}
+use Rattle.writing.proofs.LentLaws.{says_taken, Taken}
+use Rattle.offering.specs.Offer.{Offering, slip_over, count_held, frame_held, offering_of, unless_fault, offer_result, offer_leaves, judge_slip, set_result, set_leaves}
 use Rattle.offering.specs.Claims.{problem_lent, Held, after_offers, as_read, SetAs, clause_refusals, Theorems}
 use Rattle.offering.proofs.RefusalLaws.{next_numbers, slip_numbers, said_numbers}
 use Rattle.offering.proofs.OfferLaws.{frame_short, next_read_lem, own_lawful, offer_refused, lent, offer_taken, set_refused, set_lent, set_taken}
 
 -- ---- what was taken, and what was not
 
-refused_done : (e : ℕ) → ◌≡◌ {A = Offering} (Refused e) Done → ⊥
-refused_done e q = let z : ◌≡◌ {A = ℕ} 0 1 = cc in omega arith
+refused_done : (e : Fault) → ◌≡◌ {A = Offering} (Err e) (Ok tt) → ⊥
+refused_done e q = cc
 
 -- a frame that an offer takes
 record Offered (tb f slip : List ℕ) : Type 0 where
   lent : Taken tb (ltb (length slip) 37)
   vars : ℕ
-  found : judge_next (problem_lent tb) f ≡ Found vars
+  found : judge_next (problem_lent tb) f ≡ Ok vars
   leaves : offer_leaves tb f slip ≡ slip_over (length (problem_lent tb).clauses) f slip
 
 -- a slip that is set
@@ -52,20 +52,20 @@ record Settled (tb slip : List ℕ) : Type 0 where
   lent : Taken tb (ltb (length slip) 37)
   vars : ℕ
   count : count_held slip ≡ length (problem_lent tb).clauses
-  found : judge_next (problem_lent tb) (frame_held slip) ≡ Found vars
+  found : judge_next (problem_lent tb) (frame_held slip) ≡ Ok vars
   leaves : set_leaves tb slip ≡ read_leaves (text_with (problem_lent tb) (frame_held slip)) tb
 
-offered : (tb f slip : List ℕ) → offer_result tb f slip ≡ Done → Offered tb f slip
-offered tb f slip done = go (refusal_of tb (ltb (length slip) 37)) refl
+offered : (tb f slip : List ℕ) → offer_result tb f slip ≡ Ok tt → Offered tb f slip
+offered tb f slip done = go (taken_of tb (ltb (length slip) 37)) refl
   where
     judged : (t : Taken tb (ltb (length slip) 37)) (o : Judged) → judge_next (problem_lent tb) f ≡ o
         → (offering_of o ≡ offer_result tb f slip) × (unless_fault o slip (slip_over (length (problem_lent tb).clauses) f slip) ≡ offer_leaves tb f slip) → Offered tb f slip
-    judged t (Fault e) q both = absurd (refused_done e (both.0 ∙ done))
-    judged t (Found v) q both = record { lent = t; vars = v; found = q; leaves = sym both.1 }
+    judged t (Err e) q both = absurd (refused_done e (both.0 ∙ done))
+    judged t (Ok v) q both = record { lent = t; vars = v; found = q; leaves = sym both.1 }
 
-    go : (n : ℕ) → n ≡ refusal_of tb (ltb (length slip) 37) → Offered tb f slip
-    go zero e = judged (lent tb f slip 0 e refl) (judge_next (problem_lent tb) f) refl (offer_taken tb f slip 0 e refl)
-    go (suc n) e = absurd (refused_done (suc n) ((offer_refused tb f slip (suc n) e (omega arith)).0 ∙ done))
+    go : (o : Result (Unit {0}) Fault) → taken_of tb (ltb (length slip) 37) ≡ o → Offered tb f slip
+    go (Ok u) e = judged (lent tb f slip e) (judge_next (problem_lent tb) f) refl (offer_taken tb f slip e)
+    go (Err i) e = absurd (refused_done i ((offer_refused tb f slip e).0 ∙ done))
 
 module _ (tb slip : List ℕ) where
   -- what setting says and leaves, where the slip is judged so
@@ -73,30 +73,30 @@ module _ (tb slip : List ℕ) where
   Judges j = (offering_of j ≡ set_result tb slip) × (unless_fault j tb (read_leaves (text_with (problem_lent tb) (frame_held slip)) tb) ≡ set_leaves tb slip)
 
   slip_judged : Taken tb (ltb (length slip) 37) → Judges (judge_slip (problem_lent tb) slip)
-  slip_judged t = set_taken tb slip 0 (refusal_none tb (ltb (length slip) 37) t.long t.room t.valid) refl
+  slip_judged t = set_taken tb slip (says_taken tb (ltb (length slip) 37) t)
 
-  settled : set_result tb slip ≡ Done → Settled tb slip
+  settled : set_result tb slip ≡ Ok tt → Settled tb slip
   unfolding judge_slip
-  settled done = go (refusal_of tb (ltb (length slip) 37)) refl
+  settled done = go (taken_of tb (ltb (length slip) 37)) refl
     where
       judged : (t : Taken tb (ltb (length slip) 37)) → count_held slip ≡ length (problem_lent tb).clauses → (o : Judged) → judge_next (problem_lent tb) (frame_held slip) ≡ o → Judges o → Settled tb slip
-      judged t same (Fault e) q both = absurd (refused_done e (both.0 ∙ done))
-      judged t same (Found v) q both = record { lent = t; vars = v; count = same; found = q; leaves = sym both.1 }
+      judged t same (Err e) q both = absurd (refused_done e (both.0 ∙ done))
+      judged t same (Ok v) q both = record { lent = t; vars = v; count = same; found = q; leaves = sym both.1 }
 
       tests : (t : Taken tb (ltb (length slip) 37)) (b : Bool) → eqb (count_held slip) (length (problem_lent tb).clauses) ≡ b → (d : Bool)
-          → Judges (cond b (cond d (judge_next (problem_lent tb) (frame_held slip)) (Fault 3)) (Fault 43)) → Settled tb slip
-      tests t false e d both = absurd (refused_done 43 (both.0 ∙ done))
-      tests t true e false both = absurd (refused_done 3 (both.0 ∙ done))
+          → Judges (cond b (cond d (judge_next (problem_lent tb) (frame_held slip)) (Err BadLength)) (Err StaleSlip)) → Settled tb slip
+      tests t false e d both = absurd (refused_done StaleSlip (both.0 ∙ done))
+      tests t true e false both = absurd (refused_done BadLength (both.0 ∙ done))
       tests t true e true both = judged t (eqb→eq (count_held slip) (length (problem_lent tb).clauses) (subst T (sym e) tt)) (judge_next (problem_lent tb) (frame_held slip)) refl both
 
-      go : (n : ℕ) → n ≡ refusal_of tb (ltb (length slip) 37) → Settled tb slip
-      go zero e = let t = set_lent tb slip 0 e refl in tests t (eqb (count_held slip) (length (problem_lent tb).clauses)) refl (ltb (get_or slip 1 0) 36) (slip_judged t)
-      go (suc n) e = absurd (refused_done (suc n) ((set_refused tb slip (suc n) e (omega arith)).0 ∙ done))
+      go : (o : Result (Unit {0}) Fault) → taken_of tb (ltb (length slip) 37) ≡ o → Settled tb slip
+      go (Ok u) e = let t = set_lent tb slip e in tests t (eqb (count_held slip) (length (problem_lent tb).clauses)) refl (ltb (get_or slip 1 0) 36) (slip_judged t)
+      go (Err i) e = absurd (refused_done i ((set_refused tb slip e).0 ∙ done))
 
 -- ---- 31 first, and then the frame
 
 module _ (tb f slip : List ℕ) (long : 4096 ≤ length tb) (room : 37 ≤ length slip) where
-  unlawful : (Valid (take 4096 tb) → ⊥) → (offer_result tb f slip ≡ Refused 31) × (set_result tb slip ≡ Refused 31)
+  unlawful : (Valid (take 4096 tb) → ⊥) → (offer_result tb f slip ≡ Err NoTable) × (set_result tb slip ≡ Err NoTable)
   unfolding offer_result set_result
   unlawful other =
       let no : is_valid (take 4096 tb) ≡ false =
@@ -110,38 +110,38 @@ module _ (tb f slip : List ℕ) (long : 4096 ≤ length tb) (room : 37 ≤ lengt
 
 -- ---- the numbers of refusals
 
-refusals : (tb f slip : List ℕ) (e : ℕ) → offer_result tb f slip ≡ Refused e → In nat_key (11 ∷ 31 ∷ clause_refusals) e
+refusals : (tb f slip : List ℕ) (e : Fault) → offer_result tb f slip ≡ Err e → In nat_key (11 ∷ 31 ∷ clause_refusals) (fault_number e)
 unfolding offer_result
 refusals tb f slip e =
-    said_numbers (In nat_key (11 ∷ 31 ∷ clause_refusals)) (ltb (length tb) 4096 || ltb (length slip) 37) (is_valid (take 4096 tb)) (judge_next (problem_lent tb) f) e tt tt (next_numbers (problem_lent tb) f)
+    said_numbers (λ i. In nat_key (11 ∷ 31 ∷ clause_refusals) (fault_number i)) (ltb (length tb) 4096 || ltb (length slip) 37) (is_valid (take 4096 tb)) (judge_next (problem_lent tb) f) e tt tt (next_numbers (problem_lent tb) f)
 
-set_refusals : (tb slip : List ℕ) (e : ℕ) → set_result tb slip ≡ Refused e → In nat_key (11 ∷ 31 ∷ 43 ∷ clause_refusals) e
+set_refusals : (tb slip : List ℕ) (e : Fault) → set_result tb slip ≡ Err e → In nat_key (11 ∷ 31 ∷ 43 ∷ clause_refusals) (fault_number e)
 unfolding set_result
 set_refusals tb slip e =
-    said_numbers (In nat_key (11 ∷ 31 ∷ 43 ∷ clause_refusals)) (ltb (length tb) 4096 || ltb (length slip) 37) (is_valid (take 4096 tb)) (judge_slip (problem_lent tb) slip) e tt tt (slip_numbers (problem_lent tb) slip)
+    said_numbers (λ i. In nat_key (11 ∷ 31 ∷ 43 ∷ clause_refusals) (fault_number i)) (ltb (length tb) 4096 || ltb (length slip) 37) (is_valid (take 4096 tb)) (judge_slip (problem_lent tb) slip) e tt tt (slip_numbers (problem_lent tb) slip)
 
 -- ---- a refusal changes nothing
 
-unoffered_kept : (tb f slip : List ℕ) (e : ℕ) → offer_result tb f slip ≡ Refused e → offer_leaves tb f slip ≡ slip
+unoffered_kept : (tb f slip : List ℕ) (e : Fault) → offer_result tb f slip ≡ Err e → offer_leaves tb f slip ≡ slip
 unfolding offer_result offer_leaves
 unoffered_kept tb f slip e = go (ltb (length tb) 4096 || ltb (length slip) 37) (is_valid (take 4096 tb)) (judge_next (problem_lent tb) f)
   where
-    go : (b v : Bool) (o : Judged) → cond b (Refused 11) (cond v (offering_of o) (Refused 31)) ≡ Refused e → cond b slip (cond v (unless_fault o slip (slip_over (length (problem_lent tb).clauses) f slip)) slip) ≡ slip
+    go : (b v : Bool) (o : Judged) → ◌≡◌ {A = Offering} (cond b (Err ShortBuffer) (cond v (offering_of o) (Err NoTable))) (Err e) → cond b slip (cond v (unless_fault o slip (slip_over (length (problem_lent tb).clauses) f slip)) slip) ≡ slip
     go true v o q = refl
     go false false o q = refl
-    go false true (Fault i) q = refl
-    go false true (Found i) q = absurd (refused_done e (sym q))
+    go false true (Err i) q = refl
+    go false true (Ok i) q = absurd (refused_done e (sym q))
 
-unset_kept : (tb slip : List ℕ) (e : ℕ) → set_result tb slip ≡ Refused e → set_leaves tb slip ≡ tb
+unset_kept : (tb slip : List ℕ) (e : Fault) → set_result tb slip ≡ Err e → set_leaves tb slip ≡ tb
 unfolding set_result set_leaves
 unset_kept tb slip e = go (ltb (length tb) 4096 || ltb (length slip) 37) (is_valid (take 4096 tb)) (judge_slip (problem_lent tb) slip)
   where
-    go : (b v : Bool) (o : Judged) → cond b (Refused 11) (cond v (offering_of o) (Refused 31)) ≡ Refused e
+    go : (b v : Bool) (o : Judged) → ◌≡◌ {A = Offering} (cond b (Err ShortBuffer) (cond v (offering_of o) (Err NoTable))) (Err e)
         → cond b tb (cond v (unless_fault o tb (read_leaves (text_with (problem_lent tb) (frame_held slip)) tb)) tb) ≡ tb
     go true v o q = refl
     go false false o q = refl
-    go false true (Fault i) q = refl
-    go false true (Found i) q = absurd (refused_done e (sym q))
+    go false true (Err i) q = refl
+    go false true (Ok i) q = absurd (refused_done e (sym q))
 
 -- ---- what a slip holds after an offer
 
@@ -175,22 +175,22 @@ module _ (tb f slip : List ℕ) (o : Offered tb f slip) where
         valid = o.lent.valid;
       }
 
-  held_judged : judge_slip (problem_lent tb) held ≡ Found o.vars
+  held_judged : judge_slip (problem_lent tb) held ≡ Ok o.vars
   unfolding held judge_slip
   held_judged =
       let n = length (problem_lent tb).clauses in
       rw (eq-eqb n n refl, lt-ltb (length f) 36 (omega (arith, few)), over_frame n f slip few) o.found
 
-  held_sets : Judges tb held (Found o.vars)
+  held_sets : Judges tb held (Ok o.vars)
   held_sets = subst (Judges tb held) held_judged (slip_judged tb held held_lent)
 
-slip_holds : (tb f slip : List ℕ) → offer_result tb f slip ≡ Done → Held tb f (offer_leaves tb f slip)
+slip_holds : (tb f slip : List ℕ) → offer_result tb f slip ≡ Ok tt → Held tb f (offer_leaves tb f slip)
 unfolding held
 slip_holds tb f slip done =
     let o = offered tb f slip done in
     subst (Held tb f) (sym o.leaves) (held_holds tb f slip o)
 
-slip_beyond : (tb f slip : List ℕ) → offer_result tb f slip ≡ Done → drop 37 (offer_leaves tb f slip) ≡ drop 37 slip
+slip_beyond : (tb f slip : List ℕ) → offer_result tb f slip ≡ Ok tt → drop 37 (offer_leaves tb f slip) ≡ drop 37 slip
 slip_beyond tb f slip done =
     let o = offered tb f slip done in
     let size : length (pad 35 f) ≡ 35 = pad-length 35 f (few tb f slip o) in
@@ -198,21 +198,21 @@ slip_beyond tb f slip done =
 
 -- ---- offers in between
 
-offer_sets : (tb f slip : List ℕ) → offer_result tb f slip ≡ Done → set_result tb (offer_leaves tb f slip) ≡ Done
+offer_sets : (tb f slip : List ℕ) → offer_result tb f slip ≡ Ok tt → set_result tb (offer_leaves tb f slip) ≡ Ok tt
 unfolding held
 offer_sets tb f slip done =
     let o = offered tb f slip done in
     ap (set_result tb) o.leaves ∙ sym (held_sets tb f slip o).0
 
 -- an offer leaves a slip that is set as one that is set
-still_sets : (tb f slip : List ℕ) → set_result tb slip ≡ Done → set_result tb (offer_leaves tb f slip) ≡ Done
+still_sets : (tb f slip : List ℕ) → set_result tb slip ≡ Ok tt → set_result tb (offer_leaves tb f slip) ≡ Ok tt
 still_sets tb f slip sets = go (offer_result tb f slip) refl
   where
-    go : (r : Offering) → offer_result tb f slip ≡ r → set_result tb (offer_leaves tb f slip) ≡ Done
-    go (Refused e) q = ap (set_result tb) (unoffered_kept tb f slip e q) ∙ sets
-    go Done q = offer_sets tb f slip q
+    go : (r : Offering) → offer_result tb f slip ≡ r → set_result tb (offer_leaves tb f slip) ≡ Ok tt
+    go (Err e) q = ap (set_result tb) (unoffered_kept tb f slip e q) ∙ sets
+    go (Ok u) q = offer_sets tb f slip q
 
-offers_set : (tb : List ℕ) (fs : List (List ℕ)) (slip : List ℕ) → set_result tb slip ≡ Done → set_result tb (after_offers tb fs slip) ≡ Done
+offers_set : (tb : List ℕ) (fs : List (List ℕ)) (slip : List ℕ) → set_result tb slip ≡ Ok tt → set_result tb (after_offers tb fs slip) ≡ Ok tt
 offers_set tb [] slip sets = sets
 offers_set tb (f ∷ fs) slip sets = offers_set tb fs (offer_leaves tb f slip) (still_sets tb f slip sets)
 
@@ -225,13 +225,13 @@ module _ (tb slip : List ℕ) (long : 4096 ≤ length tb) (room : 37 ≤ length 
   any_judged : (o : Judged) → judge_slip (problem_lent tb) slip ≡ o → set_result tb slip ≡ offering_of o
   any_judged o e = sym (subst (Judges tb slip) e (slip_judged tb slip any_lent)).0
 
-  seen_first : (count_held slip ≡ length (problem_lent tb).clauses → ⊥) → set_result tb slip ≡ Refused 43
+  seen_first : (count_held slip ≡ length (problem_lent tb).clauses → ⊥) → set_result tb slip ≡ Err StaleSlip
   unfolding judge_slip
-  seen_first other = any_judged (Fault 43) (rw (ne_eqb (count_held slip) (length (problem_lent tb).clauses) other))
+  seen_first other = any_judged (Err StaleSlip) (rw (ne_eqb (count_held slip) (length (problem_lent tb).clauses) other))
 
-  too_long : count_held slip ≡ length (problem_lent tb).clauses → 36 ≤ get_or slip 1 0 → set_result tb slip ≡ Refused 3
+  too_long : count_held slip ≡ length (problem_lent tb).clauses → 36 ≤ get_or slip 1 0 → set_result tb slip ≡ Err BadLength
   unfolding judge_slip
-  too_long same long = any_judged (Fault 3) (rw (eq-eqb (count_held slip) (length (problem_lent tb).clauses) same, le-ltb (get_or slip 1 0) 36 long))
+  too_long same long = any_judged (Err BadLength) (rw (eq-eqb (count_held slip) (length (problem_lent tb).clauses) same, le-ltb (get_or slip 1 0) 36 long))
 
 set_as_offered : (tb slip : List ℕ) → count_held slip ≡ length (problem_lent tb).clauses → get_or slip 1 0 ≤ 35 → set_result tb slip ≡ offer_result tb (frame_held slip) slip
 unfolding set_result offer_result judge_slip
@@ -284,14 +284,14 @@ module _ (tb slip : List ℕ) (s : Settled tb slip) where
   more_found = ap problem_in more_own ∙ problem_back more more-Fits
 
   -- the slip's count is that of the table before
-  stale : judge_slip (problem_lent (set_leaves tb slip)) slip ≡ Fault 43
+  stale : judge_slip (problem_lent (set_leaves tb slip)) slip ≡ Err StaleSlip
   unfolding judge_slip
   stale =
       let count : count_held slip ≡ length q.clauses = s.count in
       let longer : length more.clauses ≡ length q.clauses + 1 = length-append q.clauses _ in
       rw (more_found, ne_eqb (count_held slip) (length more.clauses) (λ e. omega arith)) refl
 
-  set_once : set_result (set_leaves tb slip) slip ≡ Refused 43
+  set_once : set_result (set_leaves tb slip) slip ≡ Err StaleSlip
   set_once = sym (subst (Judges (set_leaves tb slip) slip) stale (slip_judged (set_leaves tb slip) slip more_lent)).0
 
 -- ---- as reading gives it
@@ -301,14 +301,14 @@ module _ (tb f slip : List ℕ) (long : 4096 ≤ length tb) (room : 37 ≤ lengt
   unfolding read_result
   offered_as_read =
       let q = problem_lent tb in
-      let taken = refusal_none tb (ltb (length slip) 37) long (le-ltb (length slip) 37 room) (T-true _ (valid_to (take 4096 tb) valid)) in
-      rw (le-ltb (length tb) 4096 long, next_line q f (Valid-Lawful (take 4096 tb) valid).fits bytes short kind, ← (offer_taken tb f slip 0 taken refl).0) (go (judge_next q f))
+      let taken = says_taken tb (ltb (length slip) 37) (record { long = long; room = le-ltb (length slip) 37 room; valid = T-true _ (valid_to (take 4096 tb) valid) }) in
+      rw (le-ltb (length tb) 4096 long, next_line q f (Valid-Lawful (take 4096 tb) valid).fits bytes short kind, ← (offer_taken tb f slip taken).0) (go (judge_next q f))
     where
       go : (o : Judged) → reading_of (next_read (problem_lent tb) f o) ≡ as_read (2 + length (problem_lent tb).arities + length (problem_lent tb).clauses) (offering_of o)
-      go (Fault e) = refl
-      go (Found v) = refl
+      go (Err e) = refl
+      go (Ok v) = refl
 
-set_as_read : (tb f slip : List ℕ) → offer_result tb f slip ≡ Done → set_leaves tb (offer_leaves tb f slip) ≡ read_leaves (text_with (problem_lent tb) f) tb
+set_as_read : (tb f slip : List ℕ) → offer_result tb f slip ≡ Ok tt → set_leaves tb (offer_leaves tb f slip) ≡ read_leaves (text_with (problem_lent tb) f) tb
 unfolding held
 set_as_read tb f slip done =
     let o = offered tb f slip done in

@@ -1,6 +1,6 @@
 -- What is claimed of a rule offered, then set, as what the operations give and leave: the contracts of `offer` and `set` equate them with `offer_result`,
 -- `offer_leaves` and `set_result`, `set_leaves`. `proofs/Theorems.antt` proves `Theorems`.
-use Rattle.std.specs.Prelude.{ℕ, ◌+◌, ◌-◌, ◌≤◌, ◌<◌, List, [], ◌∷◌, ◌++◌, ◌≡◌, length, take, drop, get_or, replicate}
+use Rattle.std.specs.Prelude.{ℕ, ◌+◌, ◌-◌, ◌≤◌, ◌<◌, List, [], ◌∷◌, ◌++◌, ◌≡◌, length, take, drop, get_or, replicate, Ok, Err}
 use Rattle.lists.specs.Key.{nat_key}
 use Rattle.lists.specs.Member.{All, In}
 use Rattle.problem.specs.Problem.{Clause, Problem, Fits}
@@ -8,12 +8,11 @@ use Rattle.problem.specs.Layout.{layout, problem_in}
 use Rattle.problem.specs.Table.{Valid}
 use Rattle.problem.specs.Print.{clause_frame}
 use Rattle.problem.specs.Extended.{with_clause, judge_next, text_with}
-use Rattle.reading.specs.declared.read.Reading.{Reading}
-use Rattle.reading.specs.declared.read.Reading.TheVariants as reading
-use Rattle.reading.specs.Read.{read_result, read_leaves}
-use Rattle.offering.specs.declared.offer.Offering.{Offering}
-use Rattle.offering.specs.declared.offer.Offering.TheVariants.{Refused, Done}
-use Rattle.offering.specs.Offer.{count_held, frame_held, offering_of, offer_result, offer_leaves, set_result, set_leaves}
+use Rattle.problem.specs.declared.fault.Fault.{Fault}
+use Rattle.problem.specs.declared.fault.Fault.TheVariants.{BadLength, NoTable, StaleSlip}
+use Rattle.problem.specs.Faults.{fault_number}
+use Rattle.reading.specs.Read.{Reading, read_result, read_leaves}
+use Rattle.offering.specs.Offer.{Offering, count_held, frame_held, offering_of, offer_result, offer_leaves, set_result, set_leaves}
 
 -- the problem in a lent table
 abbrev pub problem_lent : List ℕ → Problem
@@ -32,8 +31,8 @@ after_offers tb (f ∷ fs) slip = after_offers tb fs (offer_leaves tb f slip)
 
 -- what an offer says, as reading says it of a line
 abbrev pub as_read : ℕ → Offering → Reading
-as_read line (Refused e) = reading.Refused e line
-as_read line Done = reading.Accepted
+as_read line (Err e) = Err (record { fault = e; line = line })
+as_read line (Ok u) = Ok tt
 
 -- a slip set: exactly its clause is added after the others, in a valid table
 pub record SetAs (tb slip : List ℕ) : Type 0 where
@@ -49,32 +48,32 @@ clause_refusals = 2 ∷ 3 ∷ 5 ∷ 6 ∷ 7 ∷ 8 ∷ 10 ∷ []
 
 pub record Theorems : Type 0 where
   -- "Both calls check 31 first", after 11; an offer then says what judging the frame as the next clause line says
-  pub unlawful : (tb f slip : List ℕ) → 4096 ≤ length tb → 37 ≤ length slip → (Valid (take 4096 tb) → ⊥) → (offer_result tb f slip ≡ Refused 31) × (set_result tb slip ≡ Refused 31)
+  pub unlawful : (tb f slip : List ℕ) → 4096 ≤ length tb → 37 ≤ length slip → (Valid (take 4096 tb) → ⊥) → (offer_result tb f slip ≡ Err NoTable) × (set_result tb slip ≡ Err NoTable)
   pub judged : (tb f slip : List ℕ) → 4096 ≤ length tb → 37 ≤ length slip → Valid (take 4096 tb) → offer_result tb f slip ≡ offering_of (judge_next (problem_lent tb) f)
   -- which numbers an offer is refused by, and a setting
-  pub refusals : (tb f slip : List ℕ) (e : ℕ) → offer_result tb f slip ≡ Refused e → In nat_key (11 ∷ 31 ∷ clause_refusals) e
-  pub set_refusals : (tb slip : List ℕ) (e : ℕ) → set_result tb slip ≡ Refused e → In nat_key (11 ∷ 31 ∷ 43 ∷ clause_refusals) e
+  pub refusals : (tb f slip : List ℕ) (e : Fault) → offer_result tb f slip ≡ Err e → In nat_key (11 ∷ 31 ∷ clause_refusals) (fault_number e)
+  pub set_refusals : (tb slip : List ℕ) (e : Fault) → set_result tb slip ≡ Err e → In nat_key (11 ∷ 31 ∷ 43 ∷ clause_refusals) (fault_number e)
   -- a refusal changes nothing
-  pub unoffered_kept : (tb f slip : List ℕ) (e : ℕ) → offer_result tb f slip ≡ Refused e → offer_leaves tb f slip ≡ slip
-  pub unset_kept : (tb slip : List ℕ) (e : ℕ) → set_result tb slip ≡ Refused e → set_leaves tb slip ≡ tb
+  pub unoffered_kept : (tb f slip : List ℕ) (e : Fault) → offer_result tb f slip ≡ Err e → offer_leaves tb f slip ≡ slip
+  pub unset_kept : (tb slip : List ℕ) (e : Fault) → set_result tb slip ≡ Err e → set_leaves tb slip ≡ tb
   -- "The slip holds the frame and the clause count seen."
-  pub slip_holds : (tb f slip : List ℕ) → offer_result tb f slip ≡ Done → Held tb f (offer_leaves tb f slip)
-  pub slip_beyond : (tb f slip : List ℕ) → offer_result tb f slip ≡ Done → drop 37 (offer_leaves tb f slip) ≡ drop 37 slip
+  pub slip_holds : (tb f slip : List ℕ) → offer_result tb f slip ≡ Ok tt → Held tb f (offer_leaves tb f slip)
+  pub slip_beyond : (tb f slip : List ℕ) → offer_result tb f slip ≡ Ok tt → drop 37 (offer_leaves tb f slip) ≡ drop 37 slip
   -- "If only offers were made in between, setting succeeds": any number of them, to the same ticket, with any bytes, into this slip; one into another leaves this one
-  pub offers_between : (tb f slip : List ℕ) (fs : List (List ℕ)) → offer_result tb f slip ≡ Done → set_result tb (after_offers tb fs (offer_leaves tb f slip)) ≡ Done
+  pub offers_between : (tb f slip : List ℕ) (fs : List (List ℕ)) → offer_result tb f slip ≡ Ok tt → set_result tb (after_offers tb fs (offer_leaves tb f slip)) ≡ Ok tt
   -- "Setting it adds exactly that clause after the others."
-  pub set_as : (tb slip : List ℕ) → set_result tb slip ≡ Done → SetAs tb slip
+  pub set_as : (tb slip : List ℕ) → set_result tb slip ≡ Ok tt → SetAs tb slip
   -- a slip is set once
-  pub set_once : (tb slip : List ℕ) → set_result tb slip ≡ Done → set_result (set_leaves tb slip) slip ≡ Refused 43
+  pub set_once : (tb slip : List ℕ) → set_result tb slip ≡ Ok tt → set_result (set_leaves tb slip) slip ≡ Err StaleSlip
   -- a slip may hold anything: 43 comes before its clause is looked at, a frame longer than its room is 3, and else its clause is judged as an offer of it is
   pub seen_first : (tb slip : List ℕ) → 4096 ≤ length tb → 37 ≤ length slip → Valid (take 4096 tb) → (count_held slip ≡ length (problem_lent tb).clauses → ⊥)
-      → set_result tb slip ≡ Refused 43
+      → set_result tb slip ≡ Err StaleSlip
   pub too_long : (tb slip : List ℕ) → 4096 ≤ length tb → 37 ≤ length slip → Valid (take 4096 tb) → count_held slip ≡ length (problem_lent tb).clauses
-      → 36 ≤ get_or slip 1 0 → set_result tb slip ≡ Refused 3
+      → 36 ≤ get_or slip 1 0 → set_result tb slip ≡ Err BadLength
   pub set_as_offered : (tb slip : List ℕ) → count_held slip ≡ length (problem_lent tb).clauses → get_or slip 1 0 ≤ 35 → set_result tb slip ≡ offer_result tb (frame_held slip) slip
   -- the refusal is the one that reading the text with this line gives, at that line
   pub offered_as_read : (tb f slip : List ℕ) → 4096 ≤ length tb → 37 ≤ length slip → Valid (take 4096 tb) → All (λ b. b < 256) f → length f ≤ 35 → get_or f 0 0 ≡ 3
       → read_result (text_with (problem_lent tb) f) tb ≡ as_read (2 + length (problem_lent tb).arities + length (problem_lent tb).clauses) (offer_result tb f slip)
   -- offering and setting is reading the longer text
-  pub set_as_read : (tb f slip : List ℕ) → offer_result tb f slip ≡ Done
+  pub set_as_read : (tb f slip : List ℕ) → offer_result tb f slip ≡ Ok tt
       → set_leaves tb (offer_leaves tb f slip) ≡ read_leaves (text_with (problem_lent tb) f) tb

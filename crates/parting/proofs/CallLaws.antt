@@ -54,17 +54,6 @@ module _ (magic : Bool) (q : Problem) (joined : List ℕ) (verdict count : ℕ) 
           unsaid true = refl
           unsaid false = refl
 
--- what is put in front of the answer, or not
-module _ (verdict atoms : ℕ) (joined answer : List ℕ) where
-  pub not_given : (verdict ≡ 1 → ⊥) → answer ≡ cond (eqb verdict 1) (take atoms joined ++ drop atoms answer) answer
-  not_given o = ap (λ (b : Bool). cond b (take atoms joined ++ drop atoms answer) answer) (sym (ne_eqb verdict 1 o))
-
-  pub given_all : verdict ≡ 1 → atoms ≤ length joined → (left : List ℕ) → left ≡ take atoms joined ++ drop (length (take atoms joined)) answer
-      → left ≡ cond (eqb verdict 1) (take atoms joined ++ drop atoms answer) answer
-  given_all e room left is =
-      is ∙ ap (λ (n : ℕ). take atoms joined ++ drop n answer) (length-take-le atoms joined room)
-      ∙ ap (λ (b : Bool). cond b (take atoms joined ++ drop atoms answer) answer) (sym (eq-eqb verdict 1 e))
-
 -- ---- buffers that are too short
 
 or_three : (a b c : Bool) → (a || (b || c)) ≡ (a || b || c)

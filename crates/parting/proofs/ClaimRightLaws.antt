@@ -25,7 +25,8 @@ use Rattle.problem.proofs.Theorems.{theorems as tables}
 use Rattle.ground.specs.Instance.{ground_of}
 use Rattle.ground.proofs.AnswerLaws.{given_set, given_length, given_marks}
 use Rattle.ground.proofs.Instances.{atoms_are, ground_proper}
-use Rattle.judging.specs.declared.judge.Judging.TheVariants.{Model as IsModel}
+use Rattle.std.specs.Prelude.{Ok}
+use Rattle.judging.specs.declared.judge.Judgement.TheVariants.{Model as IsModel}
 use Rattle.judging.specs.ModelCheck.{judge_result}
 use Rattle.judging.specs.Demand2.{ground_lent}
 use Rattle.judging.proofs.CheckLaws.{model_checked}
@@ -144,7 +145,7 @@ module _ (by short : Bool) (tb answer : List ℕ) (long : 4096 ≤ length tb) (w
         model_same (ground_of q) (Marked given) (λ a. T (is_set left a)) (ground_proper q fits) (λ a h m. subst T (sym (same a h)) m) (λ a h m. subst T (same a h) m)
         (whole_model by q fits said)
 
-    judged : judge_result tb (parts_answer by short tb answer) ≡ IsModel
+    judged : judge_result tb (parts_answer by short tb answer) ≡ Ok IsModel
     unfolding judge_result
     judged =
         let A : ℕ = atom_count q.constants q.arities in
@@ -154,7 +155,7 @@ module _ (by short : Bool) (tb answer : List ℕ) (long : 4096 ≤ length tb) (w
         ap (λ (x : List ℕ). every (λ b. ltb b 2) (take A x)) left_is
         ∙ ap (λ (m : ℕ). every (λ b. ltb b 2) (take m (map bit given ++ drop (length given) answer))) (sym (bits_count by q fits))
         ∙ given_marks given answer in
-        rw (le-ltb (length tb) 4096 long, le-ltb (length left) 1024 room, good, marks) (model_checked q left model)
+        rw (le-ltb (length tb) 4096 long, le-ltb (length left) 1024 room, good, marks) (ap Ok (model_checked q left model))
 
   pub whole_right : WholeRight tb (parts_result by short tb) (parts_answer by short tb answer)
   whole_right = record { model = model; judged = judged; no_model = λ e. whole_none by q fits (sym result_is ∙ e) }

@@ -8,18 +8,6 @@ use Rattle.lists.specs.Tabulate.{tabulate}
 use Rattle.parting.specs.terms.Labels.{renamed, merged, merged_slots, merged_clause, labels_upto}
 
 module _ (p r : ℕ) (ls : List ℕ) where
-  pub merged_first : get_or ls p 0 < get_or ls r 0 → map (renamed (get_or ls r 0) (get_or ls p 0)) ls ≡ merged p r ls
-  merged_first h =
-      let high : max (get_or ls p 0) (get_or ls r 0) ≡ get_or ls r 0 = omega arith in
-      let low : min (get_or ls p 0) (get_or ls r 0) ≡ get_or ls p 0 = omega arith in
-      sym (ap (λ (x : ℕ). map (renamed x (min (get_or ls p 0) (get_or ls r 0))) ls) high ∙ ap (λ (x : ℕ). map (renamed (get_or ls r 0) x) ls) low)
-
-  pub merged_second : get_or ls r 0 ≤ get_or ls p 0 → map (renamed (get_or ls p 0) (get_or ls r 0)) ls ≡ merged p r ls
-  merged_second h =
-      let high : max (get_or ls p 0) (get_or ls r 0) ≡ get_or ls p 0 = omega arith in
-      let low : min (get_or ls p 0) (get_or ls r 0) ≡ get_or ls r 0 = omega arith in
-      sym (ap (λ (x : ℕ). map (renamed x (min (get_or ls p 0) (get_or ls r 0))) ls) high ∙ ap (λ (x : ℕ). map (renamed (get_or ls p 0) x) ls) low)
-
   pub merged_size : length (merged p r ls) ≡ length ls
   merged_size = length-map ls (renamed (max (get_or ls p 0) (get_or ls r 0)) (min (get_or ls p 0) (get_or ls r 0)))
 

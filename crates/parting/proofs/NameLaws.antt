@@ -58,19 +58,3 @@ ran_magic magic e tb h rules = magic_run tb h rules ∙ ap (λ (b : Bool). run_b
 
 pub ran_relevancy : (magic : Bool) → magic ≡ false → (tb : List ℕ) → outcome_in tb ≡ run_by magic (problem_in tb)
 ran_relevancy magic e tb = relevancy_run tb ∙ ap (λ (b : Bool). run_by b (problem_in tb)) (sym e)
-
--- ---- one run more is counted
-
-module _ (verdict count : ℕ) (v : Verdict) (n : ℕ) (small : n < 4294967296) where
-  pub counted_satisfied : v ≡ IsSatisfied n → Counting verdict count v verdict (count + n)
-  counted_satisfied e = subst (λ (w : Verdict). Counting verdict count w verdict (count + n)) (sym e) (record { said_is = refl; sum_is = refl; small = omega (arith, small) })
-
-  pub counted_refuted : v ≡ IsRefuted n → Counting verdict count v 0 (count + n)
-  counted_refuted e = subst (λ (w : Verdict). Counting verdict count w 0 (count + n)) (sym e) (record { said_is = refl; sum_is = refl; small = omega (arith, small) })
-
-  pub counted_exhausted : v ≡ IsExhausted n → Counting verdict count v 2 (count + n)
-  counted_exhausted e = subst (λ (w : Verdict). Counting verdict count w 2 (count + n)) (sym e) (record { said_is = refl; sum_is = refl; small = omega (arith, small) })
-
--- a refusal, which no run gives, counts nothing
-pub counted_refused : (verdict count : ℕ) (v : Verdict) (e : ℕ) → v ≡ Refused e → Counting verdict count v verdict count
-counted_refused verdict count v e is = subst (λ (w : Verdict). Counting verdict count w verdict count) (sym is) (record { said_is = refl; sum_is = omega arith; small = omega arith })

@@ -1,6 +1,6 @@
 -- What is claimed of parts and of the calls that run them, whatever the code: the contracts of `parts_calls::by_relevancy::parts_relevancy` and `parts_calls::by_magic::parts_magic` equate what they give and
 -- leave with `parts_result`, `parts_count`, `parts_answer`, `fit_work`, `magic_work` and `magic_rules`. `proofs/Theorems.antt` proves `Theorems`.
-use Rattle.std.specs.Prelude.{ℕ, ◌≤◌, ◌<◌, Bool, true, false, List, [], ◌∷◌, ◌↔◌, ◌⊎◌, ◌≡◌, T, length, take}
+use Rattle.std.specs.Prelude.{ℕ, ◌≤◌, ◌<◌, Bool, true, false, List, [], ◌∷◌, ◌↔◌, ◌⊎◌, ◌≡◌, T, length, take, Ok}
 use Rattle.lists.specs.Bytes.{is_set}
 use Rattle.lists.specs.Key.{nat_key}
 use Rattle.lists.specs.Member.{All, Any, In}
@@ -13,7 +13,7 @@ use Rattle.problem.specs.Extended.{with_clauses}
 use Rattle.ground.specs.declared.verdict.Verdict.TheVariants.{Satisfied as IsSatisfied, Refused as IsRefused}
 use Rattle.ground.specs.Instance.{clause_of, ground_of}
 use Rattle.ground.specs.Verdict.{verdict_of, answer_of}
-use Rattle.judging.specs.declared.judge.Judging.TheVariants.{Model as IsModel}
+use Rattle.judging.specs.declared.judge.Judgement.TheVariants.{Model as IsModel}
 use Rattle.judging.specs.ModelCheck.{judge_result}
 use Rattle.judging.specs.Demand2.{ground_lent, Demand2}
 use Rattle.relevancy.specs.Engine.{too_short, fit_result}
@@ -98,7 +98,7 @@ pub record SaidOf (magic : Bool) (q : Problem) : Type 0 where
 -- "Fits and none are right for the whole ticket"
 pub record WholeRight (tb : List ℕ) (r : Parting) (left : List ℕ) : Type 1 where
   pub model : r ≡ parting.Satisfied → Model (ground_lent tb) (λ a. T (is_set left a))
-  pub judged : r ≡ parting.Satisfied → judge_result tb left ≡ IsModel
+  pub judged : r ≡ parting.Satisfied → judge_result tb left ≡ Ok IsModel
   pub no_model : r ≡ parting.Refuted → (M : ℕ → Type 0) → Model (ground_lent tb) M → ⊥
 
 -- both engines say and leave the same

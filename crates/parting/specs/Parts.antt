@@ -60,6 +60,4 @@ is_bare k = eqb (length k.conds + length k.alts) 0
 
 -- "clauses without atoms come first", each a part of its own; then those of the predicates, by the lowest of each
 unfoldable pub parts_of : Problem → List Problem
-parts_of q =
-    map (λ k. with_clauses q (k ∷ [])) (only is_bare q.clauses)
-    ++ map (part_of q) (only (is_lowest q) (tabulate (λ p. p) (length q.arities)))
+parts_of q = map (λ k. with_clauses q (k ∷ [])) (only is_bare q.clauses) ++ map (part_of q) (only (is_lowest q) (tabulate (λ p. p) (length q.arities)))

@@ -53,10 +53,7 @@ runs_of magic q = up_to_refuted (map (run_by magic) (parts_of q))
 
 -- "The first none ends it with none; failing that, any spent part makes it spent"; otherwise all of them fit
 abbrev pub said_by : List Outcome → Parting
-said_by os =
-    cond (every (λ o. not (is_refuted o)) os)
-    (cond (every (λ o. not (is_exhausted o)) os) parting.Satisfied parting.Exhausted)
-    parting.Refuted
+said_by os = cond (every (λ o. not (is_refuted o)) os) (cond (every (λ o. not (is_exhausted o)) os) parting.Satisfied parting.Exhausted) parting.Refuted
 
 -- "The count is the sum"
 abbrev pub sum_of : List Outcome → ℕ

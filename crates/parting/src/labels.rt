@@ -9,20 +9,15 @@ ghost use Rattle.parting.specs.terms.Labels.{renamed, merged, merged_slots, merg
 fn renamed(x: u8, from: u8, to: u8) -> u8
     ensures { result ≡ renamed from to x }
 {
-    if x == from {
-        return to;
-    }
-    x
+    if x == from { to } else { x }
 }
 
 // One label for another, wherever it stands.
 fn rename(labels: &mut [u8], from: u8, to: u8)
     ensures { labels.new ≡ map (renamed from to) labels.old }
 {
-    let mut i: usize = 0;
-    while i < labels.len() {
+    for i in 0..labels.len() {
         labels[i] = renamed(labels[i], from, to);
-        i += 1;
     }
 }
 
@@ -46,10 +41,8 @@ fn merge_slots(table: &[u8], at: usize, count: u8, p: u8, labels: &mut [u8])
     requires by_index { (i : ℕ) → i < count → get_or table.now (at + 6 * i) 0 < 33 }
     ensures { labels.new ≡ merged_slots table.now at p count labels.old }
 {
-    let mut i: u8 = 0;
-    while i < count {
+    for i in 0..count {
         merge(labels, p, table[at + 6 * (i as usize)]);
-        i += 1;
     }
 }
 
@@ -86,10 +79,8 @@ fn number(labels: &mut [u8])
     requires { length labels.old ≡ 33 }
     ensures { labels.new ≡ tabulate (λ p. p) 33 }
 {
-    let mut p: u8 = 0;
-    while p < 33 {
+    for p in 0..33 {
         labels[p as usize] = p;
-        p += 1;
     }
 }
 
@@ -100,9 +91,7 @@ pub fn label(table: &[u8], labels: &mut [u8])
     ensures { labels.new ≡ labels_in table.now }
 {
     number(labels);
-    let mut k: u8 = 0;
-    while k < table[2] {
+    for k in 0..table[2] {
         merge_clause(table, k, labels);
-        k += 1;
     }
 }

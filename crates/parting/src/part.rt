@@ -59,11 +59,9 @@ pub fn gather(own: &mut [u8], table: &[u8], labels: &[u8], x: u8)
     ensures { own.new ≡ layout (gathered table.now x) }
 {
     head(own, table);
-    let mut k: u8 = 0;
-    while k < table[2] {
+    for k in 0..table[2] {
         let mine = belongs(table, labels, x, k);
         add(own, table, k, mine);
-        k += 1;
     }
 }
 
@@ -75,10 +73,8 @@ pub fn mark(table: &[u8], labels: &[u8], marks: &mut [u8])
 {
     let atoms = pair(table[8], table[9]);
     let mut args = [0u8; 3];
-    let mut a: usize = 0;
-    while a < atoms {
+    for a in 0..atoms {
         marks[a] = labels[decode(table, a, &mut args) as usize];
-        a += 1;
     }
 }
 
@@ -86,10 +82,7 @@ pub fn mark(table: &[u8], labels: &[u8], marks: &mut [u8])
 fn chosen(mark: u8, x: u8, new: u8, old: u8) -> u8
     ensures { result ≡ cond (eqb mark x) new old }
 {
-    if mark == x {
-        return new;
-    }
-    old
+    if mark == x { new } else { old }
 }
 
 // Puts the bits of the atoms with mark x over those that are there.
@@ -97,9 +90,7 @@ pub fn join(marks: &[u8], x: u8, bits: &[u8], joined: &mut [u8])
     requires { (length marks.now ≡ 1024) × (length bits.now ≡ 1024) × (length joined.old ≡ 1024) }
     ensures { joined.new ≡ tabulate (joined_as marks.now x bits.now joined.old) 1024 }
 {
-    let mut a: usize = 0;
-    while a < 1024 {
+    for a in 0..1024 {
         joined[a] = chosen(marks[a], x, bits[a], joined[a]);
-        a += 1;
     }
 }

@@ -9,7 +9,7 @@ use crate::turns::run_parts;
 use lists::pair;
 
 // A refusal's number, or what the parts together say. The count of entries is told apart from it.
-#[derive(Drop)]
+#[derive(Clone, Copy, Debug, PartialEq, Eq)]
 pub enum Parting {
     Refused(u8),
     Satisfied,
@@ -18,7 +18,7 @@ pub enum Parting {
 }
 
 // What the runs say, and the sum of their counts.
-#[derive(Drop)]
+#[derive(Clone, Copy, Debug, PartialEq, Eq)]
 pub struct Counted {
     pub parting: Parting,
     pub count: u64,
@@ -28,13 +28,11 @@ pub struct Counted {
 fn said(verdict: u8) -> Parting
     ensures { result ≡ parting_by verdict }
 {
-    if verdict == 0 {
-        return Parting::Refuted;
+    match verdict {
+        0 => Parting::Refuted,
+        1 => Parting::Satisfied,
+        _ => Parting::Exhausted,
     }
-    if verdict == 1 {
-        return Parting::Satisfied;
-    }
-    Parting::Exhausted
 }
 
 // Puts the joined bits into the answer, where all parts have a model.
@@ -42,10 +40,9 @@ fn give(verdict: u8, joined: &[u8], atoms: usize, answer: &mut [u8])
     requires { (atoms ≤ 1024) × (length joined.now ≡ 1024) × (1024 ≤ length answer.old) }
     ensures { answer.new ≡ cond (eqb verdict 1) (take atoms joined.now ++ drop atoms answer.old) answer.old }
 {
-    if verdict != 1 {
-        return;
+    if verdict == 1 {
+        lists::copy(answer, &joined[..atoms]);
     }
-    lists::copy(answer, &joined[..atoms]);
 }
 
 // Fits a valid table part by part.
@@ -57,9 +54,8 @@ pub fn fit_parts(table: &[u8], magic: bool, answer: &mut [u8], work: &mut [u8]) 
     let mut joined = [0u8; 1024];
     let tally = run_parts(table, magic, &mut joined, work);
     give(tally.verdict, &joined, pair(table[8], table[9]), answer);
-    let parting = said(tally.verdict);
     Counted {
-        parting: parting,
+        parting: said(tally.verdict),
         count: tally.count,
     }
 }

@@ -15,7 +15,7 @@ use crate::part::{gather, join, mark};
 use ground::verdict::Verdict;
 
 // What the runs made say (0 none, 1 fits, 2 spent), and the sum of their counts.
-#[derive(Drop)]
+#[derive(Clone, Copy, Debug, PartialEq, Eq)]
 pub struct Tally {
     pub verdict: u8,
     pub count: u64,
@@ -155,13 +155,11 @@ fn run_turns(
         verdict: 1,
         count: 0,
     };
-    let mut i: u8 = 0;
-    while i < turns {
+    for i in 0..turns {
         tally = turn(table, labels, marks, i, magic, joined, work, tally);
         if tally.verdict == 0 {
             return tally;
         }
-        i += 1;
     }
     tally
 }

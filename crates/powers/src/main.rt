@@ -6,19 +6,12 @@ ghost use Rattle.std.specs.Prelude.{◌≡◌, ◌^◌, ◌≤◌};
 // The descriptor of standard output.
 const STDOUT_FILENO: i32 = 1;
 
-// c to the power k, by multiplying.
+// c to the power k.
 fn power(c: u8, k: u8) -> u64
     requires { (c ≤ 32) × (k ≤ 4) }
     ensures { result ≡ c ^ k }
 {
-    let base = c as u64;
-    let mut r: u64 = 1;
-    let mut i: u8 = 0;
-    while i < k {
-        r = r * base;
-        i += 1;
-    }
-    r
+    (c as u64).pow(k as u32)
 }
 
 // A number on a line of its own.

@@ -1,4 +1,7 @@
 -- The text of a well-formed problem is read to it.
+use Rattle.std.specs.Prelude.{Ok, Err}
+use Rattle.problem.specs.declared.judge.Sizes.{Sizes}
+use Rattle.problem.specs.declared.fault.Fault.TheVariants.{BadLine, BadKind}
 use Prim.Native.Nat.{ℕ, zero, suc, ◌+◌, ◌-◌, ◌≤◌}
 use mathlib.Core.Bool.{Bool, true, false}
 use mathlib.Core.List.{List, [], ◌∷◌, ◌++◌, append_assoc, append-nil, flat_map}
@@ -10,14 +13,10 @@ use lib.Seq.{append_snoc, take_all}
 use Rattle.lists.specs.Member.{All}
 use Rattle.problem.specs.declared.line.Line.{Line}
 use Rattle.problem.specs.declared.line.Line.TheVariants.{Absent, Bad, Holds}
-use Rattle.problem.specs.declared.judge.Judged.{Judged}
-use Rattle.problem.specs.declared.judge.Judged.TheVariants.{Fault, Found}
-use Rattle.problem.specs.declared.judge.Heading.{Heading}
-use Rattle.problem.specs.declared.judge.Heading.TheVariants.{Wrong, Sizes}
 use Rattle.problem.specs.Digit.{hex_line}
 use Rattle.problem.specs.Line.{line_at, frame_at, after_line}
 use Rattle.problem.specs.Problem.{Clause, Problem, ClauseFits, Fits, atom_count, weights}
-use Rattle.problem.specs.Judge.{judge_heading, judge_arity, judge_clause}
+use Rattle.problem.specs.Judge.{Judged, Heading, judge_heading, judge_arity, judge_clause}
 use Rattle.problem.specs.Parse.{Parsed, refused, parsed, judge_closing, parse_end, parse_closing, parse_clauses, parse_arities, parse}
 use Rattle.problem.specs.Print.{heading_frame, arity_frame, clause_frame, closing_frame, lines_of, text_of}
 use Rattle.problem.proofs.Lines.{Holding, line_past, line_printed}
@@ -27,14 +26,14 @@ use Rattle.problem.proofs.WellFormed.{heading_taken, arity_taken, clause_taken, 
 
 -- reading goes on past a line, a judge and a test
 module _ (line : ℕ) where
-  pub past_line_lem : (o : Line) (g : ℕ → Parsed) (n : ℕ) → o ≡ Holds n → ◌≡◌ {A = Parsed} (elim o [ Absent ↦ refused 2 line | Bad ↦ refused 1 line | Holds m ↦ g m ]) (g n)
+  pub past_line_lem : (o : Line) (g : ℕ → Parsed) (n : ℕ) → o ≡ Holds n → ◌≡◌ {A = Parsed} (elim o [ Absent ↦ refused BadKind line | Bad ↦ refused BadLine line | Holds m ↦ g m ]) (g n)
   past_line_lem o g n e = rw e
 
-  past_judge : (o : Judged) (g : ℕ → Parsed) (v : ℕ) → o ≡ Found v → ◌≡◌ {A = Parsed} (elim o [ Fault e ↦ refused e line | Found w ↦ g w ]) (g v)
+  past_judge : (o : Judged) (g : ℕ → Parsed) (v : ℕ) → o ≡ Ok v → ◌≡◌ {A = Parsed} (elim o [ Err e ↦ refused e line | Ok w ↦ g w ]) (g v)
   past_judge o g v e = rw e
 
-  past_heading : (o : Heading) (g : ℕ → ℕ → Parsed) (c p : ℕ) → o ≡ Sizes c p → ◌≡◌ {A = Parsed} (elim o [ Wrong e ↦ refused e line | Sizes d r ↦ g d r ]) (g c p)
-  past_heading o g c p e = rw e
+  past_heading : (o : Heading) (g : ℕ → ℕ → Parsed) (h : Sizes) → o ≡ Ok h → ◌≡◌ {A = Parsed} (elim o [ Err e ↦ refused e line | Ok s ↦ g s.constants s.predicates ]) (g h.constants h.predicates)
+  past_heading o g h e = rw e
 
 pub past_test : (b : Bool) (r t : Parsed) → b ≡ true → ◌≡◌ {A = Parsed} (elim b [ true ↦ r | false ↦ t ]) r
 past_test b r t e = rw e
@@ -47,7 +46,7 @@ module _ (q : Problem) (fits : Fits q) (x : List ℕ) where
   end_taken : (line at : ℕ) → drop at x ≡ [] → parse_end x q.constants q.limit q.arities q.clauses line at ≡ parsed q
   unfolding parse_end
   end_taken line at e =
-      ap {B = Parsed} (λ (o : Line). elim o [ Absent ↦ parsed q | Bad ↦ refused 1 line | Holds n ↦ refused 2 line ])
+      ap {B = Parsed} (λ (o : Line). elim o [ Absent ↦ parsed q | Bad ↦ refused BadLine line | Holds n ↦ refused BadKind line ])
       (line_past x at (omega (arith, simp length-drop at (ap length e))))
 
   -- the last line
@@ -66,15 +65,15 @@ module _ (q : Problem) (fits : Fits q) (x : List ℕ) where
     -- whatever is done with a clause line
     no_clause : (r : ℕ → Parsed)
         → ◌≡◌ {A = Parsed} (elim (line_at x at) [
-          | Absent ↦ refused 2 line
-          | Bad ↦ refused 1 line
+          | Absent ↦ refused BadKind line
+          | Bad ↦ refused BadLine line
           | Holds n ↦
               elim (eqb (get_or (frame_at x at n) 0 0) 3) [
                 | true ↦ r n
                 | false ↦
                     elim (eqb (get_or (frame_at x at n) 0 0) 255) [
                       | true ↦ parse_closing x q.constants q.limit q.arities q.clauses line at n
-                      | false ↦ refused 2 line
+                      | false ↦ refused BadKind line
                     ]
               ]
         ]) (parsed q)
@@ -157,7 +156,7 @@ module _ (q : Problem) (fits : Fits q) (x last : List ℕ) where
       let limit : take 4 (drop 4 f) ≡ q.limit = take_all 4 q.limit (omega (arith, fits.limit_four)) in
       lines_on q x last _ _
       (past_line_lem 1 (line_at x 0) _ (length f) held.line
-      ∙ past_heading 1 (judge_heading (frame_at x 0 (length f))) _ q.constants (length q.arities) (rw held.frame (heading_taken q fits)))
+      ∙ past_heading 1 (judge_heading (frame_at x 0 (length f))) _ (record { constants = q.constants; predicates = length q.arities }) (rw held.frame (heading_taken q fits)))
       (rw (held.frame, limit) (arities_taken q.arities [] 2 (after_line 0 (length f)) refl refl fits.arities_fit (omega (arith, fits.atoms_fit)) held.rest))
 
 pub parse_accepts : (q : Problem) → Fits q → parse (text_of q) ≡ parsed q

@@ -1,4 +1,8 @@
 -- What a judge's answer says of the bytes judged.
+use Rattle.std.specs.Prelude.{Ok, Err}
+use Rattle.problem.specs.declared.fault.Fault.{Fault}
+use Rattle.problem.specs.declared.judge.Sizes.{Sizes}
+use Rattle.problem.specs.declared.fault.Fault.TheVariants.{BadKind, BadLength, BadVersion, BadCount, Unknown, BadNumbering, FreeVariable, TooManyAtoms, TooManyMarks}
 use Prim.Native.Nat.{ℕ, zero, suc, ◌+◌, ◌-◌, ◌*◌, ◌^◌, ◌≤◌, ◌<◌}
 use mathlib.Core.Bool.{Bool, true, false, not, cond, ◌&&◌}
 use mathlib.Core.List.{List, [], ◌∷◌, ◌++◌, append_assoc, append-nil, flat_map}
@@ -12,14 +16,8 @@ use Rattle.lists.specs.Member.{All, Any}
 use Rattle.lists.proofs.Test.{decided}
 use Rattle.lists.specs.Test.{T_left, T_right}
 use Rattle.lists.proofs.Member.{all_map, any_flat, flat_append}
-use Rattle.problem.specs.declared.judge.Judged.{Judged}
-use Rattle.problem.specs.declared.judge.Judged.TheVariants.{Fault, Found}
-use Rattle.problem.specs.declared.judge.Span.{Span}
-use Rattle.problem.specs.declared.judge.Span.TheVariants.{Broken, Reached}
-use Rattle.problem.specs.declared.judge.Heading.{Heading}
-use Rattle.problem.specs.declared.judge.Heading.TheVariants.{Wrong, Sizes}
 use Rattle.problem.specs.Problem.{Atom, ArgFits, AtomFits, VariablesInOrder, ClauseFits, weight}
-use Rattle.problem.specs.Judge.{judge_sizes, judge_heading, judge_arity, judge_variable, judge_arg, judge_args, judge_atom, judge_atoms, judge_end, judge_body, judge_clause, atom_at, after_atom, atoms_at, after_atoms, clause_at}
+use Rattle.problem.specs.Judge.{Judged, Span, Heading, judge_sizes, judge_heading, judge_arity, judge_variable, judge_arg, judge_args, judge_atom, judge_atoms, judge_end, judge_body, judge_clause, atom_at, after_atom, atoms_at, after_atoms, clause_at}
 use Rattle.problem.specs.Print.{atom_bytes, arity_frame, clause_frame}
 use Rattle.problem.proofs.Variables.{Stands, InOrderFrom, order_none, order_append}
 
@@ -36,14 +34,23 @@ tested {R} {S} a b r other t e f g = go (ltb a b) (ltb→lt a b) (nltb→le a b)
     go true l m q = f (l tt) q
     go false l m q = g (m tt) q
 
-pub wrong_sizes : (e c p : ℕ) → ◌≡◌ {A = Heading} (Wrong e) (Sizes c p) → ⊥
-wrong_sizes e c p q = let z : ◌≡◌ {A = ℕ} 0 1 = cc in omega arith
+pub wrong_sizes : (e : Fault) (s : Sizes) → ◌≡◌ {A = Heading} (Err e) (Ok s) → ⊥
+wrong_sizes e s q = let z : ◌≡◌ {A = ℕ} 0 1 = cc in omega arith
 
-pub fault_found : (e v : ℕ) → ◌≡◌ {A = Judged} (Fault e) (Found v) → ⊥
+pub fault_found : (e : Fault) (v : ℕ) → ◌≡◌ {A = Judged} (Err e) (Ok v) → ⊥
 fault_found e v q = let z : ◌≡◌ {A = ℕ} 0 1 = cc in omega arith
 
-pub broken_reached : (e i w : ℕ) → ◌≡◌ {A = Span} (Broken e) (Reached i w) → ⊥
+pub broken_reached : (e : Fault) (i w : ℕ) → ◌≡◌ {A = Span} (Err e) (Ok (i, w)) → ⊥
 broken_reached e i w q = let z : ◌≡◌ {A = ℕ} 0 1 = cc in omega arith
+
+-- where the bytes end, and how many variables have appeared
+abbrev reached_at : Span → ℕ
+reached_at (Err e) = 0
+reached_at (Ok (i, w)) = i
+
+abbrev seen_by : Span → ℕ
+seen_by (Err e) = 0
+seen_by (Ok (i, w)) = w
 
 -- the first line
 pub record Headed (f : List ℕ) (c p : ℕ) : Type 0 where
@@ -59,18 +66,20 @@ four_then f h =
     drop-cons f 0 0 (omega arith)
     ∙ rw (drop-cons f 1 0 (omega arith), drop-cons f 2 0 (omega arith), drop-cons f 3 0 (omega arith), rest)
 
-pub heading_sizes : (f : List ℕ) (c p : ℕ) → judge_heading f ≡ Sizes c p → Headed f c p
+pub heading_sizes : (f : List ℕ) (s : Sizes) → judge_heading f ≡ Ok s → Headed f s.constants s.predicates
 unfolding judge_heading judge_sizes
-heading_sizes f c p e =
-    let kind = passed (eqb (get_or f 0 0) 1) _ _ _ (wrong_sizes 2 c p) e in
-    let one = passed (ltb 1 (length f)) _ _ _ (wrong_sizes 3 c p) kind.1 in
-    let version = passed (eqb (get_or f 1 0) 1) _ _ _ (wrong_sizes 4 c p) one.1 in
-    let two = passed (ltb 2 (length f)) _ _ _ (wrong_sizes 3 c p) version.1 in
-    let constants = passed (ltb (get_or f 2 0) 33) _ _ _ (wrong_sizes 5 c p) two.1 in
-    let three = passed (ltb 3 (length f)) _ _ _ (wrong_sizes 3 c p) constants.1 in
-    let predicates = passed (ltb 0 (get_or f 3 0) && ltb (get_or f 3 0) 33) _ _ _ (wrong_sizes 5 c p) three.1 in
-    let whole = passed (eqb (length f) 8) _ _ _ (wrong_sizes 3 c p) predicates.1 in
-    let same : ◌≡◌ {A = Heading} (Sizes (get_or f 2 0) (get_or f 3 0)) (Sizes c p) = whole.1 in
+heading_sizes f s e =
+    let c = s.constants in
+    let p = s.predicates in
+    let kind = passed (eqb (get_or f 0 0) 1) _ _ _ (wrong_sizes BadKind s) e in
+    let one = passed (ltb 1 (length f)) _ _ _ (wrong_sizes BadLength s) kind.1 in
+    let version = passed (eqb (get_or f 1 0) 1) _ _ _ (wrong_sizes BadVersion s) one.1 in
+    let two = passed (ltb 2 (length f)) _ _ _ (wrong_sizes BadLength s) version.1 in
+    let constants = passed (ltb (get_or f 2 0) 33) _ _ _ (wrong_sizes BadCount s) two.1 in
+    let three = passed (ltb 3 (length f)) _ _ _ (wrong_sizes BadLength s) constants.1 in
+    let predicates = passed (ltb 0 (get_or f 3 0) && ltb (get_or f 3 0) 33) _ _ _ (wrong_sizes BadCount s) three.1 in
+    let whole = passed (eqb (length f) 8) _ _ _ (wrong_sizes BadLength s) predicates.1 in
+    let same : ◌≡◌ {A = Heading} (Ok (record { constants = get_or f 2 0; predicates = get_or f 3 0 })) (Ok s) = whole.1 in
     let same_c : get_or f 2 0 ≡ c = cc in
     let same_p : get_or f 3 0 ≡ p = cc in
     let zero_is : get_or f 0 0 ≡ 1 = eqb→eq (get_or f 0 0) 1 kind.0 in
@@ -93,15 +102,15 @@ two_bytes f h =
     let over : drop 2 f ≡ [] = subst (λ (k : ℕ). drop k f ≡ []) h (drop-length f) in
     drop-cons f 0 0 (omega arith) ∙ rw (drop-cons f 1 0 (omega arith), over)
 
-pub arity_found : (c atoms : ℕ) (f : List ℕ) (a : ℕ) → judge_arity c atoms f ≡ Found a → (f ≡ arity_frame a) × (a ≤ 3) × (atoms + c ^ a ≤ 1024)
+pub arity_found : (c atoms : ℕ) (f : List ℕ) (a : ℕ) → judge_arity c atoms f ≡ Ok a → (f ≡ arity_frame a) × (a ≤ 3) × (atoms + c ^ a ≤ 1024)
 unfolding judge_arity
 arity_found c atoms f a e =
-    let kind = passed (eqb (get_or f 0 0) 2) _ _ _ (fault_found 2 a) e in
-    let one = passed (ltb 1 (length f)) _ _ _ (fault_found 3 a) kind.1 in
-    let few = passed (ltb (get_or f 1 0) 4) _ _ _ (fault_found 5 a) one.1 in
-    let whole = passed (eqb (length f) 2) _ _ _ (fault_found 3 a) few.1 in
-    let room = passed (leb (atoms + c ^ get_or f 1 0) 1024) _ _ _ (fault_found 9 a) whole.1 in
-    let found : ◌≡◌ {A = Judged} (Found (get_or f 1 0)) (Found a) = room.1 in
+    let kind = passed (eqb (get_or f 0 0) 2) _ _ _ (fault_found BadKind a) e in
+    let one = passed (ltb 1 (length f)) _ _ _ (fault_found BadLength a) kind.1 in
+    let few = passed (ltb (get_or f 1 0) 4) _ _ _ (fault_found BadCount a) one.1 in
+    let whole = passed (eqb (length f) 2) _ _ _ (fault_found BadLength a) few.1 in
+    let room = passed (leb (atoms + c ^ get_or f 1 0) 1024) _ _ _ (fault_found TooManyAtoms a) whole.1 in
+    let found : ◌≡◌ {A = Judged} (Ok (get_or f 1 0)) (Ok a) = room.1 in
     let same : get_or f 1 0 ≡ a = cc in
     let zero_is : get_or f 0 0 ≡ 2 = eqb→eq (get_or f 0 0) 2 kind.0 in
     let two : length f ≡ 2 = eqb→eq (length f) 2 whole.0 in
@@ -118,7 +127,7 @@ pub record ArgJudged (c v w b : ℕ) : Type 0 where
   pub fits : ArgFits c w b
   pub named : (x : ℕ) → v ≤ x → x < w → b ≡ 128 + x
 
-pub arg_found : (c v b w : ℕ) → judge_arg c v b ≡ Found w → ArgJudged c v w b
+pub arg_found : (c v b w : ℕ) → judge_arg c v b ≡ Ok w → ArgJudged c v w b
 unfolding judge_arg judge_variable
 arg_found c v b w e = tested b _ _ _ _ e (λ l q. constant (omega arith) q) (λ l q. variable q)
   where
@@ -135,24 +144,24 @@ arg_found c v b w e = tested b _ _ _ _ e (λ l q. constant (omega arith) q) (λ 
     new low high q same =
         record { grows = omega arith; few = λ h. omega arith; fits = inr (low, omega arith); named = λ x l h. omega arith }
 
-    constant : b < 32 → cond (ltb b c) (Found v) (Fault 6) ≡ Found w → ArgJudged c v w b
+    constant : b < 32 → cond (ltb b c) (Ok v) (Err Unknown) ≡ Ok w → ArgJudged c v w b
     constant l q =
-        let p = passed (ltb b c) _ _ _ (fault_found 6 w) q in
-        let found : ◌≡◌ {A = Judged} (Found v) (Found w) = p.1 in
+        let p = passed (ltb b c) _ _ _ (fault_found Unknown w) q in
+        let found : ◌≡◌ {A = Judged} (Ok v) (Ok w) = p.1 in
         old (cc) (inl (l, ltb→lt b c p.0))
 
-    next : 128 ≤ b → b < 132 → cond (eqb (b - 128) v) (Found (suc v)) (Fault 7) ≡ Found w → ArgJudged c v w b
+    next : 128 ≤ b → b < 132 → cond (eqb (b - 128) v) (Ok (suc v)) (Err BadNumbering) ≡ Ok w → ArgJudged c v w b
     next low high q =
-        let p = passed (eqb (b - 128) v) _ _ _ (fault_found 7 w) q in
-        let found : ◌≡◌ {A = Judged} (Found (suc v)) (Found w) = p.1 in
+        let p = passed (eqb (b - 128) v) _ _ _ (fault_found BadNumbering w) q in
+        let found : ◌≡◌ {A = Judged} (Ok (suc v)) (Ok w) = p.1 in
         new low high (eqb→eq (b - 128) v p.0) (cc)
 
-    seen : 128 ≤ b → b < 132 → b - 128 < v → ◌≡◌ {A = Judged} (Found v) (Found w) → ArgJudged c v w b
+    seen : 128 ≤ b → b < 132 → b - 128 < v → ◌≡◌ {A = Judged} (Ok v) (Ok w) → ArgJudged c v w b
     seen low high l q = old (cc) (inr (low, omega arith))
 
-    variable : cond (leb 128 b && ltb b 132) (cond (ltb (b - 128) v) (Found v) (cond (eqb (b - 128) v) (Found (suc v)) (Fault 7))) (Fault 6) ≡ Found w → ArgJudged c v w b
+    variable : cond (leb 128 b && ltb b 132) (cond (ltb (b - 128) v) (Ok v) (cond (eqb (b - 128) v) (Ok (suc v)) (Err BadNumbering))) (Err Unknown) ≡ Ok w → ArgJudged c v w b
     variable q =
-        let p = passed (leb 128 b && ltb b 132) _ _ _ (fault_found 6 w) q in
+        let p = passed (leb 128 b && ltb b 132) _ _ _ (fault_found Unknown w) q in
         let low : 128 ≤ b = leb→le 128 b (T_left (leb 128 b) (ltb b 132) p.0) in
         let high : b < 132 = ltb→lt b 132 (T_right (leb 128 b) (ltb b 132) p.0) in
         tested (b - 128) v _ _ _ p.1 (λ l s. seen low high l s) (λ l s. next low high s)
@@ -205,11 +214,11 @@ module _ (c : ℕ) (f : List ℕ) (n j v i u w : ℕ) where
           go (inl t) = inl (a.named x l (ltb→lt x u t))
           go (inr t) = inr (as_judged.named x (nltb→le x u t) k)
 
-pub args_reached : (c : ℕ) (f : List ℕ) (n j v i w : ℕ) → judge_args c f n j v ≡ Reached i w → ArgsJudged c f n j v i w
+pub args_reached : (c : ℕ) (f : List ℕ) (n j v i w : ℕ) → judge_args c f n j v ≡ Ok (i, w) → ArgsJudged c f n j v i w
 unfolding judge_args
 args_reached c f zero j v i w e =
-    let here : j ≡ i = cc in
-    let same : v ≡ w = cc in
+    let here : j ≡ i = ap reached_at e in
+    let same : v ≡ w = ap seen_by e in
     record {
       place = omega arith;
       room = λ l. omega arith;
@@ -220,14 +229,14 @@ args_reached c f zero j v i w e =
       ordered = order_none v;
     }
 args_reached c f (suc n) j v i w e =
-    let p = passed (ltb j (length f)) _ _ _ (broken_reached 3 i w) e in
+    let p = passed (ltb j (length f)) _ _ _ (broken_reached BadLength i w) e in
     go (ltb→lt j (length f) p.0) (judge_arg c v (get_or f j 0)) refl (λ u. args_reached c f n (suc j) u i w) p.1
   where
     go : j < length f → (o : Judged) → judge_arg c v (get_or f j 0) ≡ o
-        → ((u : ℕ) → judge_args c f n (suc j) u ≡ Reached i w → ArgsJudged c f n (suc j) u i w)
-        → ◌≡◌ {A = Span} (elim o [ Fault e ↦ Broken e | Found u ↦ judge_args c f n (suc j) u ]) (Reached i w) → ArgsJudged c f (suc n) j v i w
-    go h (Fault k) q r s = absurd (broken_reached k i w s)
-    go h (Found u) q r s = args_more c f n j v i u w h (arg_found c v (get_or f j 0) u q) (r u s)
+        → ((u : ℕ) → judge_args c f n (suc j) u ≡ Ok (i, w) → ArgsJudged c f n (suc j) u i w)
+        → ◌≡◌ {A = Span} (elim o [ Err e ↦ Err e | Ok u ↦ judge_args c f n (suc j) u ]) (Ok (i, w)) → ArgsJudged c f (suc n) j v i w
+    go h (Err k) q r s = absurd (broken_reached k i w s)
+    go h (Ok u) q r s = args_more c f n j v i u w h (arg_found c v (get_or f j 0) u q) (r u s)
 
 -- the variable x stands in an atom
 abbrev pub Names : ℕ → Atom → Type 0
@@ -243,11 +252,11 @@ pub record AtomJudged (c : ℕ) (arities f : List ℕ) (j v i w : ℕ) : Type 0 
   pub named : (x : ℕ) → v ≤ x → x < w → Names x (atom_at arities f j)
   pub ordered : InOrderFrom v (atom_at arities f j).args
 
-pub atom_reached : (c : ℕ) (arities f : List ℕ) (j v i w : ℕ) → judge_atom c arities f j v ≡ Reached i w → AtomJudged c arities f j v i w
+pub atom_reached : (c : ℕ) (arities f : List ℕ) (j v i w : ℕ) → judge_atom c arities f j v ≡ Ok (i, w) → AtomJudged c arities f j v i w
 unfolding judge_atom
 atom_reached c arities f j v i w e =
-    let p = passed (ltb j (length f)) _ _ _ (broken_reached 3 i w) e in
-    let q = passed (ltb (get_or f j 0) (length arities)) _ _ _ (broken_reached 6 i w) p.1 in
+    let p = passed (ltb j (length f)) _ _ _ (broken_reached BadLength i w) e in
+    let q = passed (ltb (get_or f j 0) (length arities)) _ _ _ (broken_reached Unknown i w) p.1 in
     let n = get_or arities (get_or f j 0) 0 in
     let r = args_reached c f n (suc j) v i w q.1 in
     let h : j < length f = ltb→lt j (length f) p.0 in
@@ -312,11 +321,11 @@ module _ (c : ℕ) (arities f : List ℕ) (n j v k u i w : ℕ) where
       pick x l h (inl t) = inl (a.named x l (ltb→lt x u t))
       pick x l h (inr t) = inr (r.named x (nltb→le x u t) h)
 
-pub atoms_reached : (c : ℕ) (arities f : List ℕ) (n j v i w : ℕ) → judge_atoms c arities f n j v ≡ Reached i w → AtomsJudged c arities f n j v i w
+pub atoms_reached : (c : ℕ) (arities f : List ℕ) (n j v i w : ℕ) → judge_atoms c arities f n j v ≡ Ok (i, w) → AtomsJudged c arities f n j v i w
 unfolding judge_atoms flat_map
 atoms_reached c arities f zero j v i w e =
-    let here : j ≡ i = cc in
-    let same : v ≡ w = cc in
+    let here : j ≡ i = ap reached_at e in
+    let same : v ≡ w = ap seen_by e in
     record {
       place = sym here;
       text = rw here;
@@ -330,11 +339,11 @@ atoms_reached c arities f (suc n) j v i w e =
     go (judge_atom c arities f j v) refl (λ k u. atoms_reached c arities f n k u i w) e
   where
     go : (o : Span) → judge_atom c arities f j v ≡ o
-        → ((k u : ℕ) → judge_atoms c arities f n k u ≡ Reached i w → AtomsJudged c arities f n k u i w)
-        → ◌≡◌ {A = Span} (elim o [ Broken e ↦ Broken e | Reached k u ↦ judge_atoms c arities f n k u ]) (Reached i w)
+        → ((k u : ℕ) → judge_atoms c arities f n k u ≡ Ok (i, w) → AtomsJudged c arities f n k u i w)
+        → ◌≡◌ {A = Span} (elim o [ Err e ↦ Err e | Ok (k, u) ↦ judge_atoms c arities f n k u ]) (Ok (i, w))
         → AtomsJudged c arities f (suc n) j v i w
-    go (Broken m) q r s = absurd (broken_reached m i w s)
-    go (Reached k u) q r s = atoms_more c arities f n j v k u i w (atom_reached c arities f j v k u q) (r k u s)
+    go (Err m) q r s = absurd (broken_reached m i w s)
+    go (Ok (k, u)) q r s = atoms_more c arities f n j v k u i w (atom_reached c arities f j v k u q) (r k u s)
 
 -- the end of a clause line of so many bytes and conditions
 pub record EndJudged (c sum size conds v j w r : ℕ) : Type 0 where
@@ -343,13 +352,13 @@ pub record EndJudged (c sum size conds v j w r : ℕ) : Type 0 where
   pub answer : v ≡ r
   pub light : sum + conds * c ^ v ≤ 16384
 
-pub end_found : (c sum size conds v j w r : ℕ) → judge_end c sum size conds v j w ≡ Found r → EndJudged c sum size conds v j w r
+pub end_found : (c sum size conds v j w r : ℕ) → judge_end c sum size conds v j w ≡ Ok r → EndJudged c sum size conds v j w r
 unfolding judge_end
 end_found c sum size conds v j w r e =
-    let p = passed (eqb j size) _ _ _ (fault_found 3 r) e in
-    let q = passed (eqb w v) _ _ _ (fault_found 8 r) p.1 in
-    let s = passed (leb (sum + conds * c ^ v) 16384) _ _ _ (fault_found 10 r) q.1 in
-    let found : ◌≡◌ {A = Judged} (Found v) (Found r) = s.1 in
+    let p = passed (eqb j size) _ _ _ (fault_found BadLength r) e in
+    let q = passed (eqb w v) _ _ _ (fault_found FreeVariable r) p.1 in
+    let s = passed (leb (sum + conds * c ^ v) 16384) _ _ _ (fault_found TooManyMarks r) q.1 in
+    let found : ◌≡◌ {A = Judged} (Ok v) (Ok r) = s.1 in
     record {
       at_end = eqb→eq j size p.0;
       no_more = eqb→eq w v q.0;
@@ -406,13 +415,13 @@ module _ (c : ℕ) (arities : List ℕ) (sum : ℕ) (f : List ℕ) (v : ℕ) whe
         ended = rw (← conds.place) (sym alts.place ∙ end);
       }
 
-  pub clause_found : judge_clause c arities sum f ≡ Found v → get_or f 0 0 ≡ 3 → ClauseJudged c arities sum f v
+  pub clause_found : judge_clause c arities sum f ≡ Ok v → get_or f 0 0 ≡ 3 → ClauseJudged c arities sum f v
   unfolding judge_clause judge_body
   clause_found e kind =
-      let one = passed (ltb 1 (length f)) _ _ _ (fault_found 3 v) e in
-      let few_conds = passed (ltb (get_or f 1 0) 5) _ _ _ (fault_found 5 v) one.1 in
-      let two = passed (ltb 2 (length f)) _ _ _ (fault_found 3 v) few_conds.1 in
-      let few_alts = passed (ltb (get_or f 2 0) 5) _ _ _ (fault_found 5 v) two.1 in
+      let one = passed (ltb 1 (length f)) _ _ _ (fault_found BadLength v) e in
+      let few_conds = passed (ltb (get_or f 1 0) 5) _ _ _ (fault_found BadCount v) one.1 in
+      let two = passed (ltb 2 (length f)) _ _ _ (fault_found BadLength v) few_conds.1 in
+      let few_alts = passed (ltb (get_or f 2 0) 5) _ _ _ (fault_found BadCount v) two.1 in
       let parts = clause_parts kind (ltb→lt 2 (length f) two.0) (ltb→lt (get_or f 1 0) 5 few_conds.0) (ltb→lt (get_or f 2 0) 5 few_alts.0) in
       conds parts (judge_atoms c arities f (get_or f 1 0) 3 0) refl few_alts.1
     where
@@ -420,10 +429,10 @@ module _ (c : ℕ) (arities : List ℕ) (sum : ℕ) (f : List ℕ) (v : ℕ) whe
       Parts = (i j : ℕ) → AtomsJudged c arities f (get_or f 1 0) 3 0 i v → AtomsJudged c arities f (get_or f 2 0) i v j v → j ≡ length f
           → sum + get_or f 1 0 * c ^ v ≤ 16384 → ClauseJudged c arities sum f v
 
-      alts : Parts → (i u : ℕ) → judge_atoms c arities f (get_or f 1 0) 3 0 ≡ Reached i u → (o : Span) → judge_atoms c arities f (get_or f 2 0) i u ≡ o
-          → ◌≡◌ {A = Judged} (elim o [ Broken k ↦ Fault k | Reached j w ↦ judge_end c sum (length f) (get_or f 1 0) u j w ]) (Found v) → ClauseJudged c arities sum f v
-      alts parts i u p (Broken k) q s = absurd (fault_found k v s)
-      alts parts i u p (Reached j w) q s =
+      alts : Parts → (i u : ℕ) → judge_atoms c arities f (get_or f 1 0) 3 0 ≡ Ok (i, u) → (o : Span) → judge_atoms c arities f (get_or f 2 0) i u ≡ o
+          → ◌≡◌ {A = Judged} (elim o [ Err k ↦ Err k | Ok (j, w) ↦ judge_end c sum (length f) (get_or f 1 0) u j w ]) (Ok v) → ClauseJudged c arities sum f v
+      alts parts i u p (Err k) q s = absurd (fault_found k v s)
+      alts parts i u p (Ok (j, w)) q s =
           let end = end_found c sum (length f) (get_or f 1 0) u j w v s in
           let more : w ≡ v = end.no_more ∙ end.answer in
           parts i j
@@ -434,8 +443,8 @@ module _ (c : ℕ) (arities : List ℕ) (sum : ℕ) (f : List ℕ) (v : ℕ) whe
 
       conds : Parts → (o : Span) → judge_atoms c arities f (get_or f 1 0) 3 0 ≡ o
           → ◌≡◌ {A = Judged} (elim o [
-            | Broken k ↦ Fault k
-            | Reached i u ↦ elim (judge_atoms c arities f (get_or f 2 0) i u) [ Broken k ↦ Fault k | Reached j w ↦ judge_end c sum (length f) (get_or f 1 0) u j w ]
-          ]) (Found v) → ClauseJudged c arities sum f v
-      conds parts (Broken k) q s = absurd (fault_found k v s)
-      conds parts (Reached i u) q s = alts parts i u q (judge_atoms c arities f (get_or f 2 0) i u) refl s
+            | Err k ↦ Err k
+            | Ok (i, u) ↦ elim (judge_atoms c arities f (get_or f 2 0) i u) [ Err k ↦ Err k | Ok (j, w) ↦ judge_end c sum (length f) (get_or f 1 0) u j w ]
+          ]) (Ok v) → ClauseJudged c arities sum f v
+      conds parts (Err k) q s = absurd (fault_found k v s)
+      conds parts (Ok (i, u)) q s = alts parts i u q (judge_atoms c arities f (get_or f 2 0) i u) refl s

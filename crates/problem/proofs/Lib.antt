@@ -1,3 +1,4 @@
+pub mod Faults
 pub mod Digits
 pub mod Lines
 pub mod Variables

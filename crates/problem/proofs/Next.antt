@@ -1,4 +1,6 @@
 -- The bytes of a frame as a problem's next clause line, and a frame that goes on past a line.
+use Rattle.std.specs.Prelude.{Ok, Err}
+use Rattle.problem.specs.declared.fault.Fault.TheVariants.{BadKind, BadLength, BadCount, FreeVariable, TooManyMarks}
 use Prim.Native.Nat.{ℕ, zero, suc, ◌+◌, ◌-◌, ◌*◌, ◌^◌, ◌≤◌, ◌<◌}
 use mathlib.Core.Bool.{Bool, true, false, cond}
 use mathlib.Core.List.{List, [], ◌∷◌, ◌++◌, append_assoc, append-nil, flat_map}
@@ -14,14 +16,10 @@ use Rattle.lists.proofs.Bytes.{all_at}
 use Rattle.lists.proofs.Member.{All-append}
 use Rattle.lists.proofs.Test.{same_or_other, lt_or_le}
 use Rattle.problem.specs.declared.line.Line.TheVariants.{Holds}
-use Rattle.problem.specs.declared.judge.Judged.{Judged}
-use Rattle.problem.specs.declared.judge.Judged.TheVariants.{Fault, Found}
-use Rattle.problem.specs.declared.judge.Span.{Span}
-use Rattle.problem.specs.declared.judge.Span.TheVariants.{Broken, Reached}
 use Rattle.problem.specs.Digit.{hex_line}
 use Rattle.problem.specs.Line.{line_at, frame_at, after_line}
 use Rattle.problem.specs.Problem.{Clause, Problem, ClauseFits, Fits, weights}
-use Rattle.problem.specs.Judge.{judge_arg, judge_args, judge_atom, judge_atoms, judge_end, judge_body, judge_clause, after_atom, after_atoms, clause_at}
+use Rattle.problem.specs.Judge.{Judged, Span, judge_arg, judge_args, judge_atom, judge_atoms, judge_end, judge_body, judge_clause, after_atom, after_atoms, clause_at}
 use Rattle.problem.specs.Parse.{Parsed, refused, parsed, parse_clauses, parse}
 use Rattle.problem.specs.Print.{heading_frame, clause_frame, text_of}
 use Rattle.problem.specs.Extended.{with_clause, judge_next, past_line, text_with, next_read}
@@ -55,9 +53,9 @@ module _ (c : ℕ) (arities f more : List ℕ) where
       there j _ _ (omega arith) ∙ rw (get_or-append f more 0 j (omega arith), go (judge_arg c v (get_or f j 0)) (λ w. args_longer n (suc j) w (omega arith)))
     where
       go : (o : Judged) → ((w : ℕ) → judge_args c (f ++ more) n (suc j) w ≡ judge_args c f n (suc j) w)
-          → ◌≡◌ {A = Span} (elim o [ Fault e ↦ Broken e | Found w ↦ judge_args c (f ++ more) n (suc j) w ]) (elim o [ Fault e ↦ Broken e | Found w ↦ judge_args c f n (suc j) w ])
-      go (Fault e) same = refl
-      go (Found w) same = same w
+          → ◌≡◌ {A = Span} (elim o [ Err e ↦ Err e | Ok w ↦ judge_args c (f ++ more) n (suc j) w ]) (elim o [ Err e ↦ Err e | Ok w ↦ judge_args c f n (suc j) w ])
+      go (Err e) same = refl
+      go (Ok w) same = same w
 
   atom_longer : (j v : ℕ) → after_atom arities f j ≤ length f → judge_atom c arities (f ++ more) j v ≡ judge_atom c arities f j v
   unfolding judge_atom
@@ -73,15 +71,15 @@ module _ (c : ℕ) (arities f more : List ℕ) where
   unfolding judge_atoms
   atoms_longer zero j v room = refl
   atoms_longer (suc n) j v room =
-      ap {B = Span} (λ (o : Span). elim o [ Broken e ↦ Broken e | Reached i w ↦ judge_atoms c arities (f ++ more) n i w ])
+      ap {B = Span} (λ (o : Span). elim o [ Err e ↦ Err e | Ok (i, w) ↦ judge_atoms c arities (f ++ more) n i w ])
       (atom_longer j v (omega (arith, after_grows n (after_atom arities f j))))
       ∙ go (judge_atom c arities f j v) refl (λ i w h. atoms_longer n i w h)
     where
       go : (o : Span) → judge_atom c arities f j v ≡ o
           → ((i w : ℕ) → after_atoms arities f n i ≤ length f → judge_atoms c arities (f ++ more) n i w ≡ judge_atoms c arities f n i w)
-          → ◌≡◌ {A = Span} (elim o [ Broken e ↦ Broken e | Reached i w ↦ judge_atoms c arities (f ++ more) n i w ]) (elim o [ Broken e ↦ Broken e | Reached i w ↦ judge_atoms c arities f n i w ])
-      go (Broken e) q same = refl
-      go (Reached i w) q same = same i w (rw (atom_reached c arities f j v i w q).place room)
+          → ◌≡◌ {A = Span} (elim o [ Err e ↦ Err e | Ok (i, w) ↦ judge_atoms c arities (f ++ more) n i w ]) (elim o [ Err e ↦ Err e | Ok (i, w) ↦ judge_atoms c arities f n i w ])
+      go (Err e) q same = refl
+      go (Ok (i, w)) q same = same i w (rw (atom_reached c arities f j v i w q).place room)
 
   -- more stands after the atoms of a clause, so that they do not end it
   module _ (sum : ℕ) (some : 0 < length more) where
@@ -91,39 +89,39 @@ module _ (c : ℕ) (arities f more : List ℕ) where
         rw (ne_eqb j (length (f ++ more)) (λ e. omega (arith, length-append f more)))
         (go (eqb j size) (eqb w v) (leb (sum + conds * c ^ v) 16384))
       where
-        go : (a b d : Bool) → Fault 3 ≡ past_line (cond a (cond b (cond d (Found v) (Fault 10)) (Fault 8)) (Fault 3))
+        go : (a b d : Bool) → Err BadLength ≡ past_line (cond a (cond b (cond d (Ok v) (Err TooManyMarks)) (Err FreeVariable)) (Err BadLength))
         go true true true = refl
         go true true false = refl
         go true false d = refl
         go false b d = refl
 
     -- a fault before the end is the first
-    atoms_past : (o : Span) (g h : ℕ → ℕ → Judged) → SpanBy (λ e. past_line (Fault e) ≡ Fault e) o
-        → ((i w : ℕ) → o ≡ Reached i w → g i w ≡ past_line (h i w))
-        → ◌≡◌ {A = Judged} (elim o [ Broken e ↦ Fault e | Reached i w ↦ g i w ]) (past_line (elim o [ Broken e ↦ Fault e | Reached i w ↦ h i w ]))
-    atoms_past (Broken e) g h early same = sym early
-    atoms_past (Reached i w) g h early same = same i w refl
+    atoms_past : (o : Span) (g h : ℕ → ℕ → Judged) → SpanBy (λ e. past_line (Err e) ≡ Err e) o
+        → ((i w : ℕ) → o ≡ Ok (i, w) → g i w ≡ past_line (h i w))
+        → ◌≡◌ {A = Judged} (elim o [ Err e ↦ Err e | Ok (i, w) ↦ g i w ]) (past_line (elim o [ Err e ↦ Err e | Ok (i, w) ↦ h i w ]))
+    atoms_past (Err e) g h early same = sym early
+    atoms_past (Ok (i, w)) g h early same = same i w refl
 
-    early_atoms : (n j v : ℕ) → SpanBy (λ e. past_line (Fault e) ≡ Fault e) (judge_atoms c arities f n j v)
+    early_atoms : (n j v : ℕ) → SpanBy (λ e. past_line (Err e) ≡ Err e) (judge_atoms c arities f n j v)
     unfolding past_line
-    early_atoms n j v = atoms_numbered (λ e. past_line (Fault e) ≡ Fault e) refl refl refl c arities f n j v
+    early_atoms n j v = atoms_numbered (λ e. past_line (Err e) ≡ Err e) refl refl refl c arities f n j v
 
     body_longer : (conds alts : ℕ) → after_atoms arities f alts (after_atoms arities f conds 3) ≤ length f
         → judge_body c arities sum conds alts (f ++ more) ≡ past_line (judge_body c arities sum conds alts f)
     unfolding judge_body
     body_longer conds alts room =
         ap {B = Judged} (λ (o : Span). elim o [
-          | Broken e ↦ Fault e
-          | Reached i v ↦ elim (judge_atoms c arities (f ++ more) alts i v) [ Broken e ↦ Fault e | Reached j w ↦ judge_end c sum (length (f ++ more)) conds v j w ]
+          | Err e ↦ Err e
+          | Ok (i, v) ↦ elim (judge_atoms c arities (f ++ more) alts i v) [ Err e ↦ Err e | Ok (j, w) ↦ judge_end c sum (length (f ++ more)) conds v j w ]
         ]) (atoms_longer conds 3 0 (omega (arith, after_grows alts (after_atoms arities f conds 3))))
         ∙ atoms_past (judge_atoms c arities f conds 3 0) _ _ (early_atoms conds 3 0) second
       where
-        second : (i v : ℕ) → judge_atoms c arities f conds 3 0 ≡ Reached i v
-            → ◌≡◌ {A = Judged} (elim (judge_atoms c arities (f ++ more) alts i v) [ Broken e ↦ Fault e | Reached j w ↦ judge_end c sum (length (f ++ more)) conds v j w ])
-            (past_line (elim (judge_atoms c arities f alts i v) [ Broken e ↦ Fault e | Reached j w ↦ judge_end c sum (length f) conds v j w ]))
+        second : (i v : ℕ) → judge_atoms c arities f conds 3 0 ≡ Ok (i, v)
+            → ◌≡◌ {A = Judged} (elim (judge_atoms c arities (f ++ more) alts i v) [ Err e ↦ Err e | Ok (j, w) ↦ judge_end c sum (length (f ++ more)) conds v j w ])
+            (past_line (elim (judge_atoms c arities f alts i v) [ Err e ↦ Err e | Ok (j, w) ↦ judge_end c sum (length f) conds v j w ]))
         second i v q =
             let within : after_atoms arities f alts i ≤ length f = rw (atoms_reached c arities f conds 3 0 i v q).place room in
-            ap {B = Judged} (λ (o : Span). elim o [ Broken e ↦ Fault e | Reached j w ↦ judge_end c sum (length (f ++ more)) conds v j w ]) (atoms_longer alts i v within)
+            ap {B = Judged} (λ (o : Span). elim o [ Err e ↦ Err e | Ok (j, w) ↦ judge_end c sum (length (f ++ more)) conds v j w ]) (atoms_longer alts i v within)
             ∙ atoms_past (judge_atoms c arities f alts i v) _ _ (early_atoms alts i v)
             (λ j w s. end_longer (length f) conds v j w (rw (atoms_reached c arities f alts i v j w s).place within))
 
@@ -143,8 +141,8 @@ module _ (c : ℕ) (arities f more : List ℕ) where
         (go (lt_or_le (get_or f 1 0) 5) (lt_or_le (get_or f 2 0) 5))
       where
         go : (get_or f 1 0 < 5) ⊎ (5 ≤ get_or f 1 0) → (get_or f 2 0 < 5) ⊎ (5 ≤ get_or f 2 0)
-            → cond (ltb (get_or f 1 0) 5) (cond (ltb (get_or f 2 0) 5) (judge_body c arities sum (get_or f 1 0) (get_or f 2 0) (f ++ more)) (Fault 5)) (Fault 5)
-            ≡ past_line (cond (ltb (get_or f 1 0) 5) (cond (ltb (get_or f 2 0) 5) (judge_body c arities sum (get_or f 1 0) (get_or f 2 0) f) (Fault 5)) (Fault 5))
+            → cond (ltb (get_or f 1 0) 5) (cond (ltb (get_or f 2 0) 5) (judge_body c arities sum (get_or f 1 0) (get_or f 2 0) (f ++ more)) (Err BadCount)) (Err BadCount)
+            ≡ past_line (cond (ltb (get_or f 1 0) 5) (cond (ltb (get_or f 2 0) 5) (judge_body c arities sum (get_or f 1 0) (get_or f 2 0) f) (Err BadCount)) (Err BadCount))
         go (inl a) (inl b) = rw (lt-ltb (get_or f 1 0) 5 a, lt-ltb (get_or f 2 0) 5 b) (body_longer (get_or f 1 0) (get_or f 2 0) (room a b))
         go (inl a) (inr b) = rw (lt-ltb (get_or f 1 0) 5 a, le-ltb (get_or f 2 0) 5 b)
         go (inr a) d = rw (le-ltb (get_or f 1 0) 5 a)
@@ -178,20 +176,20 @@ judged_past c arities sum f small long =
 record Taken (q : Problem) (f : List ℕ) (v : ℕ) : Type 0 where
   kind : get_or f 0 0 ≡ 3
   room : length q.clauses ≡ 64 → ⊥
-  judged : judge_clause q.constants q.arities (weights q.constants q.clauses) f ≡ Found v
+  judged : judge_clause q.constants q.arities (weights q.constants q.clauses) f ≡ Ok v
 
-module _ (q : Problem) (f : List ℕ) (v : ℕ) (found : judge_next q f ≡ Found v) where
+module _ (q : Problem) (f : List ℕ) (v : ℕ) (found : judge_next q f ≡ Ok v) where
   taken : Taken q f v
   unfolding judge_next
   taken =
-      let kind = passed (eqb (get_or f 0 0) 3) _ _ _ (fault_found 2 v) found in
+      let kind = passed (eqb (get_or f 0 0) 3) _ _ _ (fault_found BadKind v) found in
       go (eqb→eq (get_or f 0 0) 3 kind.0) (same_or_other (length q.clauses) 64) kind.1
     where
       judged : Judged
       judged = judge_clause q.constants q.arities (weights q.constants q.clauses) f
 
-      go : get_or f 0 0 ≡ 3 → (length q.clauses ≡ 64) ⊎ (length q.clauses ≡ 64 → ⊥) → cond (eqb (length q.clauses) 64) (Fault 5) judged ≡ Found v → Taken q f v
-      go kind (inl e) s = absurd (fault_found 5 v (rw (eq-eqb (length q.clauses) 64 e) at s))
+      go : get_or f 0 0 ≡ 3 → (length q.clauses ≡ 64) ⊎ (length q.clauses ≡ 64 → ⊥) → cond (eqb (length q.clauses) 64) (Err BadCount) judged ≡ Ok v → Taken q f v
+      go kind (inl e) s = absurd (fault_found BadCount v (rw (eq-eqb (length q.clauses) 64 e) at s))
       go kind (inr n) s = record { kind = kind; room = n; judged = rw (ne_eqb (length q.clauses) 64 n) at s }
 
   clause : ClauseJudged q.constants q.arities (weights q.constants q.clauses) f v
@@ -218,7 +216,7 @@ module _ (q : Problem) (f : List ℕ) (v : ℕ) (found : judge_next q f ≡ Foun
         };
       }
 
-  pub left_over : (bs : List ℕ) (b : ℕ) → judge_next q (f ++ (b ∷ bs)) ≡ Fault 3
+  pub left_over : (bs : List ℕ) (b : ℕ) → judge_next q (f ++ (b ∷ bs)) ≡ Err BadLength
   unfolding judge_next past_line
   left_over bs b =
       let two : 2 < length f = omega (arith, ap length clause.bytes) in
@@ -230,7 +228,7 @@ module _ (q : Problem) (f : List ℕ) (v : ℕ) (found : judge_next q f ≡ Foun
       (clause_longer q.constants q.arities f (b ∷ bs) (weights q.constants q.clauses) (omega arith) two (λ m n. omega (arith, clause.ended))
       ∙ rw taken.judged)
 
-pub next_kind : (q : Problem) (f : List ℕ) → (get_or f 0 0 ≡ 3 → ⊥) → judge_next q f ≡ Fault 2
+pub next_kind : (q : Problem) (f : List ℕ) → (get_or f 0 0 ≡ 3 → ⊥) → judge_next q f ≡ Err BadKind
 unfolding judge_next
 next_kind q f other = rw (ne_eqb (get_or f 0 0) 3 other)
 
@@ -238,7 +236,7 @@ next_kind q f other = rw (ne_eqb (get_or f 0 0) 3 other)
 
 module _ (q : Problem) (f : List ℕ) (kind : get_or f 0 0 ≡ 3) where
   -- "5 after 64 clauses", and else it is judged
-  pub next_full : length q.clauses ≡ 64 → judge_next q f ≡ Fault 5
+  pub next_full : length q.clauses ≡ 64 → judge_next q f ≡ Err BadCount
   unfolding judge_next
   next_full e = rw (kind, eq-eqb (length q.clauses) 64 e)
 
@@ -252,7 +250,7 @@ module _ (q : Problem) (f : List ℕ) (kind : get_or f 0 0 ≡ 3) where
     here = 2 + length q.arities + length q.clauses
 
     -- the last line after the clause
-    clause_last : (left v : ℕ) → judge_next q f ≡ Found v
+    clause_last : (left v : ℕ) → judge_next q f ≡ Ok v
         → parse_clauses x q.constants q.limit q.arities left (q.clauses ++ (clause_at q.arities f v ∷ [])) (suc here) (after_line at (length f))
         ≡ parsed (with_clause q (clause_at q.arities f v))
     clause_last left v found =
@@ -275,13 +273,13 @@ module _ (q : Problem) (f : List ℕ) (kind : get_or f 0 0 ≡ 3) where
       where
         go : (o : Judged) → judge_next q f ≡ o
             → ◌≡◌ {A = Parsed} (elim o [
-              | Fault n ↦ refused n here
-              | Found v ↦
+              | Err n ↦ refused n here
+              | Ok v ↦
                   parse_clauses x q.constants q.limit q.arities left (q.clauses ++ (clause_at q.arities (frame_at x at (length f)) v ∷ [])) (suc here)
                   (after_line at (length f))
             ]) (next_read q f o)
-        go (Fault n) found = refl
-        go (Found v) found = rw held.frame (clause_last left v found)
+        go (Err n) found = refl
+        go (Ok v) found = rw held.frame (clause_last left v found)
 
 pub next_line : (q : Problem) (f : List ℕ) → Fits q → All (λ b. b < 256) f → length f ≤ 35 → get_or f 0 0 ≡ 3 → parse (text_with q f) ≡ next_read q f (judge_next q f)
 unfolding text_with

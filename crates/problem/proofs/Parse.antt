@@ -1,4 +1,8 @@
 -- A text that is read is the text of its problem, and the problem keeps every bound.
+use Rattle.std.specs.Prelude.{Ok, Err}
+use Rattle.problem.specs.declared.fault.Fault.{Fault}
+use Rattle.problem.specs.declared.judge.Sizes.{Sizes}
+use Rattle.problem.specs.declared.fault.Fault.TheVariants.{BadLine, BadKind, BadLength, BadCount}
 use Prim.Native.Nat.{ℕ, zero, suc, ◌+◌, ◌≤◌, ◌<◌}
 use mathlib.Core.Bool.{Bool, true, false}
 use mathlib.Core.List.{List, [], ◌∷◌, ◌++◌, append_assoc, append-nil, flat_map}
@@ -11,41 +15,37 @@ use Rattle.lists.specs.Member.{All}
 use Rattle.lists.proofs.Member.{All-append, flat_snoc}
 use Rattle.problem.specs.declared.line.Line.{Line}
 use Rattle.problem.specs.declared.line.Line.TheVariants.{Absent, Bad, Holds}
-use Rattle.problem.specs.declared.judge.Judged.{Judged}
-use Rattle.problem.specs.declared.judge.Judged.TheVariants.{Fault, Found}
-use Rattle.problem.specs.declared.judge.Heading.{Heading}
-use Rattle.problem.specs.declared.judge.Heading.TheVariants.{Wrong, Sizes}
 use Rattle.problem.specs.Digit.{hex_line}
 use Rattle.problem.specs.Line.{line_at, frame_at, after_line}
 use Rattle.problem.specs.Problem.{Clause, Problem, ClauseFits, Fits, atom_count, weights}
 use Rattle.problem.specs.terms.Sized.{Sized}
-use Rattle.problem.specs.Judge.{judge_heading, judge_arity, judge_clause, clause_at}
+use Rattle.problem.specs.Judge.{Judged, Heading, judge_heading, judge_arity, judge_clause, clause_at}
 use Rattle.problem.specs.Parse.{Parsed, refused, parsed, judge_closing, parse_end, parse_closing, parse_clauses, parse_arities, parse}
 use Rattle.problem.specs.Print.{arity_frame, clause_frame, text_of}
 use Rattle.problem.proofs.Lines.{frame_bytes, line_absent, line_text}
 use Rattle.problem.proofs.Judges.{passed, fault_found, two_bytes, heading_sizes, arity_found, clause_found}
 use Rattle.problem.proofs.TableLayout.{atom_count_snoc, weights_snoc}
 
-refused-parsed : (e line : ℕ) (q : Problem) → refused e line ≡ parsed q → ⊥
+refused-parsed : (e : Fault) (line : ℕ) (q : Problem) → refused e line ≡ parsed q → ⊥
 refused-parsed e line q s = let z : ◌≡◌ {A = ℕ} 0 1 = cc in omega arith
 
 -- a reading that ended in a problem went on past each line, judge and test
 module _ {R : Type 0} (line : ℕ) (q : Problem) where
-  line_taken : (o : Line) (g : ℕ → Parsed) → ◌≡◌ {A = Parsed} (elim o [ Absent ↦ refused 2 line | Bad ↦ refused 1 line | Holds n ↦ g n ]) (parsed q)
+  line_taken : (o : Line) (g : ℕ → Parsed) → ◌≡◌ {A = Parsed} (elim o [ Absent ↦ refused BadKind line | Bad ↦ refused BadLine line | Holds n ↦ g n ]) (parsed q)
       → ((n : ℕ) → o ≡ Holds n → g n ≡ parsed q → R) → R
-  line_taken Absent g s f = absurd (refused-parsed 2 line q s)
-  line_taken Bad g s f = absurd (refused-parsed 1 line q s)
+  line_taken Absent g s f = absurd (refused-parsed BadKind line q s)
+  line_taken Bad g s f = absurd (refused-parsed BadLine line q s)
   line_taken (Holds n) g s f = f n refl s
 
-  judge_taken : (o : Judged) (g : ℕ → Parsed) → ◌≡◌ {A = Parsed} (elim o [ Fault e ↦ refused e line | Found v ↦ g v ]) (parsed q)
-      → ((v : ℕ) → o ≡ Found v → g v ≡ parsed q → R) → R
-  judge_taken (Fault e) g s f = absurd (refused-parsed e line q s)
-  judge_taken (Found v) g s f = f v refl s
+  judge_taken : (o : Judged) (g : ℕ → Parsed) → ◌≡◌ {A = Parsed} (elim o [ Err e ↦ refused e line | Ok v ↦ g v ]) (parsed q)
+      → ((v : ℕ) → o ≡ Ok v → g v ≡ parsed q → R) → R
+  judge_taken (Err e) g s f = absurd (refused-parsed e line q s)
+  judge_taken (Ok v) g s f = f v refl s
 
-  heading_taken : (o : Heading) (g : ℕ → ℕ → Parsed) → ◌≡◌ {A = Parsed} (elim o [ Wrong e ↦ refused e line | Sizes c p ↦ g c p ]) (parsed q)
-      → ((c p : ℕ) → o ≡ Sizes c p → g c p ≡ parsed q → R) → R
-  heading_taken (Wrong e) g s f = absurd (refused-parsed e line q s)
-  heading_taken (Sizes c p) g s f = f c p refl s
+  heading_taken : (o : Heading) (g : ℕ → ℕ → Parsed) → ◌≡◌ {A = Parsed} (elim o [ Err e ↦ refused e line | Ok s ↦ g s.constants s.predicates ]) (parsed q)
+      → ((s : Sizes) → o ≡ Ok s → g s.constants s.predicates ≡ parsed q → R) → R
+  heading_taken (Err e) g s f = absurd (refused-parsed e line q s)
+  heading_taken (Ok h) g s f = f h refl s
 
   -- a is b, or not
   test_taken : (a b : ℕ) (r t : Parsed) → ◌≡◌ {A = Parsed} (elim (eqb a b) [ true ↦ r | false ↦ t ]) (parsed q)
@@ -56,12 +56,12 @@ module _ {R : Type 0} (line : ℕ) (q : Problem) where
       go true same u = f (same tt) u
       go false same u = g u
 
-pub closing_found : (count : ℕ) (f : List ℕ) (r : ℕ) → get_or f 0 0 ≡ 255 → judge_closing count f ≡ Found r → f ≡ 255 ∷ count ∷ []
+pub closing_found : (count : ℕ) (f : List ℕ) (r : ℕ) → get_or f 0 0 ≡ 255 → judge_closing count f ≡ Ok r → f ≡ 255 ∷ count ∷ []
 unfolding judge_closing
 closing_found count f r kind e =
-    let one = passed (ltb 1 (length f)) _ _ _ (fault_found 3 r) e in
-    let counted = passed (eqb (get_or f 1 0) count) _ _ _ (fault_found 5 r) one.1 in
-    let whole = passed (eqb (length f) 2) _ _ _ (fault_found 3 r) counted.1 in
+    let one = passed (ltb 1 (length f)) _ _ _ (fault_found BadLength r) e in
+    let counted = passed (eqb (get_or f 1 0) count) _ _ _ (fault_found BadCount r) one.1 in
+    let whole = passed (eqb (length f) 2) _ _ _ (fault_found BadLength r) counted.1 in
     let same : get_or f 1 0 ≡ count = eqb→eq (get_or f 1 0) count counted.0 in
     let two : length f ≡ 2 = eqb→eq (length f) 2 whole.0 in
     two_bytes f two ∙ rw (kind, same)
@@ -101,19 +101,19 @@ module _ (x : List ℕ) (c : ℕ) (limit arities before : List ℕ) (q : Problem
       go : (o : Line) → line_at x at ≡ o
           → ◌≡◌ {A = Parsed} (elim o [
             | Absent ↦ parsed (record { constants = c; limit = limit; arities = arities; clauses = ks })
-            | Bad ↦ refused 1 line
-            | Holds n ↦ refused 2 line
+            | Bad ↦ refused BadLine line
+            | Holds n ↦ refused BadKind line
           ]) (parsed q) → (record { constants = c; limit = limit; arities = arities; clauses = ks } ≡ q) × (length x ≤ at)
       go Absent l s = ((cc), line_absent x at l)
-      go Bad l s = absurd (refused-parsed 1 line q s)
-      go (Holds n) l s = absurd (refused-parsed 2 line q s)
+      go Bad l s = absurd (refused-parsed BadLine line q s)
+      go (Holds n) l s = absurd (refused-parsed BadKind line q s)
 
   closing_read : (ks : List Clause) (line at n : ℕ) → line_at x at ≡ Holds n → get_or (frame_at x at n) 0 0 ≡ 255 → length ks ≤ 64 → ClausesTo x c arities before ks at
       → parse_closing x c limit arities ks line at n ≡ parsed q → ClausesRead x c limit arities before q
   unfolding parse_closing
   closing_read ks line at n l kind few to e = judge_taken line q (judge_closing (length ks) (frame_at x at n)) _ e read
     where
-      read : (m : ℕ) → judge_closing (length ks) (frame_at x at n) ≡ Found m → parse_end x c limit arities ks (suc line) (after_line at n) ≡ parsed q
+      read : (m : ℕ) → judge_closing (length ks) (frame_at x at n) ≡ Ok m → parse_end x c limit arities ks (suc line) (after_line at n) ≡ parsed q
           → ClausesRead x c limit arities before q
       read m j s =
           let end = end_read ks (suc line) (after_line at n) s in
@@ -130,13 +130,13 @@ module _ (x : List ℕ) (c : ℕ) (limit arities before : List ℕ) (q : Problem
 
   -- a line that is no clause line
   last_read : (ks : List Clause) (line at n : ℕ) → line_at x at ≡ Holds n → length ks ≤ 64 → ClausesTo x c arities before ks at
-      → ◌≡◌ {A = Parsed} (elim (eqb (get_or (frame_at x at n) 0 0) 255) [ true ↦ parse_closing x c limit arities ks line at n | false ↦ refused 2 line ]) (parsed q)
+      → ◌≡◌ {A = Parsed} (elim (eqb (get_or (frame_at x at n) 0 0) 255) [ true ↦ parse_closing x c limit arities ks line at n | false ↦ refused BadKind line ]) (parsed q)
       → ClausesRead x c limit arities before q
   last_read ks line at n l few to e =
-      test_taken line q (get_or (frame_at x at n) 0 0) 255 _ _ e (λ k s. closing_read ks line at n l k few to s) (λ s. absurd (refused-parsed 2 line q s))
+      test_taken line q (get_or (frame_at x at n) 0 0) 255 _ _ e (λ k s. closing_read ks line at n l k few to s) (λ s. absurd (refused-parsed BadKind line q s))
 
   clause_read : (ks : List Clause) (at n v : ℕ) → line_at x at ≡ Holds n → get_or (frame_at x at n) 0 0 ≡ 3 → ClausesTo x c arities before ks at
-      → judge_clause c arities (weights c ks) (frame_at x at n) ≡ Found v
+      → judge_clause c arities (weights c ks) (frame_at x at n) ≡ Ok v
       → ClausesTo x c arities before (ks ++ (clause_at arities (frame_at x at n) v ∷ [])) (after_line at n)
   clause_read ks at n v l kind to e =
       let f = frame_at x at n in
@@ -156,7 +156,7 @@ module _ (x : List ℕ) (c : ℕ) (limit arities before : List ℕ) (q : Problem
   unfolding parse_clauses
   clauses_read zero ks line at few to e =
       line_taken line q (line_at x at) _ e λ n l s.
-      test_taken line q (get_or (frame_at x at n) 0 0) 3 _ _ s (λ k t. absurd (refused-parsed 5 line q t)) (λ t. last_read ks line at n l (omega arith) to t)
+      test_taken line q (get_or (frame_at x at n) 0 0) 3 _ _ s (λ k t. absurd (refused-parsed BadCount line q t)) (λ t. last_read ks line at n l (omega arith) to t)
   clauses_read (suc left) ks line at few to e =
       line_taken line q (line_at x at) _ e λ n l s.
       let f = frame_at x at n in
@@ -207,7 +207,7 @@ module _ (x : List ℕ) (c p : ℕ) (limit : List ℕ) (h : Sized c p limit) (q 
           }
 
   arity_read : (left : ℕ) (arities : List ℕ) (at n a : ℕ) → line_at x at ≡ Holds n → AritiesTo x c p limit arities (suc left) at
-      → judge_arity c (atom_count c arities) (frame_at x at n) ≡ Found a → AritiesTo x c p limit (arities ++ (a ∷ [])) left (after_line at n)
+      → judge_arity c (atom_count c arities) (frame_at x at n) ≡ Ok a → AritiesTo x c p limit (arities ++ (a ∷ [])) left (after_line at n)
   arity_read left arities at n a l to e =
       let heading = hex_line (1 ∷ 1 ∷ c ∷ p ∷ limit) in
       let j = arity_found c (atom_count c arities) (frame_at x at n) a e in
@@ -236,9 +236,11 @@ module _ (x : List ℕ) (c p : ℕ) (limit : List ℕ) (h : Sized c p limit) (q 
       judge_taken line q (judge_arity c (atom_count c arities) (frame_at x at n)) _ s λ a j t.
       arities-Read left (arities ++ (a ∷ [])) (suc line) (after_line at n) (arity_read left arities at n a l to j) t
 
-pub heading_sized : (x : List ℕ) (n : ℕ) → line_at x 0 ≡ Holds n → (c p : ℕ) → judge_heading (frame_at x 0 n) ≡ Sizes c p → Sized c p (take 4 (drop 4 (frame_at x 0 n)))
-heading_sized x n l c p j =
-    let s = heading_sizes (frame_at x 0 n) c p j in
+pub heading_sized : (x : List ℕ) (n : ℕ) → line_at x 0 ≡ Holds n → (h : Sizes) → judge_heading (frame_at x 0 n) ≡ Ok h → Sized h.constants h.predicates (take 4 (drop 4 (frame_at x 0 n)))
+heading_sized x n l h j =
+    let c = h.constants in
+    let p = h.predicates in
+    let s = heading_sizes (frame_at x 0 n) h j in
     let limit = take 4 (drop 4 (frame_at x 0 n)) in
     let bytes : All (λ b. b < 256) (1 ∷ 1 ∷ c ∷ p ∷ limit) = subst (All (λ b. b < 256)) s.bytes (frame_bytes x 0 n l) in
     let long : length (frame_at x 0 n) ≡ length (1 ∷ 1 ∷ c ∷ p ∷ limit) = ap length s.bytes in
@@ -252,14 +254,16 @@ heading_sized x n l c p j =
     }
 
 module _ (x : List ℕ) (q : Problem) where
-  heading_read : (n c p : ℕ) → line_at x 0 ≡ Holds n → judge_heading (frame_at x 0 n) ≡ Sizes c p
-      → parse_arities x c (take 4 (drop 4 (frame_at x 0 n))) p [] 2 (after_line 0 n) ≡ parsed q → Read x q
+  heading_read : (n : ℕ) (h : Sizes) → line_at x 0 ≡ Holds n → judge_heading (frame_at x 0 n) ≡ Ok h
+      → parse_arities x h.constants (take 4 (drop 4 (frame_at x 0 n))) h.predicates [] 2 (after_line 0 n) ≡ parsed q → Read x q
   unfolding flat_map
-  heading_read n c p l j e =
+  heading_read n h l j e =
+      let c = h.constants in
+      let p = h.predicates in
       let f = frame_at x 0 n in
       let limit = take 4 (drop 4 f) in
-      let s = heading_sizes f c p j in
-      arities-Read x c p limit (heading_sized x n l c p j) q p [] 2 (after_line 0 n)
+      let s = heading_sizes f h j in
+      arities-Read x c p limit (heading_sized x n l h j) q p [] 2 (after_line 0 n)
       (record {
         text = rw append-nil (text_more x 0 n [] (1 ∷ 1 ∷ c ∷ p ∷ limit) l s.bytes refl);
         count = omega arith;
@@ -272,8 +276,8 @@ module _ (x : List ℕ) (q : Problem) where
   unfolding parse
   parse-Read e =
       line_taken 1 q (line_at x 0) _ e λ n l s.
-      heading_taken 1 q (judge_heading (frame_at x 0 n)) _ s λ c p j t.
-      heading_read n c p l j t
+      heading_taken 1 q (judge_heading (frame_at x 0 n)) _ s λ h j t.
+      heading_read n h l j t
 
   pub parse_text : parse x ≡ parsed q → text_of q ≡ x
   parse_text e = (parse-Read e).text

@@ -1,4 +1,5 @@
 -- The judges accept the frames of a well-formed problem, and its text is short.
+use Rattle.std.specs.Prelude.{Ok, Err}
 use Prim.Native.Nat.{ℕ, suc, ◌+◌, ◌-◌, ◌*◌, ◌^◌, ◌≤◌, ◌<◌}
 use mathlib.Core.Bool.{not, cond}
 use mathlib.Core.List.{List, [], ◌∷◌, ◌++◌, append_assoc, append-nil, flat_map}
@@ -14,14 +15,9 @@ use Rattle.lists.specs.Member.{All}
 use Rattle.lists.proofs.Bytes.{drop_next}
 use Rattle.lists.proofs.Member.{all_of, all_map, All-append, all_flat, any_left, any_flat, flat_append}
 use Rattle.lists.proofs.Test.{decided}
-use Rattle.problem.specs.declared.judge.Judged.{Judged}
-use Rattle.problem.specs.declared.judge.Judged.TheVariants.{Fault, Found}
-use Rattle.problem.specs.declared.judge.Heading.TheVariants.{Sizes}
-use Rattle.problem.specs.declared.judge.Span.{Span}
-use Rattle.problem.specs.declared.judge.Span.TheVariants.{Broken, Reached}
 use Rattle.problem.specs.Digit.{hex_byte, hex_line}
 use Rattle.problem.specs.Problem.{Atom, Clause, Problem, ArgFits, AtomFits, arguments_of, VariablesInOrder, ClauseFits, Fits, weight}
-use Rattle.problem.specs.Judge.{judge_sizes, judge_heading, judge_arity, judge_variable, judge_arg, judge_args, judge_atom, judge_atoms, judge_end, judge_body, judge_clause, atom_at, after_atom, atoms_at, after_atoms, clause_at}
+use Rattle.problem.specs.Judge.{Judged, Span, judge_sizes, judge_heading, judge_arity, judge_variable, judge_arg, judge_args, judge_atom, judge_atoms, judge_end, judge_body, judge_clause, atom_at, after_atom, atoms_at, after_atoms, clause_at}
 use Rattle.problem.specs.Parse.{judge_closing}
 use Rattle.problem.specs.Print.{atom_bytes, heading_frame, arity_frame, clause_frame, closing_frame, text_of}
 use Rattle.problem.proofs.Judges.{arguments_in, atoms_reached}
@@ -39,7 +35,7 @@ module _ {R : Type 0} (a b : ℕ) (r other : R) where
 -- an argument after others is judged, and counted
 record ArgTaken (c v b : ℕ) (front : List ℕ) : Type 0 where
   count : ℕ
-  judged : judge_arg c v b ≡ Found count
+  judged : judge_arg c v b ≡ Ok count
   seen : Seen (front ++ (b ∷ [])) count
 
 module _ (c vars : ℕ) (few : vars ≤ 4) where
@@ -74,14 +70,14 @@ module _ (c vars : ℕ) (few : vars ≤ 4) where
 past : (f : List ℕ) (j : ℕ) (xs post : List ℕ) → drop j f ≡ xs ++ post → drop (j + length xs) f ≡ post
 past f j xs post e = sym (drop-drop (length xs) j f) ∙ rw e (drop-append_seam xs post)
 
-atoms_next : (c : ℕ) (arities f : List ℕ) (n j v i w : ℕ) → judge_atom c arities f j v ≡ Reached i w → judge_atoms c arities f (suc n) j v ≡ judge_atoms c arities f n i w
+atoms_next : (c : ℕ) (arities f : List ℕ) (n j v i w : ℕ) → judge_atom c arities f j v ≡ Ok (i, w) → judge_atoms c arities f (suc n) j v ≡ judge_atoms c arities f n i w
 unfolding judge_atoms
-atoms_next c arities f n j v i w e = ap {B = Span} (λ (o : Span). elim o [ Broken k ↦ Broken k | Reached i w ↦ judge_atoms c arities f n i w ]) e
+atoms_next c arities f n j v i w e = ap {B = Span} (λ (o : Span). elim o [ Err k ↦ Err k | Ok (i, w) ↦ judge_atoms c arities f n i w ]) e
 
 -- judged to a place, and these arguments counted
 record SpanTaken (o : Span) (bs : List ℕ) (at : ℕ) : Type 0 where
   count : ℕ
-  judged : o ≡ Reached at count
+  judged : o ≡ Ok (at, count)
   seen : Seen bs count
 
 -- of a frame, in a clause with so many variables and these arguments
@@ -182,8 +178,8 @@ args_below c arities v atoms h = all_flat (λ a. a.args) (λ b. b < 128 + v) ato
     each : (a : Atom) → AtomFits c arities v a → All (λ b. b < 128 + v) a.args
     each a r = all_map (ArgFits c v) (λ b. b < 128 + v) (arg_below c v) a.args r.args_fit
 
-span_count : (o : Span) (bs : List ℕ) (at v : ℕ) → SpanTaken o bs at → Seen bs v → o ≡ Reached at v
-span_count o bs at v s t = s.judged ∙ ap (Reached at) (seen_same bs s.count v s.seen t)
+span_count : (o : Span) (bs : List ℕ) (at v : ℕ) → SpanTaken o bs at → Seen bs v → o ≡ Ok (at, v)
+span_count o bs at v s t = s.judged ∙ ap (λ (w : ℕ). Ok (at, w)) (seen_same bs s.count v s.seen t)
 
 module _ (c : ℕ) (arities : List ℕ) (k : Clause) (fits : ClauseFits c arities k) where
   -- all of a clause's variables stand in its conditions
@@ -214,14 +210,14 @@ module _ (c : ℕ) (arities : List ℕ) (k : Clause) (fits : ClauseFits c aritie
   behind : drop half (clause_frame k) ≡ flat_map atom_bytes k.alts ++ []
   behind = past (clause_frame k) 3 (flat_map atom_bytes k.conds) (flat_map atom_bytes k.alts) refl ∙ rw append-nil
 
-  conds_judged : judge_atoms c arities (clause_frame k) (length k.conds) 3 0 ≡ Reached half k.vars
+  conds_judged : judge_atoms c arities (clause_frame k) (length k.conds) 3 0 ≡ Ok (half, k.vars)
   conds_judged =
       span_count _ (arguments_in k.conds) half k.vars
       (atoms_taken c k.vars fits.few_vars arities (clause_frame k) (arguments_of k) fits.in_order k.conds 3 0 [] (arguments_in k.alts) (flat_map atom_bytes k.alts)
       fits.conds_fit refl both seen_none)
       conds-Seen
 
-  alts_judged : judge_atoms c arities (clause_frame k) (length k.alts) half k.vars ≡ Reached end k.vars
+  alts_judged : judge_atoms c arities (clause_frame k) (length k.alts) half k.vars ≡ Ok (end, k.vars)
   alts_judged =
       span_count _ (arguments_in k.conds ++ arguments_in k.alts) end k.vars
       (atoms_taken c k.vars fits.few_vars arities (clause_frame k) (arguments_of k) fits.in_order k.alts half k.vars (arguments_in k.conds) [] []
@@ -231,17 +227,17 @@ module _ (c : ℕ) (arities : List ℕ) (k : Clause) (fits : ClauseFits c aritie
   frame_size : length (clause_frame k) ≡ end
   frame_size = omega (arith, length-append (flat_map atom_bytes k.conds) (flat_map atom_bytes k.alts))
 
-  body_judged : (sum : ℕ) → sum + weight c k ≤ 16384 → judge_body c arities sum (length k.conds) (length k.alts) (clause_frame k) ≡ Found k.vars
+  body_judged : (sum : ℕ) → sum + weight c k ≤ 16384 → judge_body c arities sum (length k.conds) (length k.alts) (clause_frame k) ≡ Ok k.vars
   unfolding judge_body judge_end
   body_judged sum light =
       ap {B = Judged} (λ (o : Span). elim o [
-        | Broken e ↦ Fault e
-        | Reached i v ↦ elim (judge_atoms c arities (clause_frame k) (length k.alts) i v) [ Broken e ↦ Fault e | Reached j w ↦ judge_end c sum (length (clause_frame k)) (length k.conds) v j w ]
+        | Err e ↦ Err e
+        | Ok (i, v) ↦ elim (judge_atoms c arities (clause_frame k) (length k.alts) i v) [ Err e ↦ Err e | Ok (j, w) ↦ judge_end c sum (length (clause_frame k)) (length k.conds) v j w ]
       ]) conds_judged
-      ∙ ap {B = Judged} (λ (o : Span). elim o [ Broken e ↦ Fault e | Reached j w ↦ judge_end c sum (length (clause_frame k)) (length k.conds) k.vars j w ]) alts_judged
+      ∙ ap {B = Judged} (λ (o : Span). elim o [ Err e ↦ Err e | Ok (j, w) ↦ judge_end c sum (length (clause_frame k)) (length k.conds) k.vars j w ]) alts_judged
       ∙ rw (eq-eqb end (length (clause_frame k)) (sym frame_size), eq-eqb k.vars k.vars refl, le-leb (sum + weight c k) 16384 light)
 
-  pub clause_taken : (sum : ℕ) → sum + weight c k ≤ 16384 → judge_clause c arities sum (clause_frame k) ≡ Found k.vars
+  pub clause_taken : (sum : ℕ) → sum + weight c k ≤ 16384 → judge_clause c arities sum (clause_frame k) ≡ Ok k.vars
   unfolding judge_clause
   clause_taken sum light =
       rw (
@@ -266,7 +262,7 @@ module _ (c : ℕ) (arities : List ℕ) (k : Clause) (fits : ClauseFits c aritie
 
 -- ---- the other lines
 
-pub heading_taken : (q : Problem) → Fits q → judge_heading (heading_frame q) ≡ Sizes q.constants (length q.arities)
+pub heading_taken : (q : Problem) → Fits q → judge_heading (heading_frame q) ≡ Ok (record { constants = q.constants; predicates = length q.arities })
 unfolding judge_heading judge_sizes
 heading_taken q fits =
     rw (
@@ -276,11 +272,11 @@ heading_taken q fits =
       lt-ltb (length q.arities) 33 (omega (arith, fits.predicates_fit)),
     )
 
-pub arity_taken : (c atoms a : ℕ) → a ≤ 3 → atoms + c ^ a ≤ 1024 → judge_arity c atoms (arity_frame a) ≡ Found a
+pub arity_taken : (c atoms a : ℕ) → a ≤ 3 → atoms + c ^ a ≤ 1024 → judge_arity c atoms (arity_frame a) ≡ Ok a
 unfolding judge_arity
 arity_taken c atoms a h room = rw (lt-ltb a 4 (omega arith), le-leb (atoms + c ^ a) 1024 room)
 
-pub closing_taken : (count : ℕ) → judge_closing count (255 ∷ count ∷ []) ≡ Found 0
+pub closing_taken : (count : ℕ) → judge_closing count (255 ∷ count ∷ []) ≡ Ok 0
 unfolding judge_closing
 closing_taken count = rw (eq-eqb count count refl)
 

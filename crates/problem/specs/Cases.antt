@@ -4,7 +4,9 @@ use Prim.Native.Char.{code}
 use Prim.Native.String.{String}
 use Prim.Native.String as Text
 use mathlib.Core.List.{List, [], ◌∷◌, ◌++◌, map, flat_map}
-use Rattle.problem.specs.Parse.{refused, parse}
+use Rattle.problem.specs.Faults.{fault_number}
+use Rattle.problem.specs.Numbers.{Numbers, refused_at, answered}
+use Rattle.problem.specs.Parse.{Parsed, refused, parsed, parse}
 
 -- a quoted text's bytes: a stroke between spaces ends a line, and nothing ends the last line
 abbrev pub unended : String → List ℕ
@@ -98,5 +100,10 @@ refusals =
     ∷ (full ++ quoted "0", 1, 67)
     ∷ []
 
+-- what reading says, in the papers' numbers
+abbrev pub parsed_numbers : Parsed → Numbers
+parsed_numbers (refused e line) = refused_at (fault_number e) line
+parsed_numbers (parsed q) = answered 0 0
+
 abbrev pub RefusalsHold : Type 0
-RefusalsHold = map (λ r. parse r.0) refusals ≡ map (λ r. refused r.1 r.2) refusals
+RefusalsHold = map (λ r. parsed_numbers (parse r.0)) refusals ≡ map (λ r. refused_at r.1 r.2) refusals

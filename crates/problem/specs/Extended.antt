@@ -1,10 +1,9 @@
 -- A problem with other clauses, or with one more, and the bytes of a clause frame as its next clause line (02: U4).
-use Rattle.std.specs.Prelude.{ℕ, suc, ◌+◌, cond, ◌&&◌, List, [], ◌∷◌, ◌++◌, eqb, leb, length, get_or}
-use Rattle.problem.specs.declared.judge.Judged.{Judged}
-use Rattle.problem.specs.declared.judge.Judged.TheVariants.{Fault, Found}
+use Rattle.std.specs.Prelude.{ℕ, suc, ◌+◌, cond, List, [], ◌∷◌, ◌++◌, eqb, length, get_or, Ok, Err}
+use Rattle.problem.specs.declared.fault.Fault.TheVariants.{BadKind, BadLength, BadCount, Unknown, BadNumbering}
 use Rattle.problem.specs.Digit.{hex_line}
 use Rattle.problem.specs.Problem.{Clause, Problem, weights}
-use Rattle.problem.specs.Judge.{judge_clause, clause_at}
+use Rattle.problem.specs.Judge.{Judged, judge_clause, clause_at}
 use Rattle.problem.specs.Parse.{Parsed, refused, parsed}
 use Rattle.problem.specs.Print.{lines_of}
 
@@ -20,13 +19,15 @@ with_clause q k = with_clauses q (q.clauses ++ (k ∷ []))
 unfoldable pub judge_next : Problem → List ℕ → Judged
 judge_next q f =
     cond (eqb (get_or f 0 0) 3)
-    (cond (eqb (length q.clauses) 64) (Fault 5) (judge_clause q.constants q.arities (weights q.constants q.clauses) f))
-    (Fault 2)
+    (cond (eqb (length q.clauses) 64) (Err BadCount) (judge_clause q.constants q.arities (weights q.constants q.clauses) f))
+    (Err BadKind)
 
--- a frame whose first 35 bytes are judged so, and that has more: bytes left over are 3, but a fault before the end comes first
+-- a frame whose first 35 bytes are judged so, and that has more: bytes left over are 3, but a fault before the end, 5 to 7, comes first
 unfoldable pub past_line : Judged → Judged
-past_line (Fault e) = cond (leb 5 e && leb e 7) (Fault e) (Fault 3)
-past_line (Found v) = Fault 3
+past_line (Err BadCount) = Err BadCount
+past_line (Err Unknown) = Err Unknown
+past_line (Err BadNumbering) = Err BadNumbering
+past_line _ = Err BadLength
 
 -- the written-out text with the frame's line before FF, and FF one higher
 unfoldable pub text_with : Problem → List ℕ → List ℕ
@@ -34,5 +35,5 @@ text_with q f = lines_of q (hex_line f ++ hex_line (255 ∷ suc (length q.clause
 
 -- what reading that text gives, where its next clause line is judged so: a refusal at that line, or the longer problem
 abbrev pub next_read : Problem → List ℕ → Judged → Parsed
-next_read q f (Fault e) = refused e (2 + length q.arities + length q.clauses)
-next_read q f (Found v) = parsed (with_clause q (clause_at q.arities f v))
+next_read q f (Err e) = refused e (2 + length q.arities + length q.clauses)
+next_read q f (Ok v) = parsed (with_clause q (clause_at q.arities f v))

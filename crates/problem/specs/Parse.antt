@@ -1,22 +1,21 @@
 -- Reading a text, line by line: "the first faulty line decides".
-use Rattle.std.specs.Prelude.{ℕ, zero, suc, true, false, cond, List, [], ◌∷◌, ◌++◌, eqb, length, take, drop, get_or}
+use Rattle.std.specs.Prelude.{ℕ, zero, suc, true, false, cond, List, [], ◌∷◌, ◌++◌, eqb, length, take, drop, get_or, Ok, Err}
+use Rattle.problem.specs.declared.fault.Fault.{Fault}
+use Rattle.problem.specs.declared.fault.Fault.TheVariants.{BadLine, BadKind, BadLength, BadCount}
 use Rattle.problem.specs.declared.line.Line.TheVariants.{Absent, Bad, Holds}
-use Rattle.problem.specs.declared.judge.Judged.{Judged}
-use Rattle.problem.specs.declared.judge.Judged.TheVariants.{Fault, Found}
-use Rattle.problem.specs.declared.judge.Heading.TheVariants.{Wrong, Sizes}
 use Rattle.problem.specs.Line.{line_at, frame_at, after_line}
 use Rattle.problem.specs.Problem.{Clause, Problem, atom_count, weights}
-use Rattle.problem.specs.Judge.{present, judge_heading, judge_arity, judge_clause, clause_at}
+use Rattle.problem.specs.Judge.{Judged, present, judge_heading, judge_arity, judge_clause, clause_at}
 
--- a refusal with its number and line, or the problem
+-- a refusal, why and at which line, or the problem
 pub data Parsed : Type 0 where
-  refused : ℕ → ℕ → Parsed
+  refused : Fault → ℕ → Parsed
   parsed : Problem → Parsed
 
 -- "FF, number of clause lines", after the kind
 unfoldable pub judge_closing : ℕ → List ℕ → Judged
 judge_closing count f =
-    present f 1 (Fault 3) (cond (eqb (get_or f 1 0) count) (cond (eqb (length f) 2) (Found 0) (Fault 3)) (Fault 5))
+    present f 1 (Err BadLength) (cond (eqb (get_or f 1 0) count) (cond (eqb (length f) 2) (Ok 0) (Err BadLength)) (Err BadCount))
 
 -- of the text x, with c constants and this limit
 module _ (x : List ℕ) (c : ℕ) (limit : List ℕ) where
@@ -26,39 +25,39 @@ module _ (x : List ℕ) (c : ℕ) (limit : List ℕ) where
     parse_end ks line at =
         elim (line_at x at) [
           | Absent ↦ parsed (record { constants = c; limit = limit; arities = arities; clauses = ks })
-          | Bad ↦ refused 1 line
-          | Holds n ↦ refused 2 line
+          | Bad ↦ refused BadLine line
+          | Holds n ↦ refused BadKind line
         ]
 
     -- the last line, of n bytes
     unfoldable pub parse_closing : List Clause → ℕ → ℕ → ℕ → Parsed
     parse_closing ks line at n =
-        elim (judge_closing (length ks) (frame_at x at n)) [ Fault e ↦ refused e line | Found k ↦ parse_end ks (suc line) (after_line at n) ]
+        elim (judge_closing (length ks) (frame_at x at n)) [ Err e ↦ refused e line | Ok k ↦ parse_end ks (suc line) (after_line at n) ]
 
     -- the clause lines and the last line, with so many clause lines still allowed: "The 65th clause line is 5 before its bytes"
     unfoldable pub parse_clauses : ℕ → List Clause → ℕ → ℕ → Parsed
     parse_clauses zero ks line at =
         elim (line_at x at) [
-          | Absent ↦ refused 2 line
-          | Bad ↦ refused 1 line
+          | Absent ↦ refused BadKind line
+          | Bad ↦ refused BadLine line
           | Holds n ↦
               elim (eqb (get_or (frame_at x at n) 0 0) 3) [
-                | true ↦ refused 5 line
-                | false ↦ elim (eqb (get_or (frame_at x at n) 0 0) 255) [ true ↦ parse_closing ks line at n | false ↦ refused 2 line ]
+                | true ↦ refused BadCount line
+                | false ↦ elim (eqb (get_or (frame_at x at n) 0 0) 255) [ true ↦ parse_closing ks line at n | false ↦ refused BadKind line ]
               ]
         ]
     parse_clauses (suc left) ks line at =
         elim (line_at x at) [
-          | Absent ↦ refused 2 line
-          | Bad ↦ refused 1 line
+          | Absent ↦ refused BadKind line
+          | Bad ↦ refused BadLine line
           | Holds n ↦
               elim (eqb (get_or (frame_at x at n) 0 0) 3) [
                 | true ↦
                     elim (judge_clause c arities (weights c ks) (frame_at x at n)) [
-                      | Fault e ↦ refused e line
-                      | Found v ↦ parse_clauses left (ks ++ (clause_at arities (frame_at x at n) v ∷ [])) (suc line) (after_line at n)
+                      | Err e ↦ refused e line
+                      | Ok v ↦ parse_clauses left (ks ++ (clause_at arities (frame_at x at n) v ∷ [])) (suc line) (after_line at n)
                     ]
-                | false ↦ elim (eqb (get_or (frame_at x at n) 0 0) 255) [ true ↦ parse_closing ks line at n | false ↦ refused 2 line ]
+                | false ↦ elim (eqb (get_or (frame_at x at n) 0 0) 255) [ true ↦ parse_closing ks line at n | false ↦ refused BadKind line ]
               ]
         ]
 
@@ -67,23 +66,23 @@ module _ (x : List ℕ) (c : ℕ) (limit : List ℕ) where
   parse_arities zero arities line at = parse_clauses arities 64 [] line at
   parse_arities (suc left) arities line at =
       elim (line_at x at) [
-        | Absent ↦ refused 2 line
-        | Bad ↦ refused 1 line
+        | Absent ↦ refused BadKind line
+        | Bad ↦ refused BadLine line
         | Holds n ↦
             elim (judge_arity c (atom_count c arities) (frame_at x at n)) [
-              | Fault e ↦ refused e line
-              | Found a ↦ parse_arities left (arities ++ (a ∷ [])) (suc line) (after_line at n)
+              | Err e ↦ refused e line
+              | Ok a ↦ parse_arities left (arities ++ (a ∷ [])) (suc line) (after_line at n)
             ]
       ]
 
 unfoldable pub parse : List ℕ → Parsed
 parse x =
     elim (line_at x 0) [
-      | Absent ↦ refused 2 1
-      | Bad ↦ refused 1 1
+      | Absent ↦ refused BadKind 1
+      | Bad ↦ refused BadLine 1
       | Holds n ↦
           elim (judge_heading (frame_at x 0 n)) [
-            | Wrong e ↦ refused e 1
-            | Sizes c p ↦ parse_arities x c (take 4 (drop 4 (frame_at x 0 n))) p [] 2 (after_line 0 n)
+            | Err e ↦ refused e 1
+            | Ok s ↦ parse_arities x s.constants (take 4 (drop 4 (frame_at x 0 n))) s.predicates [] 2 (after_line 0 n)
           ]
     ]

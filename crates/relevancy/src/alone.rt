@@ -8,9 +8,10 @@ ghost use Rattle.session.specs.terms.End.{Replied};
 ghost use Rattle.relevancy_walk.specs.terms.Place.{relevancy_walker};
 ghost use Rattle.relevancy.specs.Engine.{outcome_in, deepest_in};
 
-use crate::end::reply;
 use crate::whole::walk_whole;
+use ending::reply;
 use ground::verdict::limit_in;
+use relevancy_walk::place::ByTable;
 use session::record::Reply;
 
 // The run of a valid table under its own limit, in a buffer for its path.
@@ -22,8 +23,14 @@ fn decide(table: &[u8], answer: &mut [u8], path: &mut [u8]) -> Reply
     let mut facts = [0u8; 6150];
     let limit = limit_in(table);
     let whole = walk_whole(table, &mut facts, path, limit);
-    let walked = whole.walked;
-    reply(table, &facts, path, answer, walked, limit)
+    reply(
+        &ByTable { table },
+        &facts,
+        path,
+        answer,
+        whole.walked,
+        limit,
+    )
 }
 
 // The same, in the first part of the work buffer, which is left zero.

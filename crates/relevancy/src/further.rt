@@ -5,14 +5,12 @@ ghost use Rattle.problem.specs.Table.{Lawful};
 ghost use Rattle.ground.specs.Instance.{ground_in};
 ghost use Rattle.session.specs.Calls.{called_in, verdict_told, record_left, answer_left, work_left};
 
-use crate::end::conclude;
-use lists::pair;
-use relevancy_resume::left::root_alternatives;
-use relevancy_resume::resume::go_on;
+use ending::conclude;
+use engine::left::root_alternatives;
+use engine::resume::go_on;
 use relevancy_rule::index::build;
-use relevancy_walk::place::root;
+use relevancy_walk::place::{ByTable, Relevancy, atoms, root};
 use session::record::{Moved, Session, is_kept, refused};
-use walk::answer::Resumed;
 use walk::node::bring;
 use walk::standing::Onward;
 
@@ -34,13 +32,13 @@ fn further_run(
     let alts = build(table, true);
     let mut facts = [0u8; 6150];
     let mut path = [0u8; 9227];
-    let atoms = session.atoms;
+    let entered = session.atoms;
     let nexts = session.nexts;
     let steps = session.length as usize;
     let limit = session.count + further;
     bring(&mut path, session.deepest as usize);
     let found = root(table, &conds, &alts, &mut facts, &mut path);
-    let used = root_alternatives(table, &path, found);
+    let used = root_alternatives(&ByTable { table }, &path, found);
     let mut new = [0u16; 1409];
     relevancy_close::sweep::build(table, &facts, 0 < used, &mut new);
     let on = Onward {
@@ -49,14 +47,20 @@ fn further_run(
         count: session.count,
         limit,
     };
+    let engine = Relevancy {
+        table,
+        conds: &conds,
+        alts: &alts,
+        new: &new,
+    };
     let went = go_on(
-        table, &conds, &alts, &new, &mut facts, &mut path, &atoms, &nexts, steps, found, on,
+        &engine, &mut facts, &mut path, &entered, &nexts, steps, found, on,
     );
-    let Resumed::On(walked) = went else {
+    let Some(walked) = went else {
         return refused(session, 42);
     };
     lists::zero(work);
-    conclude(table, &facts, &path, answer, walked, limit, used)
+    conclude(&engine, &facts, &path, answer, walked, limit, used)
 }
 
 // 41, then 42 where the record can hold no session of the table, then the run from where it stands.
@@ -74,8 +78,12 @@ pub fn go_further(
     if further > 4294967295 - session.count {
         return refused(session, 41);
     }
-    let atoms = pair(table[8], table[9]);
-    if !is_kept(session.verdict, session.length, session.deepest, atoms) {
+    if !is_kept(
+        session.verdict,
+        session.length,
+        session.deepest,
+        atoms(table),
+    ) {
         return refused(session, 42);
     }
     further_run(session, further, table, answer, work)

@@ -7,19 +7,12 @@ ghost use Rattle.walk.specs.terms.Walker.{from_root};
 ghost use Rattle.walk.specs.terms.Walk.{Walks};
 ghost use Rattle.relevancy_walk.specs.terms.Place.{relevancy_walker};
 
-use relevancy_resume::left::root_alternatives;
+use engine::left::root_alternatives;
+use engine::visiting::from_root;
 use relevancy_rule::index::slots;
-use relevancy_walk::place::root;
-use relevancy_walk::trail::from_root;
-use walk::answer::Walked;
+use relevancy_walk::place::{ByTable, Relevancy, root};
+use walk::answer::Whole;
 use walk::node::bring;
-
-// How it ends, and how many alternatives the root has.
-#[derive(Drop)]
-pub struct Whole {
-    pub walked: Walked,
-    pub used: u8,
-}
 
 // The walk of a valid table from the root on, under a limit, in an empty set for its facts and a buffer for its path, which may hold anything.
 pub fn walk_whole(table: &[u8], facts: &mut [u8], path: &mut [u8], limit: u32) -> Whole
@@ -33,12 +26,15 @@ pub fn walk_whole(table: &[u8], facts: &mut [u8], path: &mut [u8], limit: u32) -
     slots(table, true, true, &mut alts);
     bring(path, 0);
     let found = root(table, &conds, &alts, facts, path);
-    let used = root_alternatives(table, path, found);
+    let used = root_alternatives(&ByTable { table }, path, found);
     let mut new = [0u16; 1409];
     relevancy_close::sweep::build(table, facts, 0 < used, &mut new);
-    let walked = from_root(table, &conds, &alts, &new, facts, path, found, limit);
-    Whole {
-        walked: walked,
-        used: used,
-    }
+    let engine = Relevancy {
+        table,
+        conds: &conds,
+        alts: &alts,
+        new: &new,
+    };
+    let walked = from_root(&engine, facts, path, found, limit);
+    Whole { walked, used }
 }

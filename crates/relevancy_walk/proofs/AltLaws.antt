@@ -4,13 +4,13 @@ use mathlib.Core.List.{List}
 use mathlib.Core.Path.{◌≡◌, refl, sym, ap, ◌∙◌}
 use native.Mathlib.Omega.{arith}
 use lib.ListN.{length, take, get_or, replicate, length-replicate}
+use Rattle.std.specs.Prelude.{Option}
 use Rattle.search.specs.Relevancy.{branches}
 use Rattle.problem.specs.Layout.{problem_in}
 use Rattle.problem.specs.Table.{Lawful}
 use Rattle.ground.specs.Instance.{InstanceOf, clause_of, ground_atoms, ground_of}
 use Rattle.ground.specs.terms.Branching.{SlotsNumbered, slot_numbers, NextOf}
 use Rattle.ground.specs.terms.Placed.{Placed}
-use Rattle.ground.specs.declared.branch.NextBranch.{NextBranch}
 use Rattle.ground.proofs.AtomLaws.{Row, alts_row, alts_numbers}
 use Rattle.ground.proofs.Headings.{numbered_in}
 use Rattle.ground.proofs.Turns.{ClauseKnown, clause_known, numbers_take}
@@ -56,5 +56,5 @@ module _ (tb : List ℕ) (h : Lawful tb) (path : List ℕ) (depth : ℕ) (listed
     pub slots_numbered : SlotsNumbered tb (144 + 56 * k + 32) 6 (get_or tb (144 + 56 * k + 1) 0) values
     slots_numbered = rw (k_is, values_are) (record { few = site_row.few; each = λ i l. numbered_in tb h (144 + 56 * clause + 32 + 6 * i) four (site_row.numbered i l) })
 
-    pub slots_next : (n : ℕ) (r : NextBranch) → NextOf (branches (slot_numbers tb (144 + 56 * k + 32) 6 values (get_or tb (144 + 56 * k + 1) 0))) n r → NextOf (alts_at (relevancy_walker tb) path depth) n r
+    pub slots_next : (n : ℕ) (r : Option ℕ) → NextOf (branches (slot_numbers tb (144 + 56 * k + 32) 6 values (get_or tb (144 + 56 * k + 1) 0))) n r → NextOf (alts_at (relevancy_walker tb) path depth) n r
     slots_next n r next = rw (← alts_are, ← k_is, ← values_are) next

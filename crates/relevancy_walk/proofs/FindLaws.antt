@@ -11,8 +11,7 @@ use Rattle.store.proofs.Laws.{store_few}
 use Rattle.problem.specs.Table.{Lawful}
 use Rattle.ground.specs.Instance.{Instance}
 use Rattle.ground.proofs.AtomLaws.{clause_fits}
-use Rattle.relevancy_rule.specs.terms.Node.{instance_choice, ClosedByClauses, OpenByClauses, SplitByClauses, TrueSettled}
-use Rattle.relevancy_rule.specs.declared.answer.Choice.TheVariants.{At}
+use Rattle.relevancy_rule.specs.terms.Node.{chosen_at, instance_choice, ClosedByClauses, OpenByClauses, SplitByClauses, TrueSettled}
 use Rattle.relevancy_rule.specs.declared.answer.Node.{Node}
 use Rattle.relevancy_rule.specs.declared.answer.Node.TheVariants.{Closed, Open, Split}
 use Rattle.walk.specs.terms.Walker.{Site, Walker}
@@ -22,8 +21,9 @@ use Rattle.walk.specs.declared.answer.Found.{Found as Told}
 use Rattle.walk.specs.declared.answer.Found.TheVariants.{Closed as ToldClosed, Open as ToldOpen, Split as ToldSplit}
 use Rattle.walk.proofs.PathLaws.{site_back}
 use Rattle.walk.proofs.PlaceLaws.{found_here, found_split}
+use Rattle.relevancy_rule.proofs.ChooseLaws.{site_named}
 use Rattle.relevancy_walk.specs.terms.Place.{TrueAtSplit, relevancy_walker, TrueFresh, NodeTold, OwnFew}
-use Rattle.relevancy_walk.proofs.SoundLaws.{sound}
+use Rattle.relevancy_walk.specs.SoundLaws.{sound}
 
 -- a node that is not split is told as it was found, and the path is as it was
 pub told_here : {I : Type 0} (w : Walker I) (facts path : List ℕ) (depth n done : ℕ) (left_facts : List ℕ) (y x : Told) (left : List ℕ)
@@ -34,14 +34,10 @@ told_here w facts path depth n done left_facts y x left f e same =
 
 -- the record that is written of a split names the instance
 pub site_written : {I : Type 0} (w : Walker I) (i : Instance) (path left : List ℕ) (depth k a b c d t : ℕ) → length i.values ≡ w.vars i.clause → w.vars i.clause ≤ 4
-    → instance_choice (some i) ≡ At k a b c d → Noted path depth k a b c d t left → ◌≡◌ {A = Site} (site_at w left depth) (record { number = i.clause; values = i.values })
+    → instance_choice (some i) ≡ chosen_at k a b c d → Noted path depth k a b c d t left → ◌≡◌ {A = Site} (site_at w left depth) (record { number = i.clause; values = i.values })
 site_written w i path left depth k a b c d t count few named wrote =
-    let ek : i.clause ≡ k = cc in
-    let ea : get_or i.values 0 0 ≡ a = cc in
-    let eb : get_or i.values 1 0 ≡ b = cc in
-    let ec : get_or i.values 2 0 ≡ c = cc in
-    let ed : get_or i.values 3 0 ≡ d = cc in
-    site_back w path left depth k a b c d t (record { number = i.clause; values = i.values }) count few ek ea eb ec ed wrote
+    let n = site_named i k a b c d named in
+    site_back w path left depth k a b c d t (record { number = i.clause; values = i.values }) count few n.0 n.1 n.2 n.3 n.4 wrote
 
 module _ (tb : List ℕ) (h : Lawful tb) (facts path : List ℕ) (depth n done : ℕ) (fresh : TrueFresh tb facts path depth n done) (left_facts : List ℕ) where
   abbrev l : List ℕ

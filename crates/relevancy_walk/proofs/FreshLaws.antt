@@ -26,7 +26,7 @@ use Rattle.walk.specs.terms.Place.{Parted}
 use Rattle.walk.proofs.PathLaws.{path_deep, path_entered}
 use Rattle.walk.proofs.PlaceLaws.{named_entered, entered_kept}
 use Rattle.relevancy_walk.specs.terms.Place.{TrueAtSplit, relevancy_walker, TrueFresh}
-use Rattle.relevancy_walk.proofs.SoundLaws.{sound}
+use Rattle.relevancy_walk.specs.SoundLaws.{sound}
 
 -- an atom is put into facts, the truths among which are those under the entered atoms l
 module _ (tb l facts : List ℕ) (mark atom : ℕ) (left : List ℕ) (n : ℕ) (put : Added 2050 facts mark atom left n) where
@@ -73,7 +73,11 @@ module _ (tb : List ℕ) (h : Lawful tb) (facts path : List ℕ) (depth : ℕ) (
   next_small = (sound tb h).small (entry_at (relevancy_walker tb) path depth) (path_in (relevancy_walker tb) path depth) (node.at_split.enters (next_at path depth) some_left)
 
   -- the next alternative is put into the set
-  module _ (left : List ℕ) (n : ℕ) (put : Added 2050 facts (mark_at path depth) (get_or (alts_at (relevancy_walker tb) path depth) (next_at path depth) 0) left n) where
+  module _ (left : List ℕ) (n own a : ℕ) (own_is : own ≡ mark_at path depth) (a_is : a ≡ get_or (alts_at (relevancy_walker tb) path depth) (next_at path depth) 0)
+      (added : Added 2050 facts own a left n) where
+    pub put : Added 2050 facts mark atom left n
+    put = subst (λ (x : ℕ). Added 2050 facts mark x left n) a_is (subst (λ (j : ℕ). Added 2050 facts j a left n) own_is added)
+
     -- the marks are those of the root
     pub entered_marked : RootMarked tb (logged left 2050 n)
     entered_marked = subst (RootMarked tb) (sym put.list) (go (has nat_key (logged facts 2050 mark) atom))
@@ -81,6 +85,9 @@ module _ (tb : List ℕ) (h : Lawful tb) (facts path : List ℕ) (depth : ℕ) (
         go : (b : Bool) → RootMarked tb (cond b (logged facts 2050 mark) (atom ∷ logged facts 2050 mark))
         go true = rests.marked
         go false = root_adds tb (logged facts 2050 mark) atom (omega (arith, next_small, (sound tb h).few)) rests.marked
+
+    pub entered_opening : TrueOpening tb left n own
+    entered_opening = subst (TrueOpening tb left n) (sym own_is) (added_opening tb l facts mark atom left n put rests.kind rests.worked next_small)
 
     pub entered_fresh : (went : List ℕ) → length went ≡ 9227 → Passed path depth went → TrueFresh tb left went (depth + 1) n (mark_at path depth)
     entered_fresh went size p =

@@ -1,5 +1,4 @@
-// The relevancy engine's walk of a table. It marks the relevant facts afresh at each node.
+// The relevancy engine's places of a table, by which it walks. It marks the relevant facts afresh at each node.
 #![tactic(auto)]
 
 pub mod place;
-pub mod trail;

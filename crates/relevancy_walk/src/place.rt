@@ -1,27 +1,30 @@
 // A place of the walk: making the next one, from the path and the next alternative at each node.
-ghost use Rattle.std.specs.Prelude.{true, false, ◌≡◌, ℕ, ◌<◌};
+ghost use Rattle.std.specs.Prelude.{true, false, ◌≡◌, ℕ, ◌+◌, ◌≤◌, ◌<◌, Some, refl};
 ghost use Rattle.store.specs.terms.Store.{Store};
 ghost use Rattle.problem.specs.Table.{Lawful};
 ghost use Rattle.relevancy_rule.specs.terms.Index.{ClausesIndexed};
 ghost use Rattle.relevancy_rule.specs.terms.Sweep.{SweepIndexed};
+ghost use Rattle.ground.specs.Instance.{Instance, ground_in};
 ghost use Rattle.ground.specs.terms.Branching.{NextOf};
-ghost use Rattle.ground.specs.declared.branch.NextBranch.TheVariants.{Atom};
-ghost use Rattle.walk.specs.terms.Alternatives.{listed, Listing};
+ghost use Rattle.walk.specs.terms.Walker.{Run};
 ghost use Rattle.walk.specs.terms.Path.{Room, next_at, deepest_at, site_at, alts_at};
-ghost use Rattle.walk.specs.terms.Place.{Parted, Making, Beginning};
+ghost use Rattle.walk.specs.terms.Place.{Parted, Making, Beginning, Trying, Visiting};
 ghost use Rattle.relevancy_walk.specs.terms.Place.{relevancy_walker, OwnFew, NodeTold};
+ghost use Rattle.relevancy_walk.specs.SoundLaws.{sound, small};
+ghost use Rattle.relevancy_walk.specs.TiedLaws.{tied};
 
-use ground::branch::{NextBranch, branch_after};
+use engine::engine::{Engine, Sites};
+use ground::branch::branch_after;
+use lists::pair;
 use relevancy_close::close::start;
 use relevancy_node::node::{settle, settle_root};
 use relevancy_rule::answer::Node;
 use store::add;
-use walk::alternatives::Alternatives;
 use walk::answer::Found;
-use walk::node::{mark, next, note, number, pass, values};
+use walk::node::{mark, note, number, pass, values};
 
 // Alternative j of the split node at `depth`.
-pub fn alternative_at(table: &[u8], path: &[u8], depth: usize, j: u8) -> NextBranch
+pub fn alternative_at(table: &[u8], path: &[u8], depth: usize, j: u8) -> Option<usize>
     requires lawful { Lawful table.now }
     requires room { Room path.now depth × (relevancy_walker table.now).Named (site_at (relevancy_walker table.now) path.now depth) }
     ensures { NextOf (alts_at (relevancy_walker table.now) path.now depth) j result }
@@ -32,33 +35,99 @@ pub fn alternative_at(table: &[u8], path: &[u8], depth: usize, j: u8) -> NextBra
     branch_after(table, record + 32, 6, count, &four, j as usize)
 }
 
-// All alternatives of the split node at `depth`.
-pub fn alternatives_at(table: &[u8], path: &[u8], depth: usize) -> Alternatives
+// How many atoms a valid table has.
+pub fn atoms(table: &[u8]) -> usize
     requires lawful { Lawful table.now }
-    requires room { Room path.now depth × (relevancy_walker table.now).Named (site_at (relevancy_walker table.now) path.now depth) }
-    ensures { Listing result × (listed result ≡ alts_at (relevancy_walker table.now) path.now depth) }
+    ensures { result ≡ (ground_in table.now).atoms }
 {
-    let mut atoms = [0u16; 4];
-    let mut n: u8 = 0;
-    while n < 4 {
-        let there = alternative_at(table, path, depth, n);
-        let NextBranch::Atom(a) = there else {
-            return Alternatives { count: n, atoms };
-        };
-        atoms[n as usize] = a as u16;
-        n += 1;
-    }
-    Alternatives { count: n, atoms }
+    pair(table[8], table[9])
 }
 
-// The alternative that the split node at `depth` enters next.
-pub fn alternative(table: &[u8], path: &[u8], depth: usize) -> NextBranch
-    requires lawful { Lawful table.now }
-    requires room { Room path.now depth × (relevancy_walker table.now).Named (site_at (relevancy_walker table.now) path.now depth) }
-    ensures { NextOf (alts_at (relevancy_walker table.now) path.now depth) (next_at path.now depth) result }
-{
-    let j = next(path, depth);
-    alternative_at(table, path, depth, j)
+// What a path can be read by: a valid table.
+#[derive(Clone, Copy)]
+pub struct ByTable<'a> {
+    pub table: &'a [u8],
+}
+
+impl<'a> Sites for ByTable<'a> {
+    ghost walker = { λ e. relevancy_walker e.table.now };
+
+    ghost Known = { λ e. Lawful e.table.now };
+
+    fn alternative_at(&self, path: &[u8], depth: usize, j: u8) -> Option<usize> {
+        alternative_at(self.table, path, depth, j)
+    }
+
+    fn atoms(&self) -> usize {
+        atoms(self.table)
+    }
+
+    ghost sound = { λ e known. sound e.table.now known };
+
+    ghost small = { λ e known. small e.table.now known };
+
+    ghost genuine = { λ e known bs. (λ g. g, λ g. g) };
+
+    ghost tied = { λ e known. tied e.table.now };
+}
+
+// What the walk goes by below the root: a valid table, the indices of its conditions and of its alternatives, and that of the sweep.
+#[derive(Clone, Copy)]
+pub struct Relevancy<'a> {
+    pub table: &'a [u8],
+    pub conds: &'a [u16; 384],
+    pub alts: &'a [u16; 384],
+    pub new: &'a [u16; 1409],
+}
+
+impl<'a> Sites for Relevancy<'a> {
+    ghost walker = { λ e. relevancy_walker e.table.now };
+
+    ghost Known = { λ e. Lawful e.table.now };
+
+    fn alternative_at(&self, path: &[u8], depth: usize, j: u8) -> Option<usize> {
+        alternative_at(self.table, path, depth, j)
+    }
+
+    fn atoms(&self) -> usize {
+        atoms(self.table)
+    }
+
+    ghost sound = { λ e known. sound e.table.now known };
+
+    ghost small = { λ e known. small e.table.now known };
+
+    ghost genuine = { λ e known bs. (λ g. g, λ g. g) };
+
+    ghost tied = { λ e known. tied e.table.now };
+}
+
+impl<'a> Engine for Relevancy<'a> {
+    ghost Fit = { λ e. Lawful e.table.now × ClausesIndexed e.table.now false e.conds.now × ClausesIndexed e.table.now true e.alts.now × SweepIndexed e.table.now e.new.now };
+
+    fn enter(&self, facts: &mut [u8], path: &mut [u8], depth: usize, a: usize) -> Found {
+        let own = mark(path, depth);
+        pass(path, depth);
+        let n = add(facts, 2050, own, a);
+        let node = settle(self.table, self.conds, self.alts, self.new, facts, n, own);
+        tell(path, depth + 1, node)
+    }
+
+    fn place(
+        &self,
+        facts: &mut [u8],
+        path: &mut [u8],
+        depth: usize,
+        a: usize,
+        count: u32,
+        limit: u32,
+    ) -> Found {
+        self.enter(facts, path, depth, a)
+    }
+
+    ghost capacity = { λ e. refl };
+
+    ghost known = { λ e fit. fit.0 };
 }
 
 // Tells how the node at `depth` is settled, and writes a split down.
@@ -69,62 +138,11 @@ pub fn tell(path: &mut [u8], depth: usize, node: Node) -> Found
     match node {
         Node::Split(m, own, k, a, b, c, d) => {
             note(path, depth, k as usize, a, b, c, d, own);
-            return Found::Split(m);
+            Found::Split(m)
         }
-        Node::Closed(m) => {
-            return Found::Closed(m);
-        }
-        Node::Open(m) => {
-            return Found::Open(m);
-        }
+        Node::Closed(m) => Found::Closed(m),
+        Node::Open(m) => Found::Open(m),
     }
-}
-
-// Makes the next place: enters atom a, the next alternative of the split node at `depth`. It is the next entry of whatever run stands there.
-pub fn enter(
-    table: &[u8],
-    conds: &[u16; 384],
-    alts: &[u16; 384],
-    new: &[u16; 1409],
-    facts: &mut [u8],
-    path: &mut [u8],
-    depth: usize,
-    a: usize,
-) -> Found
-    requires lawful { Lawful table.now }
-    requires clauses_indexed { ClausesIndexed table.now false conds.now × ClausesIndexed table.now true alts.now × SweepIndexed table.now new.now }
-    requires parted { Parted (relevancy_walker table.now) facts.old path.old depth }
-    requires next_of { NextOf (alts_at (relevancy_walker table.now) path.old depth) (next_at path.old depth) (Atom a) }
-    ensures { (count : ℕ) → Making (relevancy_walker table.now) facts.old path.old depth count result facts.new path.new }
-{
-    let own = mark(path, depth);
-    pass(path, depth);
-    let n = add(facts, 2050, own, a);
-    let node = settle(table, conds, alts, new, facts, n, own);
-    tell(path, depth + 1, node)
-}
-
-// Makes the next place as entry `count` + 1 of a run, where the limit allows one.
-pub fn place(
-    table: &[u8],
-    conds: &[u16; 384],
-    alts: &[u16; 384],
-    new: &[u16; 1409],
-    facts: &mut [u8],
-    path: &mut [u8],
-    depth: usize,
-    a: usize,
-    count: u32,
-    limit: u32,
-) -> Found
-    requires lawful { Lawful table.now }
-    requires clauses_indexed { ClausesIndexed table.now false conds.now × ClausesIndexed table.now true alts.now × SweepIndexed table.now new.now }
-    requires parted { Parted (relevancy_walker table.now) facts.old path.old depth }
-    requires next_of { NextOf (alts_at (relevancy_walker table.now) path.old depth) (next_at path.old depth) (Atom a) }
-    requires count_lt_limit { count < limit }
-    ensures { Making (relevancy_walker table.now) facts.old path.old depth count result facts.new path.new }
-{
-    enter(table, conds, alts, new, facts, path, depth, a)
 }
 
 // Makes the root, in a set without facts.

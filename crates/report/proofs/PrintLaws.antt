@@ -12,7 +12,9 @@ use Rattle.search.specs.Ground.{Found}
 use Rattle.search.specs.Relevancy.{find_r}
 use Rattle.search.specs.Machine.{Outcome, Satisfied, outcome}
 use Rattle.search.proofs.Theorems.{theorems}
-use Rattle.reading.specs.declared.read.Reading.TheVariants.{Refused, Accepted}
+use Rattle.std.specs.Prelude.{Ok, Err}
+use Rattle.problem.specs.declared.fault.Refusal.{Refusal}
+use Rattle.problem.specs.Faults.{fault_number}
 use Rattle.problem.specs.Problem.{Problem, Fits, atom_count, limit_of}
 use Rattle.problem.specs.Numbers.{refused_at}
 use Rattle.problem.specs.Parse.{Parsed, refused, parsed, parse}
@@ -53,19 +55,19 @@ pub record ReadInto (x tb : List ℕ) : Type 0 where
 -- ---- what reading a text into 4,096 bytes says
 
 module _ (x tb : List ℕ) (size : length tb ≡ 4096) where
-  pub refusal_printed : (walk : Walk) (e line : ℕ) → Refused e line ≡ read_result x tb → head_line (refused_at e line) ≡ printed walk x
+  pub refusal_printed : (walk : Walk) (e : Refusal) → Err e ≡ read_result x tb → head_line (refused_at (fault_number e.fault) e.line) ≡ printed walk x
   unfolding read_result printed
-  refusal_printed walk e line r = go (parse x) (r ∙ rw (le-ltb (length tb) 4096 (omega arith)))
+  refusal_printed walk e r = go (parse x) (r ∙ rw (le-ltb (length tb) 4096 (omega arith)))
     where
-      go : (what : Parsed) → Refused e line ≡ reading_of what
-          → head_line (refused_at e line) ≡ elim what [ refused d l ↦ head_line (refused_at d l) | parsed q ↦ report q (outcome (walk q) (limit_of q.limit)) ]
+      go : (what : Parsed) → Err e ≡ reading_of what
+          → head_line (refused_at (fault_number e.fault) e.line) ≡ elim what [ refused d l ↦ head_line (refused_at (fault_number d) l) | parsed q ↦ report q (outcome (walk q) (limit_of q.limit)) ]
       go (refused d l) s =
-          let number : e ≡ d = cc in
-          let at : line ≡ l = cc in
+          let number : e.fault ≡ d = cc in
+          let at : e.line ≡ l = cc in
           rw (number, at)
       go (parsed q) s = let z : ◌≡◌ {A = ℕ} 0 1 = cc in absurd (omega arith)
 
-  pub text_taken : (left : List ℕ) → Accepted ≡ read_result x tb → left ≡ read_leaves x tb → ReadInto x left
+  pub text_taken : (left : List ℕ) → Ok tt ≡ read_result x tb → left ≡ read_leaves x tb → ReadInto x left
   text_taken left r l =
       let t = text_read x tb (sym r) in
       let short : length tb ≤ 4096 = omega arith in
@@ -97,7 +99,7 @@ module _ (x tb : List ℕ) (t : ReadInto x tb) where
   unfolding printed
   report-printed walk =
       ap (λ (q : Problem). report q (outcome (walk q) (limit_of q.limit))) same
-      ∙ ap {B = List ℕ} (λ (what : Parsed). elim what [ refused e line ↦ head_line (refused_at e line) | parsed q ↦ report q (outcome (walk q) (limit_of q.limit)) ]) (sym t.accepted)
+      ∙ ap {B = List ℕ} (λ (what : Parsed). elim what [ refused e line ↦ head_line (refused_at (fault_number e) line) | parsed q ↦ report q (outcome (walk q) (limit_of q.limit)) ]) (sym t.accepted)
 
   -- ---- an engine's answer
 

@@ -74,13 +74,6 @@ module _ (q : Problem) (answer : List ℕ) where
   abbrev pub lines_upto : ℕ → List ℕ
   lines_upto a = flat_map (λ x. hex_line (130 ∷ x)) (chosen (tabulate (is_set answer) a) (atoms_in_order q))
 
-  -- one of them, or none
-  pub line_put : {e x : List ℕ} {at r : ℕ} (a : ℕ) → is_set answer a ≡ true → Put e at (hex_line (130 ∷ get_or (atoms_in_order q) a [])) 11 r x → Put e at (atom_line q answer a) 11 r x
-  line_put {e} {x} {at} {r} a b p = put_as p (rw b)
-
-  pub line_skipped : (e : List ℕ) (at a : ℕ) → is_set answer a ≡ false → Put e at (atom_line q answer a) 11 at e
-  line_skipped e at a b = put_as (put_most (put_none e at) (omega arith)) (rw b)
-
   lines_more : (a : ℕ) → a < atom_count q.constants q.arities → lines_upto a ++ atom_line q answer a ≡ lines_upto (suc a)
   unfolding flat_map
   lines_more a h =

@@ -30,10 +30,8 @@ fn put_model(table: &[u8], answer: &[u8], out: &mut [u8], at: usize) -> usize
 {
     let atoms = pair(table[8], table[9]);
     let mut next = at;
-    let mut a: usize = 0;
-    while a < atoms {
+    for a in 0..atoms {
         next = put_chosen(table, answer, a, out, next);
-        a += 1;
     }
     next
 }

@@ -16,10 +16,8 @@ fn put_frame(frame: &[u8], out: &mut [u8], at: usize) -> usize
     ensures { Put out.old at (hex_line frame.now) (2 * length frame.now + 1) result out.new }
 {
     let mut next = at;
-    let mut i: usize = 0;
-    while i < frame.len() {
-        next = put_byte(out, next, frame[i]);
-        i += 1;
+    for &b in frame {
+        next = put_byte(out, next, b);
     }
     put_end(out, next)
 }

@@ -10,6 +10,7 @@ use denote.Enum.Declared.{tag_of}
 use types.Run.{OneOf}
 use lib.ListN.{length, take, drop, replicate, take-append-drop, drop_of_length-le}
 use lib.Seq.{length-take-le}
+use Rattle.std.specs.Prelude.{Option as Answered, Some, None}
 use Rattle.lists.specs.Bytes.{is_set, bit}
 use Rattle.lists.proofs.Tabulate.{tabulate-length}
 use Rattle.search.specs.Relevancy.{model_bits}
@@ -26,11 +27,8 @@ use Rattle.walk.specs.terms.Walk.{Walks, Tells}
 use Rattle.walk.specs.Numbers.{session_of}
 use Rattle.walk.specs.terms.Resume.{WalksOn, GoesOn}
 use Rattle.walk.specs.terms.Left.{Tied, StepsLeft, session_left}
-use Rattle.walk.specs.declared.answer.Resumed.{Resumed}
-use Rattle.walk.specs.declared.answer.Resumed.TheVariants.{Nowhere, On}
 use Rattle.walk.specs.declared.answer.Walked.{Walked}
 use Rattle.walk.specs.declared.answer.Walked.TheVariants.{Shut, Opened, Exhausted as LimitMet}
-use Rattle.walk.specs.contracts.answer.Resumed.{the_type as resumed-type}
 use Rattle.walk.specs.contracts.answer.Walked.{the_type as walked-type}
 use Rattle.walk.proofs.PathLaws.{path-length}
 use Rattle.walk.proofs.WalkLaws.{walks_tell}
@@ -44,35 +42,6 @@ use Rattle.session.specs.Calls.{called_in, work_left}
 use Rattle.session.specs.terms.End.{depth_of, answer_by, verdict_by, moved_by, PathLaid, LeftBy, Replied, comes_out, Concluded}
 use Rattle.session.proofs.RecordLaws.{laid_as, slots_left}
 use Rattle.session.proofs.CallLaws.{is_kept_over, called_nowhere, called_on, CallLeft, left_declined, left_told}
-
--- ---- the answer
-
--- an open place gives its model
-pub answer_given : (x : Walked) → tag_of walked-type x ≡ 1 → (facts : List ℕ) (n : ℕ) (answer : List ℕ)
-    → map bit (model_bits n (is_set facts) (λ a. is_set facts (1025 + a))) ++ drop n answer ≡ answer_by x (model_bits n (is_set facts) (λ a. is_set facts (1025 + a))) answer
-answer_given (Shut c) tag facts n answer = let z : ◌≡◌ {A = ℕ} 0 1 = tag in absurd (omega arith)
-answer_given (Opened c e) tag facts n answer =
-    let bits : List Bool = model_bits n (is_set facts) (λ a. is_set facts (1025 + a)) in
-    let long : length bits ≡ n = tabulate-length (λ a. is_set facts a || not (is_set facts (1025 + a))) n in
-    ap (λ (k : ℕ). map bit bits ++ drop k answer) (sym long)
-answer_given (LimitMet e) tag facts n answer = let z : ◌≡◌ {A = ℕ} 2 1 = tag in absurd (omega arith)
-
-pub answer_kept : (x : Walked) → OneOf (0 ∷ 2 ∷ []) (tag_of walked-type x) → (bits : List Bool) (answer : List ℕ) → answer ≡ answer_by x bits answer
-answer_kept (Shut c) tag bits answer = refl
-answer_kept (Opened c e) tag bits answer = absurd (not_one tag)
-  where
-    not_one : OneOf (0 ∷ 2 ∷ []) 1 → ⊥
-    not_one (inl e) = let z : ◌≡◌ {A = ℕ} 1 0 = e in omega arith
-    not_one (inr e) = let z : ◌≡◌ {A = ℕ} 1 2 = e in omega arith
-answer_kept (LimitMet e) tag bits answer = refl
-
--- ---- the verdict
-
--- the limit is met
-pub verdict_met : (x : Walked) → tag_of walked-type x ≡ 2 → (limit : ℕ) → IsExhausted limit ≡ verdict_by x limit
-verdict_met (Shut c) tag limit = let z : ◌≡◌ {A = ℕ} 0 2 = tag in absurd (omega arith)
-verdict_met (Opened c e) tag limit = let z : ◌≡◌ {A = ℕ} 1 2 = tag in absurd (omega arith)
-verdict_met (LimitMet e) tag limit = refl
 
 -- ---- the path written down
 
@@ -98,14 +67,9 @@ module _ {I : Type 0} (w : Walker I) (y : Walked) (path : List ℕ) (x : Left) (
         by_end (LimitMet e) same (λ r. record { next_is = next; atoms_are = as_slots.0; nexts_are = as_slots.1; deepest_is = deepest })
 
   -- where all is closed
-  pub left_shut : tag_of walked-type y ≡ 0 → x.atoms ≡ replicate 1024 0 → x.nexts ≡ replicate 1024 0 → x.next ≡ length (alts_found (w.find [])) → LeftBy w y path x
+  pub left_shut : (c : ℕ) → y ≡ Shut c → x.atoms ≡ replicate 1024 0 → x.nexts ≡ replicate 1024 0 → x.next ≡ length (alts_found (w.find [])) → LeftBy w y path x
   unfolding slots
-  left_shut tag ea en next = go y refl tag
-    where
-      go : (z : Walked) → y ≡ z → tag_of walked-type z ≡ 0 → LeftBy w y path x
-      go (Shut c) same tag = by_end (Shut c) same (λ r. record { next_is = next; atoms_are = ea; nexts_are = en; deepest_is = deepest })
-      go (Opened c e) same tag = let z : ◌≡◌ {A = ℕ} 1 0 = tag in absurd (omega arith)
-      go (LimitMet e) same tag = let z : ◌≡◌ {A = ℕ} 2 0 = tag in absurd (omega arith)
+  left_shut c same ea en next = by_end (Shut c) same (λ r. record { next_is = next; atoms_are = ea; nexts_are = en; deepest_is = deepest })
 
 -- ---- how the run comes out
 
@@ -243,19 +207,15 @@ module _ {I : Type 0} (w : Walker I) (atoms : ℕ) (r : Record) (further : ℕ) 
   place d = place_of w.find (session_of r.verdict r.count r.atoms r.nexts r.length r.next d)
 
   -- the figure brought is the record's
-  module _ (d : ℕ) (brings : d ≡ r.deepest) (limit : ℕ) (x : Resumed) (facts path : List ℕ)
+  module _ (d : ℕ) (brings : d ≡ r.deepest) (limit : ℕ) (x : Answered Walked) (facts path : List ℕ)
       (goes : GoesOn w (place_of w.find (session_of r.verdict r.count r.atoms r.nexts r.length r.next d)) r.count d limit x facts path) where
     -- it is none of the walk
-    pub further_nowhere : OneOf (0 ∷ []) (tag_of resumed-type x) → called_in w.find atoms r further ≡ declined 42
-    further_nowhere tag = called_nowhere w.find atoms r further within kept (sym (ap place brings) ∙ go x tag goes)
-      where
-        go : (z : Resumed) → OneOf (0 ∷ []) (tag_of resumed-type z) → GoesOn w (place d) r.count d limit z facts path → place d ≡ none
-        go Nowhere tag h = h
-        go (On y) tag h = let z : ◌≡◌ {A = ℕ} 1 0 = tag in absurd (omega arith)
+    pub further_nowhere : x ≡ None → called_in w.find atoms r further ≡ declined 42
+    further_nowhere e = called_nowhere w.find atoms r further within kept (sym (ap place brings) ∙ subst (λ (z : Answered Walked). GoesOn w (place d) r.count d limit z facts path) e goes)
 
-    module _ (y : Walked) (on : x ≡ On y) where
+    module _ (y : Walked) (on : x ≡ Some y) where
       walks_on : WalksOn w (place d) r.count d limit y facts path
-      walks_on = subst (λ (z : Resumed). GoesOn w (place d) r.count d limit z facts path) on goes
+      walks_on = subst (λ (z : Answered Walked). GoesOn w (place d) r.count d limit z facts path) on goes
 
       abbrev run : Run I
       run = record { start = walks_on.start; base = r.count; brought = d; limit = limit }

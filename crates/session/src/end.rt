@@ -22,11 +22,8 @@ pub fn give_model(walked: Walked, facts: &[u8], answer: &mut [u8], atoms: usize)
     requires { (atoms ≤ 1024) × (atoms ≤ length answer.old) × (6150 ≤ length facts.now) }
     ensures { answer.new ≡ answer_by walked (model_bits atoms (is_set facts.now) (λ a. is_set facts.now (1025 + a))) answer.old }
 {
-    match walked {
-        Walked::Opened(_, _) => {
-            give(facts, answer, atoms);
-        }
-        _ => {}
+    if let Walked::Opened(_, _) = walked {
+        give(facts, answer, atoms);
     }
 }
 
@@ -46,33 +43,35 @@ pub fn moved(walked: Walked, limit: u32, left: Left) -> Moved
     requires { depth_of walked ≤ 1024 }
     ensures { result ≡ moved_by walked limit left }
 {
-    let next = left.next;
-    let atoms = left.atoms;
-    let nexts = left.nexts;
-    let deepest = left.deepest;
+    let Left {
+        next,
+        atoms,
+        nexts,
+        deepest,
+    } = left;
     match walked {
         Walked::Opened(count, depth) => Moved {
             verdict: Verdict::Satisfied(count),
             session: Session {
-                count: count,
+                count,
                 length: depth as u16,
                 verdict: 1,
-                next: next,
-                atoms: atoms,
-                nexts: nexts,
-                deepest: deepest,
+                next,
+                atoms,
+                nexts,
+                deepest,
             },
         },
         Walked::Shut(count) => Moved {
             verdict: Verdict::Refuted(count),
             session: Session {
-                count: count,
+                count,
                 length: 0,
                 verdict: 0,
-                next: next,
-                atoms: atoms,
-                nexts: nexts,
-                deepest: deepest,
+                next,
+                atoms,
+                nexts,
+                deepest,
             },
         },
         Walked::Exhausted(depth) => Moved {
@@ -81,10 +80,10 @@ pub fn moved(walked: Walked, limit: u32, left: Left) -> Moved
                 count: limit,
                 length: depth as u16,
                 verdict: 2,
-                next: next,
-                atoms: atoms,
-                nexts: nexts,
-                deepest: deepest,
+                next,
+                atoms,
+                nexts,
+                deepest,
             },
         },
     }

@@ -36,16 +36,7 @@ pub struct Reply {
 pub fn is_kept(verdict: u8, length: u16, deepest: u32, atoms: usize) -> bool
     ensures { result ≡ (leb verdict 2 && leb length 1024 && (leb length deepest && leb deepest atoms)) }
 {
-    if verdict > 2 {
-        return false;
-    }
-    if length > 1024 {
-        return false;
-    }
-    if deepest < length as u32 {
-        return false;
-    }
-    deepest as usize <= atoms
+    verdict <= 2 && length <= 1024 && length as u32 <= deepest && deepest as usize <= atoms
 }
 
 // A refusal leaves the session as it was.
@@ -54,6 +45,6 @@ pub fn refused(session: Session, e: u8) -> Moved
 {
     Moved {
         verdict: Verdict::Refused(e),
-        session: session,
+        session,
     }
 }

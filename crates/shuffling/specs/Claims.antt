@@ -1,5 +1,5 @@
 -- What is claimed of shuffled problems and of the three engines on them, whatever the code: the contracts of `relevancy_calls::fit::fit`, `magic_calls::fit::fit` and
--- `staged::engine::fit` equate their verdicts with `fit_result`, `magic_result` and `staged_result`. `proofs/Theorems.antt` proves `Theorems`.
+-- `staged::fit::fit` equate their verdicts with `fit_result`, `magic_result` and `staged_result`. `proofs/Theorems.antt` proves `Theorems`.
 use Rattle.std.specs.Prelude.{ℕ, ◌<◌, List, ◌∷◌, ◌++◌, map, ◌↔◌, ◌≡◌, length, take}
 use Rattle.lists.specs.Member.{All}
 use Rattle.search.specs.Ground.{Model, Found}

@@ -25,7 +25,7 @@ use Rattle.relevancy.specs.Engine.{outcome_in, too_short, fit_work}
 use Rattle.relevancy.proofs.EngineLaws.{AllTaken, never_declined, refused_by}
 use Rattle.relevancy.proofs.EngineLaws as relevancy
 use Rattle.staged_walk.specs.terms.Place.{staged_walker}
-use Rattle.staged_walk.proofs.TiedLaws.{tied}
+use Rattle.staged_walk.specs.TiedLaws.{tied}
 use Rattle.staged.specs.Engine.{staged_outcome, staged_result, staged_answer}
 
 -- ---- the ways out of the operation

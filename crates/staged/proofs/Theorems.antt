@@ -17,7 +17,7 @@ use Rattle.problem.specs.Layout.{problem_in}
 use Rattle.problem.specs.Table.{is_valid}
 use Rattle.problem.proofs.Parse.{parse_text}
 use Rattle.problem.proofs.Theorems.{theorems as tables}
-use Rattle.reading.specs.declared.read.Reading.TheVariants.{Accepted}
+use Rattle.std.specs.Prelude.{Ok}
 use Rattle.reading.specs.Read.{read_result, read_leaves}
 use Rattle.reading.proofs.TextRead.{TextRead, text_read, text_fits, table_long, table_valid, table_back}
 use Rattle.ground.specs.Instance.{Instance, ground_of}
@@ -70,7 +70,7 @@ module _ (tb answer work : List ℕ) (taken : Taken tb answer work) where
 
 -- ---- from a text to the verdict
 
-module _ (x tb answer work : List ℕ) (accepted : read_result x tb ≡ Accepted) (answer_long : 1024 ≤ length answer) (work_long : 65536 ≤ length work) where
+module _ (x tb answer work : List ℕ) (accepted : read_result x tb ≡ Ok tt) (answer_long : 1024 ≤ length answer) (work_long : 65536 ≤ length work) where
   abbrev left : List ℕ
   left = read_leaves x tb
 

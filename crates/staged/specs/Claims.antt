@@ -1,13 +1,12 @@
--- What is claimed of the staged engine, whatever the code: the contract of `engine::fit` equates what the operation gives and leaves with `staged_result`, `staged_answer`
+-- What is claimed of the staged engine, whatever the code: the contract of `fit::fit` equates what the operation gives and leaves with `staged_result`, `staged_answer`
 -- and `fit_work`. `proofs/Theorems.antt` proves `Theorems`.
-use Rattle.std.specs.Prelude.{ℕ, ◌≤◌, List, ◌⊎◌, ◌↔◌, ◌≡◌, length, take}
+use Rattle.std.specs.Prelude.{ℕ, ◌≤◌, List, ◌⊎◌, ◌↔◌, ◌≡◌, length, take, Ok}
 use Rattle.search.specs.Ground.{Found}
 use Rattle.search.specs.Machine.{outcome}
 use Rattle.search.specs.Staged.{find_s}
 use Rattle.problem.specs.Problem.{limit_of}
 use Rattle.problem.specs.Layout.{problem_in}
 use Rattle.problem.specs.Print.{TextOfProblem}
-use Rattle.reading.specs.declared.read.Reading.TheVariants.{Accepted}
 use Rattle.reading.specs.Read.{read_result, read_leaves}
 use Rattle.ground.specs.Instance.{Instance, ground_of}
 use Rattle.ground.specs.declared.verdict.Verdict.{Verdict}
@@ -36,7 +35,7 @@ pub record Theorems : Type 1 where
   pub told : (tb answer work : List ℕ) → Taken tb answer work
       → (staged_result tb answer work ≡ verdict_of (outcome (find_s (ground_lent tb)) (limit_lent tb)))
       × (staged_answer tb answer work ≡ answer_of (outcome (find_s (ground_lent tb)) (limit_lent tb)) answer)
-  pub text_to_verdict : (x tb answer work : List ℕ) → read_result x tb ≡ Accepted → 1024 ≤ length answer → 65536 ≤ length work → TextStaged x (read_leaves x tb) answer work
+  pub text_to_verdict : (x tb answer work : List ℕ) → read_result x tb ≡ Ok tt → 1024 ≤ length answer → 65536 ≤ length work → TextStaged x (read_leaves x tb) answer work
   -- "even where another engine is spent": it never contradicts an engine that keeps demand 2 on the same table, as both others do, whatever that one's limit
   pub never_contradict : (tb answer work : List ℕ) → Taken tb answer work → (find : List ℕ → Found Instance) (limit : ℕ) (r : Verdict) (left : List ℕ)
       → Demand2 find (ground_lent tb) limit tb r left → Contradict (staged_result tb answer work) r → ⊥

@@ -1,5 +1,5 @@
 // The staged engine's operation.
 #![tactic(auto)]
 
-pub mod engine;
+pub mod fit;
 pub mod whole;

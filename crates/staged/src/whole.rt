@@ -5,10 +5,10 @@ ghost use Rattle.walk.specs.terms.Walker.{from_root};
 ghost use Rattle.walk.specs.terms.Walk.{Walks};
 ghost use Rattle.staged_walk.specs.terms.Place.{staged_walker};
 
+use engine::visiting::from_root;
 use relevancy_rule::index::build;
 use staged_node::chains::chain_table;
-use staged_walk::place::root;
-use staged_walk::trail::from_root;
+use staged_walk::place::Staged;
 use walk::answer::Walked;
 
 // The walk of a valid table from the root on, under a limit, in buffers for its facts and its path: an empty set has its flags zero, the log may hold anything.
@@ -22,6 +22,12 @@ pub fn walk_whole(table: &[u8], facts: &mut [u8], path: &mut [u8], limit: u32) -
     let conds = build(table, false);
     let chains = build(&horn, true);
     lists::zero(&mut facts[..2050]);
-    let found = root(table, &horn, &conds, &chains, facts, path);
-    from_root(table, &horn, &conds, &chains, facts, path, found, limit)
+    let engine = Staged {
+        table,
+        horn: &horn,
+        conds: &conds,
+        chains: &chains,
+    };
+    let found = engine.root(facts, path);
+    from_root(&engine, facts, path, found, limit)
 }

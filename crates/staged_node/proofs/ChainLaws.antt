@@ -229,16 +229,10 @@ module _ (tb : List ℕ) (h : Lawful tb) where
   copy_room dst zeros = omega (arith, first_wide, ap length zeros ∙ length-replicate {A = ℕ} 4096 0)
 
   module _ (dst left : List ℕ) (copied : left ≡ take 144 tb ++ drop (length (take 144 tb)) dst) where
-    pub copied_long : 2 < length left
-    copied_long = omega (arith, ap length copied ∙ length-append (take 144 tb) (drop (length (take 144 tb)) dst), first_wide)
-
     pub chains_begin : dst ≡ replicate 4096 0 → ChainsBefore tb 0 (set left 2 0)
     chains_begin zeros = ap (λ (l : List ℕ). set l 2 0) (copied ∙ ap (λ (z : List ℕ). take 144 tb ++ drop (length (take 144 tb)) z) zeros) ∙ chains_start tb h (take 144 tb) refl
 
 module _ (tb : List ℕ) (h : Lawful tb) (k : ℕ) (horn : List ℕ) (e : ChainsBefore tb k horn) where
-  pub before_size : length horn ≡ 4096
-  before_size = table_size horn (before_lawful tb h k horn e)
-
   pub chains_end : get_or tb 2 0 ≤ k → ChainTable tb horn
   chains_end l =
       let q = problem_in tb in

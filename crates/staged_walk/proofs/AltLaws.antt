@@ -1,8 +1,8 @@
 -- A split node's record names the same site, with the same alternatives, as in the relevancy engine's walk.
 use Prim.Native.Nat.{ℕ}
 use mathlib.Core.List.{List}
+use Rattle.std.specs.Prelude.{Option}
 use Rattle.ground.specs.terms.Branching.{NextOf}
-use Rattle.ground.specs.declared.branch.NextBranch.{NextBranch}
 use Rattle.walk.specs.terms.Path.{site_at, alts_at}
 use Rattle.relevancy_walk.specs.terms.Place.{relevancy_walker}
 use Rattle.staged_walk.specs.terms.Place.{staged_walker}
@@ -12,6 +12,6 @@ module _ (tb path : List ℕ) (depth : ℕ) where
   unfolding site_at
   named_alike named = named
 
-  pub next_alike : (j : ℕ) (r : NextBranch) → NextOf (alts_at (relevancy_walker tb) path depth) j r → NextOf (alts_at (staged_walker tb) path depth) j r
+  pub next_alike : (j : ℕ) (r : Option ℕ) → NextOf (alts_at (relevancy_walker tb) path depth) j r → NextOf (alts_at (staged_walker tb) path depth) j r
   unfolding site_at
   next_alike j r next = next

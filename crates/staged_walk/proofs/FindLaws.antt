@@ -21,7 +21,7 @@ use Rattle.walk.proofs.PlaceLaws.{found_here, found_split}
 use Rattle.relevancy_walk.specs.terms.Place.{NodeTold, OwnFew}
 use Rattle.relevancy_walk.proofs.FindLaws.{told_here, site_written}
 use Rattle.staged_walk.specs.terms.Place.{TruthsAtSplit, staged_walker, StagesFresh}
-use Rattle.staged_walk.proofs.SoundLaws.{sound}
+use Rattle.staged_walk.specs.SoundLaws.{sound}
 
 module _ (tb : List ℕ) (h : Lawful tb) (facts path : List ℕ) (depth n done : ℕ) (fresh : StagesFresh tb facts path depth n done) (left_facts : List ℕ) where
   abbrev l : List ℕ

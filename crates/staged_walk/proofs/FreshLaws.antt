@@ -18,7 +18,7 @@ use Rattle.walk.proofs.PlaceLaws.{named_entered, entered_kept}
 use Rattle.relevancy_walk.proofs.FreshLaws.{added_seeded, added_opening}
 use Rattle.relevancy_walk.proofs.FreshLaws as relevancy
 use Rattle.staged_walk.specs.terms.Place.{TruthsAtSplit, staged_walker, StagesFresh}
-use Rattle.staged_walk.proofs.SoundLaws.{sound}
+use Rattle.staged_walk.specs.SoundLaws.{sound}
 
 module _ (tb : List ℕ) (h : Lawful tb) (facts path : List ℕ) (depth : ℕ) (node : Parted (staged_walker tb) facts path depth)
     (some_left : next_at path depth < length (alts_at (staged_walker tb) path depth)) where
@@ -38,13 +38,20 @@ module _ (tb : List ℕ) (h : Lawful tb) (facts path : List ℕ) (depth : ℕ) (
   next_small = (sound tb h).small (entry_at (staged_walker tb) path depth) (path_in (staged_walker tb) path depth) (node.at_split.enters (next_at path depth) some_left)
 
   -- the next alternative is put into the set
-  module _ (left : List ℕ) (n : ℕ) (put : Added 2050 facts (mark_at path depth) (get_or (alts_at (staged_walker tb) path depth) (next_at path depth) 0) left n) where
-    entered_opening : StagesOpening tb left n mark
-    entered_opening =
+  module _ (left : List ℕ) (n own a : ℕ) (own_is : own ≡ mark_at path depth) (a_is : a ≡ get_or (alts_at (staged_walker tb) path depth) (next_at path depth) 0)
+      (added : Added 2050 facts own a left n) where
+    pub put : Added 2050 facts mark atom left n
+    put = subst (λ (x : ℕ). Added 2050 facts mark x left n) a_is (subst (λ (j : ℕ). Added 2050 facts j a left n) own_is added)
+
+    opening : StagesOpening tb left n mark
+    opening =
         record {
           opening = added_opening tb l facts mark atom left n put rests.kind rests.worked next_small;
           unmarked = added_each 2050 facts mark atom left n put (λ x. x < 1025) (omega (arith, next_small, (sound tb h).few)) rests.unmarked;
         }
+
+    pub entered_opening : StagesOpening tb left n own
+    entered_opening = subst (StagesOpening tb left n) (sym own_is) opening
 
     pub entered_fresh : (went : List ℕ) → length went ≡ 9227 → Passed path depth went → StagesFresh tb left went (depth + 1) n (mark_at path depth)
     entered_fresh went size p =
@@ -53,7 +60,7 @@ module _ (tb : List ℕ) (h : Lawful tb) (facts path : List ℕ) (depth : ℕ) (
           room = record { size = size; deep = path_deep (staged_walker tb) (sound tb h) went (depth + 1) kept };
           kept = kept;
           named = named_entered (staged_walker tb) facts path depth went p node;
-          opening = entered_opening;
+          opening = opening;
           seeded = subst (λ (bs : List (Branch Instance)). TrueSeeded tb (entered bs) left n) (sym (path_entered (staged_walker tb) path went depth p))
               (added_seeded tb l facts mark atom left n put rests.holds rests.stands);
         }

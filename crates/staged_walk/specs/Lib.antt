@@ -1,1 +1,3 @@
 pub mod terms
+pub mod SoundLaws
+pub mod TiedLaws

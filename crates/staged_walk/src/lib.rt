@@ -1,5 +1,4 @@
-// The staged engine's walk of a table. It marks in stages, afresh at each node.
+// The staged engine's places of a table, by which it walks. It marks in stages, afresh at each node.
 #![tactic(auto)]
 
 pub mod place;
-pub mod trail;

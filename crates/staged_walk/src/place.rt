@@ -1,14 +1,14 @@
 // A place of the walk: making the next one, from the path and the next alternative at each node.
-ghost use Rattle.std.specs.Prelude.{◌≡◌, ℕ};
+ghost use Rattle.std.specs.Prelude.{◌≡◌, refl};
 ghost use Rattle.store.specs.terms.Store.{Store};
 ghost use Rattle.problem.specs.Table.{Lawful};
-ghost use Rattle.ground.specs.terms.Branching.{NextOf};
-ghost use Rattle.ground.specs.declared.branch.NextBranch.TheVariants.{Atom};
-ghost use Rattle.walk.specs.terms.Path.{Room, next_at, deepest_at, site_at, alts_at};
-ghost use Rattle.walk.specs.terms.Place.{Parted, Making, Beginning};
+ghost use Rattle.walk.specs.terms.Path.{Room, deepest_at};
+ghost use Rattle.walk.specs.terms.Place.{Beginning};
 ghost use Rattle.staged_walk.specs.terms.Place.{staged_walker, StagesLent};
+ghost use Rattle.staged_walk.specs.SoundLaws.{sound, small};
+ghost use Rattle.staged_walk.specs.TiedLaws.{tied};
 
-use ground::branch::NextBranch;
+use engine::engine::{Engine, Sites};
 use relevancy_close::close::start;
 use relevancy_walk::place::tell;
 use staged_node::node::settle;
@@ -16,54 +16,84 @@ use store::add;
 use walk::answer::Found;
 use walk::node::{mark, pass};
 
-// The alternative that the split node at `depth` enters next: it is read from the record as in the relevancy engine's walk.
-pub fn alternative(table: &[u8], path: &[u8], depth: usize) -> NextBranch
-    requires lawful { Lawful table.now }
-    requires room { Room path.now depth × (staged_walker table.now).Named (site_at (staged_walker table.now) path.now depth) }
-    ensures { NextOf (alts_at (staged_walker table.now) path.now depth) (next_at path.now depth) result }
-{
-    relevancy_walk::place::alternative(table, path, depth)
+// What the walk goes by: a valid table, the table of its chaining clauses, the index of its conditions, and the index of that table's alternatives.
+#[derive(Clone, Copy)]
+pub struct Staged<'a> {
+    pub table: &'a [u8],
+    pub horn: &'a [u8],
+    pub conds: &'a [u16; 384],
+    pub chains: &'a [u16; 384],
 }
 
-// Makes the next place: enters atom a, the next alternative of the split node at `depth`. It is the next entry of whatever run stands there.
-pub fn enter(
-    table: &[u8],
-    horn: &[u8],
-    conds: &[u16; 384],
-    chains: &[u16; 384],
-    facts: &mut [u8],
-    path: &mut [u8],
-    depth: usize,
-    a: usize,
-) -> Found
-    requires lawful { Lawful table.now }
-    requires stages_lent { StagesLent table.now horn.now conds.now chains.now }
-    requires parted { Parted (staged_walker table.now) facts.old path.old depth }
-    requires next_of { NextOf (alts_at (staged_walker table.now) path.old depth) (next_at path.old depth) (Atom a) }
-    ensures { (count : ℕ) → Making (staged_walker table.now) facts.old path.old depth count result facts.new path.new }
-{
-    let own = mark(path, depth);
-    pass(path, depth);
-    let n = add(facts, 2050, own, a);
-    let node = settle(table, horn, conds, chains, facts, n, own);
-    tell(path, depth + 1, node)
+impl<'a> Staged<'a> {
+    // Makes the root, in a set without facts.
+    pub fn root(&self, facts: &mut [u8], path: &mut [u8]) -> Found
+        requires lawful { Lawful self.now.table.now }
+        requires stages_lent { StagesLent self.now.table.now self.now.horn.now self.now.conds.now self.now.chains.now }
+        requires store { Store 2050 facts.old 0 × Room path.old 0 }
+        ensures { Beginning (staged_walker self.now.table.now) result facts.new path.new × (deepest_at path.new ≡ deepest_at path.old) }
+    {
+        let n = start(self.table, facts);
+        let node = settle(self.table, self.horn, self.conds, self.chains, facts, n, 0);
+        tell(path, 0, node)
+    }
 }
 
-// Makes the root, in a set without facts.
-pub fn root(
-    table: &[u8],
-    horn: &[u8],
-    conds: &[u16; 384],
-    chains: &[u16; 384],
-    facts: &mut [u8],
-    path: &mut [u8],
-) -> Found
-    requires lawful { Lawful table.now }
-    requires stages_lent { StagesLent table.now horn.now conds.now chains.now }
-    requires store { Store 2050 facts.old 0 × Room path.old 0 }
-    ensures { Beginning (staged_walker table.now) result facts.new path.new × (deepest_at path.new ≡ deepest_at path.old) }
-{
-    let n = start(table, facts);
-    let node = settle(table, horn, conds, chains, facts, n, 0);
-    tell(path, 0, node)
+impl<'a> Sites for Staged<'a> {
+    ghost walker = { λ e. staged_walker e.table.now };
+
+    ghost Known = { λ e. Lawful e.table.now };
+
+    // It is read from the record as in the relevancy engine's walk.
+    fn alternative_at(&self, path: &[u8], depth: usize, j: u8) -> Option<usize> {
+        relevancy_walk::place::alternative_at(self.table, path, depth, j)
+    }
+
+    fn atoms(&self) -> usize {
+        relevancy_walk::place::atoms(self.table)
+    }
+
+    ghost sound = { λ e known. sound e.table.now known };
+
+    ghost small = { λ e known. small e.table.now known };
+
+    ghost genuine = { λ e known bs. (λ g. g, λ g. g) };
+
+    ghost tied = { λ e known. tied e.table.now };
+}
+
+impl<'a> Engine for Staged<'a> {
+    ghost Fit = { λ e. Lawful e.table.now × StagesLent e.table.now e.horn.now e.conds.now e.chains.now };
+
+    fn enter(&self, facts: &mut [u8], path: &mut [u8], depth: usize, a: usize) -> Found {
+        let own = mark(path, depth);
+        pass(path, depth);
+        let n = add(facts, 2050, own, a);
+        let node = settle(
+            self.table,
+            self.horn,
+            self.conds,
+            self.chains,
+            facts,
+            n,
+            own,
+        );
+        tell(path, depth + 1, node)
+    }
+
+    fn place(
+        &self,
+        facts: &mut [u8],
+        path: &mut [u8],
+        depth: usize,
+        a: usize,
+        count: u32,
+        limit: u32,
+    ) -> Found {
+        self.enter(facts, path, depth, a)
+    }
+
+    ghost capacity = { λ e. refl };
+
+    ghost known = { λ e fit. fit.0 };
 }

@@ -1,145 +1,133 @@
-// The faults of a line's bytes, by document 01's numbers.
+// The faults of a line's bytes.
 ghost use Rattle.std.specs.Prelude.{◌≡◌, ◌≤◌};
-ghost use Rattle.lists.specs.Powers.{powers as allPowers};
-ghost use Rattle.problem.specs.declared.line.Line.TheVariants.{Holds};
-ghost use Rattle.problem.specs.Line.{line_at, frame_at};
 ghost use Rattle.problem.specs.Judge.{judge_sizes, judge_heading, judge_arity, judge_variable, judge_arg};
 ghost use Rattle.problem.specs.Parse.{judge_closing};
+ghost use Rattle.text_line.specs.Frame.{bytes_of};
 
-use crate::line::frame_byte;
-use crate::power::power;
-use problem::judge::{Heading, Judged};
+use crate::frame::Frame;
+use crate::power::Powers;
+use problem::fault::Fault;
+use problem::judge::Sizes;
 
 // The first line of the text.
-pub fn first_line(text: &[u8], at: usize, n: usize) -> Heading
-    requires { line_at text.now at ≡ Holds n }
-    ensures { result ≡ judge_heading (frame_at text.now at n) }
+#[tactic(auto, using(problem::proofs::Lines::frame_length), unfolding(problem::specs::Judge::judge_heading))]
+pub fn first_line(frame: &Frame) -> Result<Sizes, Fault>
+    ensures { result ≡ judge_heading (bytes_of frame.now) }
 {
-    let kind = frame_byte(text, at, n, 0);
-    match kind {
+    match frame.kind() {
         1 => {}
         _ => {
-            return Heading::Wrong(2);
+            return Err(Fault::BadKind);
         }
     }
-    if n <= 1 {
-        return Heading::Wrong(3);
+    if frame.size <= 1 {
+        return Err(Fault::BadLength);
     }
-    if frame_byte(text, at, n, 1) != 1 {
-        return Heading::Wrong(4);
+    if frame.byte(1) != 1 {
+        return Err(Fault::BadVersion);
     }
-    if n <= 2 {
-        return Heading::Wrong(3);
+    if frame.size <= 2 {
+        return Err(Fault::BadLength);
     }
-    let c = frame_byte(text, at, n, 2);
-    if 32 < c {
-        return Heading::Wrong(5);
+    let constants = frame.byte(2);
+    if 32 < constants {
+        return Err(Fault::BadCount);
     }
-    sizes(text, at, n, c)
+    sizes(frame, constants)
 }
 
 // The rest of the first line, from the number of predicates on.
-fn sizes(text: &[u8], at: usize, n: usize, c: u8) -> Heading
-    requires { line_at text.now at ≡ Holds n }
-    ensures { result ≡ judge_sizes c (frame_at text.now at n) }
+#[tactic(auto, using(problem::proofs::Lines::frame_length), unfolding(problem::specs::Judge::judge_sizes))]
+fn sizes(frame: &Frame, constants: u8) -> Result<Sizes, Fault>
+    ensures { result ≡ judge_sizes constants (bytes_of frame.now) }
 {
-    if n <= 3 {
-        return Heading::Wrong(3);
+    if frame.size <= 3 {
+        return Err(Fault::BadLength);
     }
-    let p = frame_byte(text, at, n, 3);
-    if p == 0 {
-        return Heading::Wrong(5);
+    let predicates = frame.byte(3);
+    if predicates == 0 {
+        return Err(Fault::BadCount);
     }
-    if 32 < p {
-        return Heading::Wrong(5);
+    if 32 < predicates {
+        return Err(Fault::BadCount);
     }
-    if n != 8 {
-        return Heading::Wrong(3);
+    if frame.size != 8 {
+        return Err(Fault::BadLength);
     }
-    Heading::Sizes(c, p)
+    Ok(Sizes {
+        constants,
+        predicates,
+    })
 }
 
-// An arity line, where there are so many atoms before it.
-pub fn arity_line(
-    text: &[u8],
-    at: usize,
-    n: usize,
-    c: u8,
-    atoms: usize,
-    powers: &[u32; 165],
-) -> Judged
-    requires powers_value { powers.now ≡ allPowers }
-    requires at_value { line_at text.now at ≡ Holds n }
-    requires c_bound { (c ≤ 32) × (atoms ≤ 1024) }
-    ensures { result ≡ judge_arity c atoms (frame_at text.now at n) }
+// The arity of an arity line, where there are so many atoms before it.
+#[tactic(auto, using(problem::proofs::Lines::frame_length), unfolding(problem::specs::Judge::judge_arity))]
+pub fn arity_line(frame: &Frame, c: u8, atoms: usize, powers: &Powers) -> Result<u8, Fault>
+    requires { (c ≤ 32) × (atoms ≤ 1024) }
+    ensures { result ≡ judge_arity c atoms (bytes_of frame.now) }
 {
-    let kind = frame_byte(text, at, n, 0);
-    match kind {
+    match frame.kind() {
         2 => {}
         _ => {
-            return Judged::Fault(2);
+            return Err(Fault::BadKind);
         }
     }
-    if n <= 1 {
-        return Judged::Fault(3);
+    if frame.size <= 1 {
+        return Err(Fault::BadLength);
     }
-    let a = frame_byte(text, at, n, 1);
+    let a = frame.byte(1);
     if 3 < a {
-        return Judged::Fault(5);
+        return Err(Fault::BadCount);
     }
-    if n != 2 {
-        return Judged::Fault(3);
+    if frame.size != 2 {
+        return Err(Fault::BadLength);
     }
-    if 1024 < atoms + power(powers, c, a) {
-        return Judged::Fault(9);
+    if 1024 < atoms + powers.power(c, a) {
+        return Err(Fault::TooManyAtoms);
     }
-    Judged::Found(a)
+    Ok(a)
 }
 
-// An argument, after v variables.
-pub fn argument(c: u8, v: u8, b: u8) -> Judged
+// An argument, after v variables: how many there are with it.
+#[tactic(auto, unfolding(problem::specs::Judge::judge_arg))]
+pub fn argument(c: u8, v: u8, b: u8) -> Result<u8, Fault>
     ensures { result ≡ judge_arg c v b }
 {
     match b {
-        0..=31 => {
-            if b < c {
-                Judged::Found(v)
-            } else {
-                Judged::Fault(6)
-            }
-        }
+        0..=31 => { if b < c { Ok(v) } else { Err(Fault::Unknown) } }
         128..=131 => variable(v, b - 128),
-        _ => Judged::Fault(6),
+        _ => Err(Fault::Unknown),
     }
 }
 
 // The variable x, after v variables.
-fn variable(v: u8, x: u8) -> Judged
+#[tactic(auto, unfolding(problem::specs::Judge::judge_variable))]
+fn variable(v: u8, x: u8) -> Result<u8, Fault>
     requires { x ≤ 3 }
     ensures { result ≡ judge_variable v x }
 {
     if x < v {
-        return Judged::Found(v);
+        return Ok(v);
     }
     if x == v {
-        return Judged::Found(v + 1);
+        return Ok(v + 1);
     }
-    Judged::Fault(7)
+    Err(Fault::BadNumbering)
 }
 
 // The last line, after so many clauses.
-pub fn last_line(text: &[u8], at: usize, n: usize, count: u8) -> Judged
-    requires { line_at text.now at ≡ Holds n }
-    ensures { result ≡ judge_closing count (frame_at text.now at n) }
+#[tactic(auto, using(problem::proofs::Lines::frame_length), unfolding(problem::specs::Parse::judge_closing))]
+pub fn last_line(frame: &Frame, count: u8) -> Result<u8, Fault>
+    ensures { result ≡ judge_closing count (bytes_of frame.now) }
 {
-    if n <= 1 {
-        return Judged::Fault(3);
+    if frame.size <= 1 {
+        return Err(Fault::BadLength);
     }
-    if frame_byte(text, at, n, 1) != count {
-        return Judged::Fault(5);
+    if frame.byte(1) != count {
+        return Err(Fault::BadCount);
     }
-    if n != 2 {
-        return Judged::Fault(3);
+    if frame.size != 2 {
+        return Err(Fault::BadLength);
     }
-    Judged::Found(0)
+    Ok(0)
 }

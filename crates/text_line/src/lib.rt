@@ -2,6 +2,7 @@
 #![tactic(auto)]
 
 pub mod digit;
+pub mod frame;
 pub mod judge;
 pub mod line;
 pub mod power;

@@ -1,9 +1,8 @@
 // One line of the text: pairs of digits, ended by byte 0A.
-ghost use Rattle.std.specs.Prelude.{◌≡◌, ◌+◌, ◌<◌, ◌≤◌, length, get_or};
-ghost use Rattle.problem.specs.declared.line.Line.TheVariants.{Holds};
-ghost use Rattle.problem.specs.Line.{run, line_at, frame_at};
+ghost use Rattle.std.specs.Prelude.{◌≡◌, ◌+◌, ◌<◌, ◌≤◌, length};
+ghost use Rattle.problem.specs.Line.{run, line_at};
 
-use crate::digit::{digit, known};
+use crate::digit::digit;
 use problem::line::Line;
 
 // How many digits stand in the text from a place on, at most 71.
@@ -11,8 +10,7 @@ fn run_of(text: &[u8], at: usize) -> usize
     requires { at < length text.now }
     ensures { (result ≡ run text.now at 71) × (at + result ≤ length text.now) × (result ≤ 71) }
 {
-    let mut d: usize = 0;
-    while d < 71 {
+    for d in 0..71 {
         let i = at + d;
         if text.len() <= i {
             return d;
@@ -20,9 +18,8 @@ fn run_of(text: &[u8], at: usize) -> usize
         if 16 <= digit(text[i]) {
             return d;
         }
-        d += 1;
     }
-    d
+    71
 }
 
 // The line that starts at a place of the text.
@@ -50,16 +47,4 @@ pub fn line_at(text: &[u8], at: usize) -> Line
         return Line::Bad;
     }
     Line::Holds(d / 2)
-}
-
-// Byte j of the line of n bytes that starts at a place.
-pub fn frame_byte(text: &[u8], at: usize, n: usize, j: usize) -> u8
-    requires at_value { line_at text.now at ≡ Holds n }
-    requires j_lt_n { j < n }
-    ensures { result ≡ get_or (frame_at text.now at n) j 0 }
-{
-    let i = at + 2 * j;
-    let high = known(text[i]);
-    let low = known(text[i + 1]);
-    16 * high + low
 }

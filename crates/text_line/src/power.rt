@@ -15,19 +15,24 @@ const POWERS: [u32; 165] = [
     923521, 1, 32, 1024, 32768, 1048576,
 ];
 
-// The table of powers. A function that names the constant lays it out anew at each call, so reading has it once for a text, and lends it.
-pub fn powers() -> [u32; 165]
-    ensures { result ≡ allPowers }
-{
-    POWERS
+// The table, which is laid out anew at each call that names the constant: so reading makes it once for a text, and lends it.
+#[derive(Drop)]
+pub struct Powers {
+    table: [u32; 165],
+    ghost listed: { table ≡ allPowers },
 }
 
-// c to the power k, looked up.
-pub fn power(powers: &[u32; 165], c: u8, k: u8) -> usize
-    requires powers_value { powers.now ≡ allPowers }
-    requires c_bound { (c ≤ 32) × (k ≤ 4) }
-    ensures { (result ≡ c ^ k) × (result ≤ 1048576) }
-{
-    let i = 5 * (c as usize) + (k as usize);
-    powers[i] as usize
+impl Powers {
+    pub fn new() -> Self {
+        Powers { table: POWERS }
+    }
+
+    // c to the power k, looked up.
+    pub fn power(&self, c: u8, k: u8) -> usize
+        requires { (c ≤ 32) × (k ≤ 4) }
+        ensures { (result ≡ c ^ k) × (result ≤ 1048576) }
+    {
+        let i = 5 * (c as usize) + (k as usize);
+        self.table[i] as usize
+    }
 }

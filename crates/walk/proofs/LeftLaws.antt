@@ -1,13 +1,10 @@
 -- What a walk leaves: its path in steps, node by node, and the session that the end of a run stands for.
 use Prim.Native.Nat.{ℕ, zero, suc, ◌+◌, ◌-◌, ◌≤◌, ◌<◌}
 use mathlib.Core.List.{List, [], ◌∷◌, ◌++◌}
-use mathlib.Core.Logic.{inl, inr}
 use mathlib.Core.Option.{some}
 use mathlib.Core.Path.{◌≡◌, refl, sym, ap, ap₂, subst, ◌∙◌}
 use native.Mathlib.Numerals.{add-one}
 use native.Mathlib.Omega.{arith}
-use denote.Enum.Declared.{tag_of}
-use types.Run.{OneOf}
 use lib.ListN.{length, drop, get_or, set, replicate, length-append, length-drop}
 use lib.Seq.{get_or-set_same, get_or-set_other}
 use Rattle.search.specs.Ground.{Found}
@@ -24,7 +21,6 @@ use Rattle.walk.specs.declared.answer.Found.TheVariants.{Closed as ToldClosed, O
 use Rattle.walk.specs.declared.answer.Walked.{Walked}
 use Rattle.walk.specs.declared.answer.Walked.TheVariants.{Shut, Opened, Exhausted as LimitMet}
 use Rattle.walk.proofs.PathLaws.{next_some}
-use Rattle.walk.specs.contracts.answer.Found.{the_type as found_type}
 use Rattle.walk.proofs.WalkLaws.{walks_tell}
 
 -- ---- a path in steps
@@ -174,19 +170,14 @@ module _ {I : Type 0} (w : Walker I) (tied : Tied w) (r : Run I) where
 -- ---- the root, all its alternatives used up
 
 module _ {I : Type 0} (w : Walker I) (facts path : List ℕ) where
-  pub root_split : (x : Told) → tag_of found_type x ≡ 2 → Beginning w x facts path → w.Named (site_at w path 0) × (alts_found (w.find []) ≡ alts_at w path 0)
-  root_split (ToldClosed n) tag begun = let z : ◌≡◌ {A = ℕ} 0 2 = tag in absurd (omega arith)
-  root_split (ToldOpen n) tag begun = let z : ◌≡◌ {A = ℕ} 1 2 = tag in absurd (omega arith)
-  root_split (ToldSplit n) tag begun = (
-    begun.reached.ready.3.listed,
-    ap (λ (t : Place I). alts_found t.found) begun.made ∙ ap (λ (j : ℕ). drop j (alts_at w path 0)) begun.reached.ready.2,
-  )
+  pub root_split : (x : Told) (n : ℕ) → x ≡ ToldSplit n → Beginning w x facts path → w.Named (site_at w path 0) × (alts_found (w.find []) ≡ alts_at w path 0)
+  root_split x n e h =
+      let begun = subst (λ (y : Told). Beginning w y facts path) e h in (
+        begun.reached.ready.3.listed,
+        ap (λ (t : Place I). alts_found t.found) begun.made ∙ ap (λ (j : ℕ). drop j (alts_at w path 0)) begun.reached.ready.2,
+      )
 
-  pub root_unsplit : (x : Told) → OneOf (0 ∷ 1 ∷ []) (tag_of found_type x) → Beginning w x facts path → 0 ≡ length (alts_found (w.find []))
-  root_unsplit (ToldClosed n) tag begun = sym (ap (λ (t : Place I). length (alts_found t.found)) begun.made)
-  root_unsplit (ToldOpen n) tag begun = sym (ap (λ (t : Place I). length (alts_found t.found)) begun.made)
-  root_unsplit (ToldSplit n) tag begun = absurd (not_one tag)
-    where
-      not_one : OneOf (0 ∷ 1 ∷ []) 2 → ⊥
-      not_one (inl e) = omega arith
-      not_one (inr e) = omega arith
+  pub root_unsplit : (x : Told) → ((n : ℕ) → x ≡ ToldSplit n → ⊥) → Beginning w x facts path → 0 ≡ length (alts_found (w.find []))
+  root_unsplit (ToldClosed n) leaf begun = sym (ap (λ (t : Place I). length (alts_found t.found)) begun.made)
+  root_unsplit (ToldOpen n) leaf begun = sym (ap (λ (t : Place I). length (alts_found t.found)) begun.made)
+  root_unsplit (ToldSplit n) leaf begun = absurd (leaf n refl)

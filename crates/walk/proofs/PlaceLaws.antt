@@ -14,7 +14,7 @@ use Rattle.store.specs.terms.Store.{Store, Undone, logged}
 use Rattle.walk.specs.terms.Trail.{AtEntry}
 use Rattle.walk.specs.terms.Walker.{Site, Walker, Run, Sound, branch_of}
 use Rattle.walk.specs.terms.Path.{Room, next_at, mark_at, deepest_at, PathKept, Passed, site_at, alts_at, entry_at, path_in, next_in}
-use Rattle.walk.specs.terms.Place.{facts_of, found_in, place_in, NodesNamed, AtSplit, Parted, Ready, Reached, Visiting, Finding, Making, Beginning}
+use Rattle.walk.specs.terms.Place.{facts_of, found_in, place_in, NodesNamed, AtSplit, Parted, Ready, Reached, Visiting, Trying, Finding, Making, Beginning}
 use Rattle.walk.specs.declared.answer.Found.{Found as Told}
 use Rattle.walk.specs.declared.answer.Found.TheVariants.{Split}
 use Rattle.walk.proofs.PathLaws.{number_same, four_same, own_bytes, site_same, path_same, path-length, path_entered, passed_still, next_some}
@@ -164,6 +164,11 @@ module _ {I : Type 0} (w : Walker I) where
           passed = passed_still path went left depth p f.before f.deepest_is;
           logs = λ i l. f.logs i (omega arith) ∙ logs i l;
         }
+
+  -- it is the next entry of a run whose limit was not met
+  pub place_counted : (facts path : List ℕ) (depth count limit : ℕ) (x : Told) (left_facts left : List ℕ) → Making w facts path depth count x left_facts left → count < limit
+      → (r : Run I) → r.limit ≡ limit → Trying w r path depth count → Visiting w r left_facts left (depth + 1) x (count + 1) × (count + 1 ≤ r.limit)
+  place_counted facts path depth count limit x left_facts left made below r e due = (made.trail r (omega arith) due, omega arith)
 
   pub root_made : (facts path : List ℕ) (n : ℕ) (x : Told) (left_facts left : List ℕ) → Finding w facts path 0 n 0 x left_facts left → Beginning w x left_facts left
   unfolding path_in

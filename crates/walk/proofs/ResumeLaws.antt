@@ -2,38 +2,31 @@
 use Prim.Native.Nat.{ℕ, zero, suc, ◌+◌, ◌-◌, ◌≤◌, ◌<◌}
 use mathlib.Core.Bool.{Bool, true, false, cond, ◌&&◌}
 use mathlib.Core.List.{List, [], ◌∷◌}
-use mathlib.Core.Logic.{inl, inr}
 use mathlib.Core.Option.{Option, none, some}
 use mathlib.Core.Path.{◌≡◌, refl, sym, ap, subst, ◌∙◌}
 use native.Mathlib.Omega.{arith}
-use denote.Enum.Declared.{tag_of}
-use types.Run.{OneOf}
+use Rattle.std.specs.Prelude.{Option as Answered, Some, None}
 use lib.Dec.{T, eqb, ltb, leb}
 use borrow.Author.Tests.{ltb-true, leb-true, eqb-true, leb-false, lt-ltb, le-leb, lt-leb, eq-eqb, ne_eqb}
-use lib.ListN.{length, drop, get_or}
+use lib.ListN.{length, drop, get_or, set}
 use Rattle.search.specs.Ground.{Found, closed, opened, split}
 use Rattle.search.specs.Machine.{Branch, Place, entered, back, next_path}
 use Rattle.search.specs.Session.{Step, Standing, refuted, satisfied, exhausted, Session, step_taken, node_taken, is_root, is_over, path_of, node_of, place_of}
 use Rattle.store.specs.terms.Store.{Store, Undone, logged}
 use Rattle.walk.specs.terms.Trail.{AtEntry}
 use Rattle.walk.specs.terms.Walker.{Walker, Run}
-use Rattle.walk.specs.terms.Path.{next_at, mark_at, deepest_at, PathKept, Turned, site_at, alts_at, entry_at, path_in, next_in}
+use Rattle.walk.specs.terms.Path.{node_at, next_at, mark_at, deepest_at, PathKept, Turned, site_at, alts_at, entry_at, path_in, next_in}
 use Rattle.walk.specs.terms.Place.{bits_in, place_in, Parted, Reached, Trying, Making}
 use Rattle.walk.specs.terms.Walk.{AllShut, Leaves, Ended}
 use Rattle.walk.specs.Numbers.{standing_by, steps_in, session_of}
 use Rattle.walk.specs.terms.Resume.{is_taken, closed_stands, open_stands, split_stands, last_from, last_of, last_in, GoneOn, Resumes, GoesOn}
 use Rattle.walk.specs.declared.answer.Found.{Found as Told}
 use Rattle.walk.specs.declared.answer.Found.TheVariants.{Closed as ToldClosed, Open as ToldOpen, Split as ToldSplit}
-use Rattle.walk.specs.declared.answer.Resumed.{Resumed}
-use Rattle.walk.specs.declared.answer.Resumed.TheVariants.{Nowhere, On}
 use Rattle.walk.specs.declared.answer.Walked.{Walked}
 use Rattle.walk.specs.declared.answer.Walked.TheVariants.{Shut, Opened, Exhausted as LimitMet}
-use Rattle.walk.proofs.PathLaws.{site_same, path_same}
+use Rattle.walk.proofs.PathLaws.{site_same, path_same, turned}
 use Rattle.walk.proofs.TrailLaws.{at_start, next_of, next_as}
 use Rattle.walk.proofs.PlaceLaws.{named_kept, split_same, Split-Parted}
-use Rattle.walk.specs.contracts.answer.Found.{the_type as found_type}
-use Rattle.walk.specs.contracts.answer.Resumed.{the_type as resumed-type}
-use Rattle.walk.specs.contracts.answer.Walked.{the_type as walked-type}
 use Rattle.walk.proofs.WalkLaws.{split_unopened, visit_open, visit_closed, closed_ended, passes, passes_ended, leaves_as, ended_as, after_mark, after_before, after_logs, after-Parted, after_tries, root_walks}
 
 -- ---- the verdict by its number
@@ -297,6 +290,28 @@ module _ {I : Type 0} (w : Walker I) (path : List ℕ) (depth next : ℕ) (put :
       next_as w.find start count count (next_path start) (next_in w put depth) same
       (next_of w.find start count count start (split_unopened (w.instance (site_at w path depth)) (drop next (alts_at w path depth))) at)
 
+-- a split place taken back to its node's own facts, and the node turned to an alternative
+pub record Back {I : Type 0} (w : Walker I) (facts path : List ℕ) (depth done n turn : ℕ) (own put : List ℕ) : Type 0 where
+  pub at : Reached w facts path depth done (ToldSplit n)
+  pub undone : Undone w.capacity facts (mark_at path depth) own
+  pub turned : Turned path depth turn put
+  pub size : length put ≡ 9227
+
+pub back_parted : {I : Type 0} {w : Walker I} {facts path : List ℕ} {depth done n turn : ℕ} {own put : List ℕ} → Back w facts path depth done n turn own put → Parted w own put depth
+back_parted {I} {w} {facts} {path} {depth} {done} {n} {turn} {own} {put} b =
+    turned_parted w path depth turn put b.turned own b.size (Split-Parted w facts path depth done n b.at own b.undone)
+
+-- rewinding leaves it so
+pub rewound : {I : Type 0} (w : Walker I) {facts path : List ℕ} {depth done : ℕ} (x : Told) (n turn size : ℕ) (own put : List ℕ) → Reached w facts path depth done x → x ≡ ToldSplit n → w.capacity ≡ size
+    → Undone size facts (mark_at path depth) own → put ≡ set path (node_at depth + 6) turn → length put ≡ length path → Back w facts path depth done n turn own put
+rewound w {facts} {path} {depth} {done} x n turn size own put at split_is room undone put_is long =
+    record {
+      at = subst (Reached w facts path depth done) split_is at;
+      undone = subst (λ (j : ℕ). Undone j facts (mark_at path depth) own) (sym room) undone;
+      turned = subst (Turned path depth turn) (sym put_is) (turned path depth at.room turn);
+      size = long ∙ at.room.size;
+    }
+
 -- ---- what was said from one state of the node on, from an earlier one
 
 module _ {I : Type 0} (w : Walker I) (facts path now_facts now : List ℕ) (depth done count c limit : ℕ) where
@@ -405,10 +420,18 @@ module _ {I : Type 0} (w : Walker I) (facts path : List ℕ) (depth done count l
 
 -- ---- an entry made again, and what comes back from below
 
-module _ {I : Type 0} (w : Walker I) (facts path : List ℕ) (depth done n : ℕ) (at : Reached w facts path depth done (ToldSplit n))
-    (own : List ℕ) (undone : Undone w.capacity facts (mark_at path depth) own) (next : ℕ) (put : List ℕ) (t : Turned path depth (next - 1) put) (size : length put ≡ 9227) where
-  pub again_parted : Parted w own put depth
-  again_parted = turned_parted w path depth (next - 1) put t own size (Split-Parted w facts path depth done n at own undone)
+module _ {I : Type 0} {w : Walker I} {facts path : List ℕ} {depth done n : ℕ} {own put : List ℕ} (next : ℕ) (turned_back : Back w facts path depth done n (next - 1) own put) where
+  abbrev at : Reached w facts path depth done (ToldSplit n)
+  at = turned_back.at
+
+  abbrev t : Turned path depth (next - 1) put
+  t = turned_back.turned
+
+  abbrev undone : Undone w.capacity facts (mark_at path depth) own
+  undone = turned_back.undone
+
+  abbrev again_parted : Parted w own put depth
+  again_parted = back_parted turned_back
 
   pub again_next : (a : ℕ) → is_taken (alts_at w path depth) next a ≡ true → (next_at put depth < length (alts_at w put depth)) × (a ≡ get_or (alts_at w put depth) (next_at put depth) 0)
   again_next a here =
@@ -417,7 +440,7 @@ module _ {I : Type 0} (w : Walker I) (facts path : List ℕ) (depth done n : ℕ
       let same : a ≡ get_or (alts_at w path depth) (next - 1) 0 = sym (eqb-true (get_or (alts_at w path depth) (next - 1) 0) a parts.2) in
       rw (alts_at, turned_site w path depth (next - 1) put t, t.next_is) (inside, same)
 
-  module _ (x : Told) (made_facts made : List ℕ) (went : Making w own put depth 0 x made_facts made) where
+  module _ {x : Told} {made_facts made : List ℕ} (went : Making w own put depth 0 x made_facts made) where
     -- the path of a session is no longer than the figure that it brings: entered again, it changes nothing
     pub again_deepest : depth < deepest_at path → deepest_at made ≡ deepest_at path
     again_deepest deep = omega (arith, went.passed.deepest_is, t.deepest_is)
@@ -440,7 +463,7 @@ module _ {I : Type 0} (w : Walker I) (facts path : List ℕ) (depth done n : ℕ
         ∙ ap (λ (j : ℕ). some (record { site = w.instance (site_at w path depth); atom = a; rest = drop j ds } ∷ path_in w path depth)) (sym next_is)
         ∙ ap some (sym whole)
 
-    module _ (o : Option (Place I)) (mark count limit : ℕ) (mark_is : mark ≡ mark_at put depth) (y : Walked) (after_facts after : List ℕ)
+    module _ {o : Option (Place I)} {mark count limit : ℕ} (mark_is : mark ≡ mark_at put depth) {y : Walked} {after_facts after : List ℕ}
         (below : GoneOn w o made_facts made (depth + 1) mark count limit y after_facts after) where
       -- the run that has gone on, and how it ended below
       abbrev run : Run I
@@ -451,17 +474,17 @@ module _ {I : Type 0} (w : Walker I) (facts path : List ℕ) (depth done n : ℕ
           subst (λ (d : ℕ). Ended w (record { start = below.start; base = count; brought = d; limit = limit }) made (depth + 1) y after_facts after) (again_deepest deep) below.ended
 
       -- what is open or due below is so here
-      pub again_passes : depth < deepest_at path → OneOf (1 ∷ 2 ∷ []) (tag_of walked-type y) → GoneOn w o facts path depth done count limit y after_facts after
-      again_passes deep tag =
+      pub again_passes : depth < deepest_at path → ((c : ℕ) → y ≡ Shut c → ⊥) → GoneOn w o facts path depth done count limit y after_facts after
+      again_passes deep unshut =
           record {
             start = below.start;
             stands = below.stands;
-            leaves = passes w after_facts after limit made_facts made (depth + 1) mark count facts path depth done count y tag below.leaves;
-            ended = passes_ended w after_facts after run made (depth + 1) path depth y tag (run-Ended deep);
+            leaves = passes w after_facts after limit made_facts made (depth + 1) mark count facts path depth done count y unshut below.leaves;
+            ended = passes_ended w after_facts after run made (depth + 1) path depth y unshut (run-Ended deep);
           }
 
       -- all is shut below: the alternatives left here are tried
-      module _ (c : ℕ) (shut_is : y ≡ Shut c) (long : length after ≡ 9227) where
+      module _ {c : ℕ} (shut_is : y ≡ Shut c) (long : length after ≡ 9227) where
         shut : AllShut w made_facts made (depth + 1) (mark_at put depth) count limit c after_facts after
         shut = leaves_as w made_facts made (depth + 1) mark (mark_at put depth) count limit y (Shut c) after_facts after mark_is shut_is below.leaves
 
@@ -503,28 +526,19 @@ module _ {I : Type 0} (w : Walker I) (facts path : List ℕ) (depth done n : ℕ
 -- ---- the answers that a match tells apart
 
 -- a step below a node that is not split
-pub leaf_nowhere : {I : Type 0} (w : Walker I) (facts path : List ℕ) (depth done : ℕ) (x : Told) → Reached w facts path depth done x → OneOf (0 ∷ 1 ∷ []) (tag_of found_type x)
+pub leaf_nowhere : {I : Type 0} (w : Walker I) (facts path : List ℕ) (depth done : ℕ) (x : Told) → Reached w facts path depth done x → ((n : ℕ) → x ≡ ToldSplit n → ⊥)
     → (atoms nexts : List ℕ) (standing count steps next deepest : ℕ) → path_of w.find (steps_in atoms nexts depth) ≡ some (path_in w path depth) → depth < steps
     → place_of w.find (session_of standing count atoms nexts steps next deepest) ≡ none
-leaf_nowhere w facts path depth done (ToldClosed n) at tag atoms nexts standing count steps next deepest so_far more =
+leaf_nowhere w facts path depth done (ToldClosed n) at leaf atoms nexts standing count steps next deepest so_far more =
     nowhere w.find atoms nexts standing count steps next deepest depth (path_in w path depth) so_far more (rw at.found)
-leaf_nowhere w facts path depth done (ToldOpen n) at tag atoms nexts standing count steps next deepest so_far more =
+leaf_nowhere w facts path depth done (ToldOpen n) at leaf atoms nexts standing count steps next deepest so_far more =
     nowhere w.find atoms nexts standing count steps next deepest depth (path_in w path depth) so_far more (rw at.found)
-leaf_nowhere w facts path depth done (ToldSplit n) at (inl z) atoms nexts standing count steps next deepest so_far more = let y : ◌≡◌ {A = ℕ} 2 0 = z in absurd (omega arith)
-leaf_nowhere w facts path depth done (ToldSplit n) at (inr z) atoms nexts standing count steps next deepest so_far more = let y : ◌≡◌ {A = ℕ} 2 1 = z in absurd (omega arith)
-
-module _ {I : Type 0} (w : Walker I) (o : Option (Place I)) (facts path : List ℕ) (depth done count limit : ℕ) (left_facts left : List ℕ) where
-  pub resumes_nowhere : (x : Resumed) → OneOf (0 ∷ []) (tag_of resumed-type x) → Resumes w o facts path depth done count limit x left_facts left → o ≡ none
-  resumes_nowhere Nowhere tag h = h
-  resumes_nowhere (On y) tag h = let z : ◌≡◌ {A = ℕ} 1 0 = tag in absurd (omega arith)
-
-  pub resumes_on : (x : Resumed) (y : Walked) → x ≡ On y → Resumes w o facts path depth done count limit x left_facts left → GoneOn w o facts path depth done count limit y left_facts left
-  resumes_on x y e h = subst (λ (z : Resumed). Resumes w o facts path depth done count limit z left_facts left) e h
+leaf_nowhere w facts path depth done (ToldSplit n) at leaf atoms nexts standing count steps next deepest so_far more = absurd (leaf n refl)
 
 -- the place where a session stands is that at its last node
 pub resumes_last : (I : Type 0) (w : Walker I) (facts path : List ℕ) (depth done count limit : ℕ) (atoms nexts : List ℕ) (standing steps next deepest : ℕ)
     → path_of w.find (steps_in atoms nexts depth) ≡ some (path_in w path depth) → depth ≡ steps
-    → (x : Resumed) (left_facts left : List ℕ) → Resumes w (last_in w path depth standing next) facts path depth done count limit x left_facts left
+    → (x : Answered Walked) (left_facts left : List ℕ) → Resumes w (last_in w path depth standing next) facts path depth done count limit x left_facts left
     → Resumes w (place_of w.find (session_of standing count atoms nexts steps next deepest)) facts path depth done count limit x left_facts left
 resumes_last I w facts path depth done count limit atoms nexts standing steps next deepest so_far over x left_facts left h =
     let whole = subst (λ (j : ℕ). path_of w.find (steps_in atoms nexts j) ≡ some (path_in w path depth)) over so_far in
@@ -539,9 +553,9 @@ unfolding steps_in path_in
 root_so_far w path atoms nexts = refl
 
 module _ {I : Type 0} (w : Walker I) (o : Option (Place I)) (count limit : ℕ) where
-  pub goes_on : (facts path : List ℕ) (done : ℕ) (x : Resumed) (left_facts left : List ℕ) → Resumes w o facts path 0 done count limit x left_facts left → GoesOn w o count (deepest_at path) limit x left_facts left
-  goes_on facts path done Nowhere left_facts left h = h
-  goes_on facts path done (On y) left_facts left h =
+  pub goes_on : (facts path : List ℕ) (done : ℕ) (x : Answered Walked) (left_facts left : List ℕ) → Resumes w o facts path 0 done count limit x left_facts left → GoesOn w o count (deepest_at path) limit x left_facts left
+  goes_on facts path done None left_facts left h = h
+  goes_on facts path done (Some y) left_facts left h =
       record {
         start = h.start;
         stands = h.stands;

@@ -1,22 +1,22 @@
--- Trying one alternative after another, said at once: how a node stands when some are shut. And a split place whose facts are all its node's own.
+-- Trying one alternative after another, said at once: how a node stands when some are shut.
 use Prim.Native.Nat.{ℕ, ◌+◌, ◌≤◌, ◌<◌}
 use mathlib.Core.List.{List}
 use mathlib.Core.Path.{◌≡◌, refl, sym, ap, subst, ◌∙◌}
+use native.Mathlib.Nat.{lt_of_lt_of_le}
 use native.Mathlib.Omega.{arith}
 use lib.ListN.{length}
 use Rattle.search.specs.Machine.{back}
-use Rattle.store.specs.terms.Store.{Store, Undone, logged}
-use Rattle.walk.specs.terms.Walker.{Walker, Run}
+use Rattle.store.specs.terms.Store.{Store, logged}
+use Rattle.walk.specs.terms.Walker.{Walker, Run, Sound}
 use Rattle.walk.specs.terms.Path.{next_at, mark_at, PathKept, alts_at, path_in}
-use Rattle.walk.specs.terms.Place.{Parted, Reached, Visiting, Trying, Making}
-use Rattle.walk.specs.terms.Walk.{tries_left, AllShut, Leaves, Ended}
+use Rattle.walk.specs.terms.Place.{Parted, Visiting, Trying, Making}
+use Rattle.walk.specs.terms.Walk.{tries_left, visits_left, AllShut, Leaves, Ended}
 use Rattle.walk.specs.declared.answer.Found.{Found as Told}
-use Rattle.walk.specs.declared.answer.Found.TheVariants.{Split}
 use Rattle.walk.specs.declared.answer.Walked.{Walked}
 use Rattle.walk.specs.declared.answer.Walked.TheVariants.{Shut, Opened, Exhausted as LimitMet}
 use Rattle.walk.proofs.PathLaws.{path_same}
 use Rattle.walk.proofs.TrailLaws.{next_as}
-use Rattle.walk.proofs.WalkLaws.{leaves_as, ended_as, after_mark, after_before, after_logs, after-Parted, after_tries, after_falls}
+use Rattle.walk.proofs.WalkLaws.{leaves_as, ended_as, after_mark, after_before, after_logs, after-Parted, after_tries, after_falls, visit_falls}
 
 module _ {I : Type 0} (w : Walker I) (facts path : List ℕ) (depth count limit : ℕ) where
   -- after c entries some alternatives of the node are shut, and the one after them is due
@@ -43,14 +43,20 @@ module _ {I : Type 0} (w : Walker I) (facts path : List ℕ) (depth count limit 
         tries = λ r e due. due;
       }
 
-  -- one more is entered and shut
+  -- one more is entered: visiting it is less than was left
+  pub tried_visit : Sound w → (now_facts now : List ℕ) (c : ℕ) (tried : Tried now_facts now c) → next_at now depth < length (alts_at w now depth)
+      → (x : Told) (made_facts made : List ℕ) → Making w now_facts now depth c x made_facts made → visits_left w made_facts made (depth + 1) x < tries_left w facts path depth
+  tried_visit sound now_facts now c tried some_left x made_facts made went =
+      lt_of_lt_of_le (visit_falls w sound now_facts now depth c tried.parted some_left x made_facts made went) tried.falls
+
+  -- and it is shut
   module _ (now_facts now : List ℕ) (c : ℕ) (tried : Tried now_facts now c) (some_left : next_at now depth < length (alts_at w now depth)) (below : c < limit)
-      (x : Told) (made_facts made : List ℕ) (went : Making w now_facts now depth c x made_facts made) (own : ℕ) (own_is : own ≡ mark_at now depth)
+      (x : Told) (made_facts made : List ℕ) (went : Making w now_facts now depth c x made_facts made) (own : ℕ) (own_is : own ≡ mark_at path depth)
       (y : Walked) (d : ℕ) (is_shut : y ≡ Shut d) (after_facts after : List ℕ) (size : length after ≡ length made)
       (left : Leaves w made_facts made (depth + 1) own (c + 1) limit y after_facts after)
       (ended : (r : Run I) → r.limit ≡ limit → Visiting w r made_facts made (depth + 1) x (c + 1) → Ended w r made (depth + 1) y after_facts after) where
     shut : AllShut w made_facts made (depth + 1) (mark_at now depth) (c + 1) limit d after_facts after
-    shut = leaves_as w made_facts made (depth + 1) own (mark_at now depth) (c + 1) limit y (Shut d) after_facts after own_is is_shut left
+    shut = leaves_as w made_facts made (depth + 1) own (mark_at now depth) (c + 1) limit y (Shut d) after_facts after (own_is ∙ sym tried.mark_is) is_shut left
 
     long : length after ≡ 9227
     long = size ∙ went.reached.room.size
@@ -99,7 +105,3 @@ module _ {I : Type 0} (w : Walker I) (facts path : List ℕ) (depth count limit 
         next_as w.find r.start r.base d (back (path_in w now depth)) (back (path_in w path depth)) (ap back (path_same w path now depth tried.before)) e
     tried_ended r (Opened d f) e = e
     tried_ended r (LimitMet f) e = e
-
-module _ {I : Type 0} (w : Walker I) (facts path : List ℕ) (depth : ℕ) where
-  pub own_undone : (done n : ℕ) → Reached w facts path depth done (Split n) → mark_at path depth ≡ n → Undone w.capacity facts (mark_at path depth) facts
-  own_undone done n at own_is = record { store = subst (Store w.capacity facts) (sym own_is) at.store; kept = λ i l. refl }

@@ -2,11 +2,9 @@
 use Prim.Native.Nat.{ℕ, zero, suc, ◌+◌, ◌*◌, ◌≤◌, ◌<◌}
 use mathlib.Core.Bool.{Bool, true, false, cond}
 use mathlib.Core.List.{List, [], ◌∷◌, ◌++◌}
-use mathlib.Core.Logic.{inl, inr}
 use mathlib.Core.Option.{some}
 use mathlib.Core.Path.{◌≡◌, refl, sym, ap, subst, ◌∙◌}
 use native.Mathlib.Omega.{arith}
-use denote.Enum.Declared.{tag_of}
 use lib.Dec.{T, ltb}
 use borrow.Author.Tests.{ltb-true, ltb-false}
 use lib.ListN.{length, take, drop, get_or, replicate, drop_of_length-le, length-replicate, get_or-append}
@@ -16,7 +14,6 @@ use Rattle.lists.specs.Member.{All, has, In}
 use Rattle.lists.proofs.Bytes.{zeros_at}
 use Rattle.search.specs.Ground.{Found, closed, opened, split}
 use Rattle.search.specs.Machine.{Branch, Place, entered, enter, back, placed, root}
-use types.Run.{OneOf}
 use Rattle.store.specs.terms.Store.{Store, Undone, logged}
 use Rattle.store.proofs.Laws.{logged_grows}
 use Rattle.store.proofs.Lent.{put_size}
@@ -29,18 +26,9 @@ use Rattle.walk.specs.declared.answer.Found.{Found as Told}
 use Rattle.walk.specs.declared.answer.Found.TheVariants.{Closed as ToldClosed, Open as ToldOpen, Split as ToldSplit}
 use Rattle.walk.specs.declared.answer.Walked.{Walked}
 use Rattle.walk.specs.declared.answer.Walked.TheVariants.{Shut, Opened, Exhausted as LimitMet}
-use Rattle.walk.specs.contracts.answer.Found.{the_type as found_type}
-use Rattle.walk.specs.contracts.answer.Walked.{the_type as walked-type}
 use Rattle.walk.proofs.PathLaws.{number_same, four_same, next_same, mark_same, own_bytes, site_same, path_same, next_some}
 use Rattle.walk.proofs.TrailLaws.{at_start, next_of, next_as, all_made, open_over, answer_open, answer_shut, answer_due}
 use Rattle.walk.proofs.PlaceLaws.{named_kept, split_same}
-
--- ---- the answers that a match tells apart
-
-pub found_open : (x : Told) → tag_of found_type x ≡ 1 → (n : ℕ) × (x ≡ ToldOpen n)
-found_open (ToldClosed n) t = let z : ◌≡◌ {A = ℕ} 0 1 = t in absurd (omega arith)
-found_open (ToldOpen n) t = (n, refl)
-found_open (ToldSplit n) t = let z : ◌≡◌ {A = ℕ} 2 1 = t in absurd (omega arith)
 
 -- ---- a place that is closed or split is not open
 
@@ -124,20 +112,16 @@ module _ {I : Type 0} (w : Walker I) (r : Run I) (facts path : List ℕ) (depth 
       (split_unopened (w.instance (site_at w path depth)) (drop (next_at path depth) (alts_at w path depth))) here
 
 -- what is open or due below is so above
-not_shut : OneOf (1 ∷ 2 ∷ []) 0 → ⊥
-not_shut (inl z) = let y : ◌≡◌ {A = ℕ} 0 1 = z in omega arith
-not_shut (inr z) = let y : ◌≡◌ {A = ℕ} 0 2 = z in omega arith
-
 module _ {I : Type 0} (w : Walker I) (left_facts left : List ℕ) where
-  pub passes : (limit : ℕ) (facts path : List ℕ) (depth done count : ℕ) (Above-facts above : List ℕ) (high base before : ℕ) (x : Walked) → OneOf (1 ∷ 2 ∷ []) (tag_of walked-type x)
+  pub passes : (limit : ℕ) (facts path : List ℕ) (depth done count : ℕ) (Above-facts above : List ℕ) (high base before : ℕ) (x : Walked) → ((c : ℕ) → x ≡ Shut c → ⊥)
       → Leaves w facts path depth done count limit x left_facts left → Leaves w Above-facts above high base before limit x left_facts left
-  passes limit facts path depth done count Above-facts above high base before (Shut c) t e = absurd (not_shut t)
+  passes limit facts path depth done count Above-facts above high base before (Shut c) t e = absurd (t c refl)
   passes limit facts path depth done count Above-facts above high base before (Opened c d) t e = e
   passes limit facts path depth done count Above-facts above high base before (LimitMet d) t e = e
 
-  pub passes_ended : (r : Run I) (path : List ℕ) (depth : ℕ) (above : List ℕ) (high : ℕ) (x : Walked) → OneOf (1 ∷ 2 ∷ []) (tag_of walked-type x)
+  pub passes_ended : (r : Run I) (path : List ℕ) (depth : ℕ) (above : List ℕ) (high : ℕ) (x : Walked) → ((c : ℕ) → x ≡ Shut c → ⊥)
       → Ended w r path depth x left_facts left → Ended w r above high x left_facts left
-  passes_ended r path depth above high (Shut c) t e = absurd (not_shut t)
+  passes_ended r path depth above high (Shut c) t e = absurd (t c refl)
   passes_ended r path depth above high (Opened c d) t e = e
   passes_ended r path depth above high (LimitMet d) t e = e
 
@@ -163,13 +147,6 @@ module _ {I : Type 0} (w : Walker I) (facts path : List ℕ) (depth : ℕ) (node
   none_ended r count all due =
       next_as w.find r.start r.base count (next_in w path depth) (back (path_in w path depth))
       (ap (λ (ds : List ℕ). enter (w.instance (site_at w path depth)) ds (path_in w path depth) (back (path_in w path depth))) (drop_of_length-le (alts_at w path depth) all)) due
-
-  -- one is left, and the limit is met
-  pub tried_due : (count limit : ℕ) → next_at path depth < length (alts_at w path depth) → Leaves w facts path depth (mark_at path depth) count limit (LimitMet depth) facts path
-  tried_due count limit some_left = record { left_over = some_left; node = node }
-
-  pub due_ended : (r : Run I) (count : ℕ) → count ≡ r.limit → Trying w r path depth count → Ended w r path depth (LimitMet depth) facts path
-  due_ended r count met due = subst (Trying w r path depth) met due
 
   -- one is entered, and it is shut: the next one is tried
   module _ (count : ℕ) (x : Told) (made_facts made : List ℕ) (went : Making w facts path depth count x made_facts made)
@@ -256,18 +233,6 @@ module _ {I : Type 0} (w : Walker I) (sound : Sound w) (facts path : List ℕ) (
       all_at P [] j l h = absurd (omega arith)
       all_at P (y ∷ ys) zero l h = h.0
       all_at P (y ∷ ys) (suc j) l h = all_at P ys j (omega arith) h.1
-
--- trying at a split node lies below visiting it
-pub tries_fall : {I : Type 0} (w : Walker I) → Sound w → (facts path : List ℕ) (depth done n : ℕ) → Reached w facts path depth done (ToldSplit n) → (own : List ℕ) → Undone w.capacity facts (mark_at path depth) own
-    → tries_left w own path depth < visits_left w facts path depth (ToldSplit n)
-tries_fall w sound facts path depth done n at own undone =
-    let same : untrue (logged own w.capacity (mark_at path depth)) w.atoms ≡ untrue (logged facts w.capacity (mark_at path depth)) w.atoms =
-    ap (λ (log : List ℕ). untrue log w.atoms) (undone.kept (mark_at path depth) (omega arith)) in
-    omega (arith, sound.four (site_at w path depth) at.ready.3.listed)
-
--- what is left of visiting, by another name of the answer
-pub left_as : {I : Type 0} (w : Walker I) (facts path : List ℕ) (depth : ℕ) (x y : Told) → x ≡ y → visits_left w facts path depth y ≡ visits_left w facts path depth x
-left_as w facts path depth x y e = ap (visits_left w facts path depth) (sym e)
 
 -- ---- the whole walk
 

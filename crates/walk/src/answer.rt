@@ -1,7 +1,8 @@
 // The answers that an engine's functions give each other.
+ghost use Rattle.std.specs.Prelude.{◌≤◌};
 
 // How a place is found, with the number of facts in the set. The split is written down in the path.
-#[derive(Clone, Copy)]
+#[derive(Clone, Copy, Debug, PartialEq, Eq)]
 pub enum Found {
     Closed(usize),
     Open(usize),
@@ -9,16 +10,24 @@ pub enum Found {
 }
 
 // How a part of the walk ends: all closed after so many entries; open after so many, at a depth; or the limit met, at the depth whose next alternative is due.
-#[derive(Clone, Copy)]
+#[derive(Clone, Copy, Debug, PartialEq, Eq)]
 pub enum Walked {
     Shut(u32),
     Opened(u32, usize),
     Exhausted(usize),
 }
 
-// How going on with a session ends: it is none of the walk, or as the walk from where it stands.
-#[derive(Drop)]
-pub enum Resumed {
-    Nowhere,
-    On(Walked),
+// The alternatives of a split node in order: the first `count` of these atoms.
+#[derive(Clone, Copy)]
+pub struct Alternatives {
+    pub count: u8,
+    pub atoms: [u16; 4],
+    pub ghost few: { count ≤ 4 },
+}
+
+// How a whole walk ends, and how many alternatives the root has.
+#[derive(Clone, Copy)]
+pub struct Whole {
+    pub walked: Walked,
+    pub used: u8,
 }

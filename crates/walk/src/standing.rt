@@ -15,6 +15,7 @@ pub struct Onward {
     pub next: u8,
     pub count: u32,
     pub limit: u32,
+    pub ghost within: { count ≤ limit },
 }
 
 // Whether a session may stand at a closed node at `depth`.

@@ -1,5 +1,5 @@
 -- A table is compared up to the end of its clauses, and what comes after is zero.
-use Prim.Native.Nat.{ℕ, suc, zero, ◌+◌, ◌*◌, ◌-◌, ◌≤◌, ◌<◌}
+use Prim.Native.Nat.{ℕ, suc, zero, ◌+◌, ◌*◌, ◌-◌, ◌≤◌}
 use mathlib.Core.Bool.{Bool, true, false, ◌&&◌}
 use mathlib.Core.List.{List, [], ◌∷◌, ◌++◌, append_assoc}
 use mathlib.Core.Path.{◌≡◌, refl, sym, ap, subst, ◌∙◌}
@@ -15,9 +15,8 @@ use Rattle.problem.specs.Layout.{predicate_records, clause_records, heading, lay
 use Rattle.problem.proofs.TableLayout.{sixteen, predicate_records-length, clause_records-length, layout-length}
 use Rattle.problem.proofs.Access.{clauses_in}
 use Rattle.problem.proofs.Parse.{parse-Fits}
-use Rattle.reading.specs.declared.read.Reading.{Reading}
-use Rattle.reading.specs.declared.read.Reading.TheVariants.{Accepted}
-use Rattle.reading.specs.Read.{reading_of}
+use Rattle.std.specs.Prelude.{Ok}
+use Rattle.reading.specs.Read.{Reading, reading_of}
 use Rattle.reading.specs.terms.Filled.{ReadAs}
 use Rattle.writing.specs.terms.Compared.{Ended}
 
@@ -86,7 +85,7 @@ layout-Ended q f =
     }
 
 -- so what a text that is accepted is read into
-pub read_ended : (x own : List ℕ) (r : Reading) → ReadAs (parse x) r own → r ≡ Accepted → Ended own
+pub read_ended : (x own : List ℕ) (r : Reading) → ReadAs (parse x) r own → r ≡ Ok tt → Ended own
 read_ended x own r f accepted = go (parse x) refl f.reading f.table
   where
     go : (what : Parsed) → parse x ≡ what → r ≡ reading_of what → ((q : Problem) → what ≡ parsed q → own ≡ layout q) → Ended own

@@ -8,23 +8,14 @@ use borrow.Author.Tests.{lt-ltb, le-ltb, ltb-false}
 use lib.Dec.{ltb}
 use lib.ListN.{length, take}
 use Rattle.problem.specs.Table.{is_valid}
-use Rattle.writing.specs.terms.Lent.{refusal_of}
+use Rattle.std.specs.Prelude.{Result, Ok, Err}
+use Rattle.problem.specs.declared.fault.Fault.{Fault}
+use Rattle.problem.specs.declared.fault.Fault.TheVariants.{ShortBuffer, NoTable}
+use Rattle.writing.specs.terms.Lent.{refusal_of, taken_of}
 
 module _ (tb : List ℕ) (short : Bool) where
-  pub refusal_table : length tb < 4096 → 11 ≡ refusal_of tb short
-  unfolding refusal_of
-  refusal_table l = rw (lt-ltb (length tb) 4096 l)
-
   module _ (long : 4096 ≤ length tb) where
-    pub refusal_buffer : short ≡ true → 11 ≡ refusal_of tb short
-    unfolding refusal_of
-    refusal_buffer e = rw (le-ltb (length tb) 4096 long, e)
-
     module _ (room : short ≡ false) where
-      pub refusal_invalid : is_valid (take 4096 tb) ≡ false → 31 ≡ refusal_of tb short
-      unfolding refusal_of
-      refusal_invalid v = rw (le-ltb (length tb) 4096 long, room, v)
-
       pub refusal_none : is_valid (take 4096 tb) ≡ true → 0 ≡ refusal_of tb short
       unfolding refusal_of
       refusal_none v = rw (le-ltb (length tb) 4096 long, room, v)
@@ -67,6 +58,47 @@ taken tb short = go (ltb (length tb) 4096) refl short (is_valid (take 4096 tb)) 
     go false e true v w r = absurd (omega arith)
     go false e false true w r = record { long = ltb-false (length tb) 4096 e; room = refl; valid = w }
     go false e false false w r = absurd (omega arith)
+
+-- ---- the same by what `taken` says
+
+module _ (tb : List ℕ) (short : Bool) where
+  pub says_taken : Taken tb short → taken_of tb short ≡ Ok tt
+  unfolding taken_of
+  says_taken t = rw (le-ltb (length tb) 4096 t.long, t.room, t.valid)
+
+  pub taken_by : {u : Unit {0}} → taken_of tb short ≡ Ok u → Taken tb short
+  unfolding taken_of
+  taken_by {u} = go (ltb (length tb) 4096) refl short (is_valid (take 4096 tb)) refl
+    where
+      go : (b : Bool) → ltb (length tb) 4096 ≡ b → (s v : Bool) → is_valid (take 4096 tb) ≡ v
+          → ◌≡◌ {A = Result (Unit {0}) Fault} (cond (b || s) (Err ShortBuffer) (cond v (Ok tt) (Err NoTable))) (Ok u) → Taken tb s
+      go true e s v w r = cc
+      go false e true v w r = cc
+      go false e false true w r = record { long = ltb-false (length tb) 4096 e; room = refl; valid = w }
+      go false e false false w r = cc
+
+-- what an operation says and leaves
+module _ {A : Type 0} (tb : List ℕ) (short : Bool) (f : Fault → A) (x : A) where
+  abbrev SaidBy : A
+  SaidBy = cond (ltb (length tb) 4096 || short) (f ShortBuffer) (cond (is_valid (take 4096 tb)) x (f NoTable))
+
+  pub fault_says : {e : Fault} → taken_of tb short ≡ Err e → f e ≡ SaidBy
+  unfolding taken_of
+  fault_says {e} = go (ltb (length tb) 4096 || short) (is_valid (take 4096 tb))
+    where
+      go : (b v : Bool) → ◌≡◌ {A = Result (Unit {0}) Fault} (cond b (Err ShortBuffer) (cond v (Ok tt) (Err NoTable))) (Err e) → f e ≡ cond b (f ShortBuffer) (cond v x (f NoTable))
+      go true v r = cc
+      go false true r = cc
+      go false false r = cc
+
+  pub ok_says : {u : Unit {0}} → taken_of tb short ≡ Ok u → x ≡ SaidBy
+  unfolding taken_of
+  ok_says {u} = go (ltb (length tb) 4096 || short) (is_valid (take 4096 tb))
+    where
+      go : (b v : Bool) → ◌≡◌ {A = Result (Unit {0}) Fault} (cond b (Err ShortBuffer) (cond v (Ok tt) (Err NoTable))) (Ok u) → x ≡ cond b (f ShortBuffer) (cond v x (f NoTable))
+      go true v r = cc
+      go false true r = refl
+      go false false r = cc
 
 -- ---- buffers that are too short
 

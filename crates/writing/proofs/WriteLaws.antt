@@ -1,31 +1,32 @@
 -- The steps of the functions that write, over lists.
 use Prim.Native.Nat.{ℕ, ◌+◌, ◌*◌, ◌/◌, ◌%◌, ◌≤◌, ◌<◌, min}
 use mathlib.Core.List.{List, [], ◌∷◌, ◌++◌, flat_map, append_assoc, append-nil}
-use mathlib.Core.Bool.{true, false}
+use mathlib.Core.Bool.{false}
 use mathlib.Core.Path.{◌≡◌, refl, sym, ap, subst, ◌∙◌}
 use native.Mathlib.Nat.{add-zero, zero-add, mul-zero, mul-suc}
 use native.Mathlib.Numerals.{add-one}
 use native.Mathlib.Omega.{arith}
 use lib.ListN.{length, take, drop, get_or, set, length-set, length-append}
 use lib.Seq.{take_at, set_split}
-use borrow.Author.Tests.{lt-ltb, le-ltb}
 use Rattle.lists.specs.Bytes.{same_list}
 use Rattle.lists.specs.Tabulate.{tabulate}
 use Rattle.lists.proofs.Digits.{digits_top}
 use Rattle.lists.proofs.Bytes.{tabulate_part, splice_none, splice_then}
 use Rattle.lists.proofs.Member.{flat_append, flat_snoc}
 use Rattle.lists.proofs.Tabulate.{tabulate-length}
-use Rattle.reading.specs.declared.read.Reading.{Reading}
-use Rattle.reading.specs.declared.read.Reading.TheVariants.{Refused, Accepted}
-use Rattle.writing.specs.declared.write.Writing.TheVariants.{Unwritten, Written}
+use Rattle.std.specs.Prelude.{Bool, ltb, Ok, Err}
+use Rattle.problem.specs.declared.fault.Fault.{Fault}
+use Rattle.problem.specs.declared.fault.Refusal.{Refusal}
+use Rattle.writing.specs.Write.{write_result, write_leaves}
+use Rattle.writing.specs.terms.Lent.{taken_of}
+use Rattle.writing.proofs.LentLaws.{fault_says, ok_says}
 use Rattle.problem.specs.Digit.{digits, hex_byte, hex_line}
 use Rattle.problem.specs.Problem.{Problem}
 use Rattle.problem.specs.Parse.{Parsed, refused, parsed, parse}
 use Rattle.problem.specs.Layout.{atom_in, clause_in, problem_in, layout}
 use Rattle.problem.specs.Print.{atom_bytes, heading_frame, clause_frame, closing_frame, print}
-use Rattle.reading.specs.Read.{reading_of}
+use Rattle.reading.specs.Read.{Reading, reading_of}
 use Rattle.problem.specs.Table.{reads_to, is_valid}
-use Rattle.writing.specs.Write.{write_result, write_leaves}
 use Rattle.reading.specs.terms.Filled.{ReadAs}
 use Rattle.writing.specs.terms.Printed.{Put}
 
@@ -148,14 +149,14 @@ valid_read tb x text = ap (λ (y : List ℕ). reads_to (parse y) tb) text
 
 -- a text is read into `own`
 module _ (tb x own : List ℕ) (r : Reading) (f : ReadAs (parse x) r own) where
-  pub not_read : {e line : ℕ} → r ≡ Refused e line → false ≡ reads_to (parse x) tb
+  pub not_read : {e : Refusal} → r ≡ Err e → false ≡ reads_to (parse x) tb
   not_read refusal = go (parse x) f.reading
     where
       go : (what : Parsed) → r ≡ reading_of what → false ≡ reads_to what tb
       go (refused i l) read = refl
       go (parsed q) read = let z : ◌≡◌ {A = ℕ} 0 1 = cc in absurd (omega arith)
 
-  pub read_same : r ≡ Accepted → same_list own tb ≡ reads_to (parse x) tb
+  pub read_same : r ≡ Ok tt → same_list own tb ≡ reads_to (parse x) tb
   read_same accepted = go (parse x) f.reading f.table
     where
       go : (what : Parsed) → r ≡ reading_of what → ((q : Problem) → what ≡ parsed q → own ≡ layout q) → same_list own tb ≡ reads_to what tb
@@ -165,21 +166,17 @@ module _ (tb x own : List ℕ) (r : Reading) (f : ReadAs (parse x) r own) where
 -- ---- writing: what it says, and what it leaves in the text out
 
 module _ (tb out : List ℕ) where
-  pub write_short : length tb < 4096 → (Unwritten 11 ≡ write_result tb out) × (out ≡ write_leaves tb out)
+  abbrev short : Bool
+  short = ltb (length out) 7168
+
+  abbrev text : List ℕ
+  text = print (take 4096 tb)
+
+  pub write_refused : {e : Fault} → taken_of tb short ≡ Err e → (Err e ≡ write_result tb out) × (out ≡ write_leaves tb out)
   unfolding write_result write_leaves
-  write_short h = rw (lt-ltb (length tb) 4096 h) (refl, refl)
+  write_refused q = (fault_says tb short Err (Ok (length text)) q, fault_says tb short (λ e. out) (text ++ drop (length text) out) q)
 
-  module _ (h : 4096 ≤ length tb) where
-    pub write_narrow : length out < 7168 → (Unwritten 11 ≡ write_result tb out) × (out ≡ write_leaves tb out)
-    unfolding write_result write_leaves
-    write_narrow l = rw (le-ltb (length tb) 4096 h, lt-ltb (length out) 7168 l) (refl, refl)
-
-    module _ (l : 7168 ≤ length out) where
-      pub write_invalid : is_valid (take 4096 tb) ≡ false → (Unwritten 31 ≡ write_result tb out) × (out ≡ write_leaves tb out)
-      unfolding write_result write_leaves
-      write_invalid v = rw (le-ltb (length tb) 4096 h, le-ltb (length out) 7168 l, v) (refl, refl)
-
-      pub write_valid : {x : List ℕ} {m r : ℕ} → is_valid (take 4096 tb) ≡ true → Put out 0 (print (take 4096 tb)) m r x
-          → (Written r ≡ write_result tb out) × (x ≡ write_leaves tb out)
-      unfolding write_result write_leaves
-      write_valid v p = rw (le-ltb (length tb) 4096 h, le-ltb (length out) 7168 l, v) (ap Written (put_count p), put_front p)
+  pub write_done : {u : Unit {0}} {x : List ℕ} {m r : ℕ} → taken_of tb short ≡ Ok u → Put out 0 text m r x → (Ok r ≡ write_result tb out) × (x ≡ write_leaves tb out)
+  unfolding write_result write_leaves
+  write_done q p =
+      (ap Ok (put_count p) ∙ ok_says tb short Err (Ok (length text)) q, put_front p ∙ ok_says tb short (λ e. out) (text ++ drop (length text) out) q)

@@ -2,4 +2,5 @@
 #![tactic(auto)]
 
 pub mod lent;
+pub mod taken;
 pub mod write;

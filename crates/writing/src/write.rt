@@ -12,26 +12,11 @@ ghost use Rattle.writing.specs.Write.{write_result, write_leaves};
 ghost use Rattle.writing.specs.terms.Printed.{Put};
 ghost use Rattle.writing.specs.terms.Compared.{Ended};
 
+use crate::lent::taken;
 use clause_line::clause::arity_in;
-use reading::read::{Reading, read_text};
+use problem::fault::Fault;
+use reading::read::read_text;
 use text_line::digit::digit_of;
-
-// What writing says: a refusal's number, or how many bytes were written.
-#[derive(Drop)]
-pub enum Writing {
-    Unwritten(u8),
-    Written(u16),
-}
-
-// A count that is at most a limit.
-fn at_most(n: u8, limit: u8) -> u8
-    ensures { result ≡ min n limit }
-{
-    if limit < n {
-        return limit;
-    }
-    n
-}
 
 // A byte as two digits.
 pub fn put_byte(out: &mut [u8], at: usize, b: u8) -> usize
@@ -58,11 +43,8 @@ fn put_bytes(table: &[u8], from: usize, count: u8, out: &mut [u8], at: usize) ->
     ensures { Put out.old at (flat_map hex_byte (tabulate (λ j. get_or table.now (from + j) 0) count)) (2 * count) result out.new }
 {
     let mut next = at;
-    let mut j: u8 = 0;
-    while j < count {
-        let i = from + (j as usize);
-        next = put_byte(out, next, table[i]);
-        j += 1;
+    for j in 0..count as usize {
+        next = put_byte(out, next, table[from + j]);
     }
     next
 }
@@ -75,7 +57,7 @@ fn put_first(table: &[u8], out: &mut [u8]) -> usize
     let kind = put_byte(out, 0, 1);
     let version = put_byte(out, kind, 1);
     let constants = put_byte(out, version, table[0]);
-    let predicates = put_byte(out, constants, at_most(table[1], 32));
+    let predicates = put_byte(out, constants, table[1].min(32));
     let limit = put_bytes(table, 4, 4, out, predicates);
     put_end(out, limit)
 }
@@ -95,12 +77,9 @@ fn put_arities(table: &[u8], out: &mut [u8], at: usize) -> usize
     requires { (length table.now ≡ 4096) × (at + 160 ≤ length out.old) }
     ensures { Put out.old at (flat_map (λ a. hex_line (arity_frame a)) (arities_in table.now)) 160 result out.new }
 {
-    let p = at_most(table[1], 32);
     let mut next = at;
-    let mut k: u8 = 0;
-    while k < p {
+    for k in 0..table[1].min(32) {
         next = put_arity(arity_in(table, k), out, next);
-        k += 1;
     }
     next
 }
@@ -121,10 +100,8 @@ fn put_atoms(table: &[u8], from: usize, count: u8, out: &mut [u8], at: usize) ->
     ensures { Put out.old at (flat_map hex_byte (flat_map atom_bytes (tabulate (λ i. atom_in (arities_in table.now) table.now (from + 6 * i)) count))) 32 result out.new }
 {
     let mut next = at;
-    let mut i: u8 = 0;
-    while i < count {
+    for i in 0..count {
         next = put_atom(table, from + 6 * (i as usize), out, next);
-        i += 1;
     }
     next
 }
@@ -134,8 +111,8 @@ fn put_clause(table: &[u8], from: usize, out: &mut [u8], at: usize) -> usize
     requires { (length table.now ≡ 4096) × (from + 56 ≤ 4096) × (at + 71 ≤ length out.old) }
     ensures { Put out.old at (hex_line (clause_frame (clause_in (arities_in table.now) table.now from))) 71 result out.new }
 {
-    let conds = at_most(table[from], 4);
-    let alts = at_most(table[from + 1], 4);
+    let conds = table[from].min(4);
+    let alts = table[from + 1].min(4);
     let kind = put_byte(out, at, 3);
     let count = put_byte(out, kind, conds);
     let counts = put_byte(out, count, alts);
@@ -149,12 +126,9 @@ fn put_clauses(table: &[u8], out: &mut [u8], at: usize) -> usize
     requires { (length table.now ≡ 4096) × (at + 71 * min (get_or table.now 2 0) 64 ≤ length out.old) }
     ensures { Put out.old at (flat_map (λ k. hex_line (clause_frame k)) (tabulate (λ k. clause_in (arities_in table.now) table.now (144 + 56 * k)) (min (get_or table.now 2 0) 64))) (71 * min (get_or table.now 2 0) 64) result out.new }
 {
-    let count = at_most(table[2], 64);
     let mut next = at;
-    let mut k: u8 = 0;
-    while k < count {
+    for k in 0..table[2].min(64) {
         next = put_clause(table, 144 + 56 * (k as usize), out, next);
-        k += 1;
     }
     next
 }
@@ -165,7 +139,7 @@ fn put_last(table: &[u8], out: &mut [u8], at: usize) -> usize
     ensures { Put out.old at (hex_line (closing_frame (problem_in table.now))) 5 result out.new }
 {
     let kind = put_byte(out, at, 255);
-    let count = put_byte(out, kind, at_most(table[2], 64));
+    let count = put_byte(out, kind, table[2].min(64));
     put_end(out, count)
 }
 
@@ -181,16 +155,15 @@ pub fn print_table(table: &[u8], out: &mut [u8]) -> usize
 }
 
 // Whether every byte is 0. No byte ends the loop, so that many are looked at at a time.
+// Kept: `iter().all(..)` looks at one byte at a time, and is 15 times slower.
 fn all_zero(a: &[u8]) -> bool
     ensures { result ≡ same_list (replicate (length a.now) 0) a.now }
 {
     let mut all = true;
-    let mut i: usize = 0;
-    while i < a.len() {
+    for i in 0..a.len() {
         if a[i] != 0 {
             all = false;
         }
-        i += 1;
     }
     all
 }
@@ -201,10 +174,7 @@ fn same_table(own: &[u8], table: &[u8]) -> bool
     ensures { result ≡ same_list own.now table.now }
 {
     let end = 144 + 56 * (own[2] as usize);
-    if !lists::same(&own[..end], &table[..end]) {
-        return false;
-    }
-    all_zero(&table[end..])
+    lists::same(&own[..end], &table[..end]) && all_zero(&table[end..])
 }
 
 // Whether a text is accepted and reads to these bytes.
@@ -213,58 +183,38 @@ fn reads_to(text: &[u8], table: &[u8]) -> bool
     ensures { result ≡ reads_to (parse text.now) table.now }
 {
     let mut own = [0u8; 4096];
-    let reading = read_text(text, &mut own);
-    match reading {
-        Reading::Refused(_, _) => false,
-        Reading::Accepted => same_table(&own, table),
+    match read_text(text, &mut own) {
+        Ok(()) => same_table(&own, table),
+        Err(_) => false,
     }
 }
 
-// Whether a table of few clauses is valid, with less room to make zero for its text.
-fn few_valid(table: &[u8]) -> bool
-    requires { (length table.now ≡ 4096) × (get_or table.now 2 0 ≤ 8) }
+// Whether a table is valid, with so much room for its text, which is made zero first.
+fn valid_within<const ROOM: usize>(table: &[u8]) -> bool
+    requires { (length table.now ≡ 4096) × (182 + 71 * min (get_or table.now 2 0) 64 ≤ ROOM) × (ROOM ≤ 4726) }
     ensures { result ≡ is_valid table.now }
 {
-    let mut text = [0u8; 750];
+    let mut text = [0u8; ROOM];
     let n = print_table(table, &mut text);
     reads_to(&text[..n], table)
 }
 
-// The same with room for the text of any table.
-fn any_valid(table: &[u8]) -> bool
-    requires { length table.now ≡ 4096 }
-    ensures { result ≡ is_valid table.now }
-{
-    let mut text = [0u8; 4726];
-    let n = print_table(table, &mut text);
-    reads_to(&text[..n], table)
-}
-
-// Whether some accepted text reads to these 4,096 bytes.
+// Whether some accepted text reads to these 4,096 bytes. Where a table has few clauses, there is less room to make zero for its text.
 pub fn valid(table: &[u8]) -> bool
     requires { length table.now ≡ 4096 }
     ensures { result ≡ is_valid table.now }
 {
     if table[2] <= 8 {
-        return few_valid(table);
+        return valid_within::<750>(table);
     }
-    any_valid(table)
+    valid_within::<4726>(table)
 }
 
-// Writes a lent table out as text. A refusal leaves the text out as it was.
-pub fn write(table: &[u8], out: &mut [u8]) -> Writing
+// Writes a lent table out as text, and says how many bytes were written. A refusal leaves the text out as it was.
+pub fn write(table: &[u8], out: &mut [u8]) -> Result<u16, Fault>
     ensures { (result ≡ write_result table.now out.old) × (out.new ≡ write_leaves table.now out.old) }
 {
-    if table.len() < 4096 {
-        return Writing::Unwritten(11);
-    }
-    if out.len() < 7168 {
-        return Writing::Unwritten(11);
-    }
-    let own = &table[..4096];
-    if !valid(own) {
-        return Writing::Unwritten(31);
-    }
-    let n = print_table(own, out);
-    Writing::Written(n as u16)
+    taken(table, out.len() < 7168)?;
+    let size = print_table(&table[..4096], out);
+    Ok(size as u16)
 }

@@ -1,11 +1,9 @@
 -- The alternatives of a split in slots one after another, in bytes that begin as a table does: slot i stands at first + stride * i.
-use Rattle.std.specs.Prelude.{ℕ, ◌+◌, ◌*◌, ◌≤◌, ◌<◌, List, ◌≡◌, length, get_or}
+use Rattle.std.specs.Prelude.{ℕ, ◌+◌, ◌*◌, ◌≤◌, ◌<◌, List, ◌≡◌, length, get_or, Option, Some, None}
 use Rattle.lists.specs.Tabulate.{tabulate}
 use Rattle.problem.specs.Layout.{atom_in, arities_in}
 use Rattle.ground.specs.Instance.{number}
 use Rattle.ground.specs.terms.Heading.{NumberedIn}
-use Rattle.ground.specs.declared.branch.NextBranch.{NextBranch}
-use Rattle.ground.specs.declared.branch.NextBranch.TheVariants.{Atom, Nothing}
 
 -- the atom in slot i by its number, and those of the first slots
 abbrev pub number_in : List ℕ → ℕ → ℕ → List ℕ → ℕ → ℕ
@@ -20,6 +18,6 @@ pub record SlotsNumbered (bs : List ℕ) (first stride count : ℕ) (values : Li
   pub each : (i : ℕ) → i < count → NumberedIn bs (first + stride * i) values
 
 -- of the alternatives that are entered it is the one after n others, or there are no more than n
-abbrev pub NextOf : List ℕ → ℕ → NextBranch → Type 0
-NextOf ds n (Atom a) = (n < length ds) × (a ≡ get_or ds n 0)
-NextOf ds n Nothing = length ds ≤ n
+abbrev pub NextOf : List ℕ → ℕ → Option ℕ → Type 0
+NextOf ds n (Some a) = (n < length ds) × (a ≡ get_or ds n 0)
+NextOf ds n None = length ds ≤ n

@@ -13,8 +13,7 @@ use Rattle.store.specs.terms.Store.{logged, Leaves}
 use Rattle.store.specs.terms.Worked.{Worked}
 use Rattle.problem.specs.Layout.{problem_in}
 use Rattle.ground.specs.Instance.{Instance, InstanceOf, ground_in}
-use Rattle.relevancy_rule.specs.terms.Node.{Facts, Unmarked, TrueOpening, TrueSeeded, TrueStands, TrueHeld, instance_choice}
-use Rattle.relevancy_rule.specs.declared.answer.Choice.TheVariants.{At}
+use Rattle.relevancy_rule.specs.terms.Node.{Facts, Unmarked, TrueOpening, TrueSeeded, TrueStands, TrueHeld, instance_choice, chosen_at}
 use Rattle.relevancy_rule.specs.declared.answer.Node.{Node}
 use Rattle.relevancy_rule.specs.declared.answer.Node.TheVariants.{Closed as ClosedAt, Open, Split}
 use Rattle.staged_node.specs.terms.Stages.{MarksHeld}
@@ -60,7 +59,7 @@ pub record SplitByStages (tb r : List ℕ) (n m t k a b c d : ℕ) (left : List 
   pub held : (l : List ℕ) → TrueSeeded tb l r n → TrueHeld tb l (logged left 2050 m)
   pub marked : (l : List ℕ) → TrueSeeded tb l r n → MarksHeld tb l (logged left 2050 m)
   pub site : Instance
-  pub named : instance_choice (some site) ≡ At k a b c d
+  pub named : instance_choice (some site) ≡ chosen_at k a b c d
   pub listed : InstanceOf (problem_in tb) site
   pub untrue : All (λ x. has nat_key (logged left 2050 t) x ≡ false) (branches ((ground_in tb).alts site))
   pub found : (l : List ℕ) → TrueSeeded tb l r n → find_s (ground_in tb) l ≡ split site (branches ((ground_in tb).alts site))

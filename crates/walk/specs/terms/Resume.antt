@@ -1,5 +1,5 @@
 -- Going on with a session: what is asked of it, and what the functions say that go on with it.
-use Rattle.std.specs.Prelude.{ℕ, ◌-◌, Bool, false, ◌&&◌, List, ◌≡◌, eqb, ltb, leb, length, get_or}
+use Rattle.std.specs.Prelude.{ℕ, ◌-◌, Bool, false, ◌&&◌, List, ◌≡◌, eqb, ltb, leb, length, get_or, Option as Answered, Some, None}
 use Rattle.std.proofs.Math.Option.{Option, none, some}
 use Rattle.search.specs.Ground.{Found}
 use Rattle.search.specs.Machine.{Branch, Place, entered}
@@ -8,8 +8,6 @@ use Rattle.walk.specs.Numbers.{standing_by}
 use Rattle.walk.specs.terms.Walker.{Walker}
 use Rattle.walk.specs.terms.Path.{deepest_at, path_in}
 use Rattle.walk.specs.terms.Walk.{Leaves, Ended, Walks}
-use Rattle.walk.specs.declared.answer.Resumed.{Resumed}
-use Rattle.walk.specs.declared.answer.Resumed.TheVariants.{Nowhere, On}
 use Rattle.walk.specs.declared.answer.Walked.{Walked}
 
 -- ---- what is asked of it
@@ -42,7 +40,7 @@ last_from bs standing (some f) = where_stands standing (record { path = bs; foun
 abbrev pub last_of : {I : Type 0} → List (Branch I) → Found I → Standing → ℕ → Option (Place I)
 last_of bs f standing next = last_from bs standing (node_taken f next)
 
--- ---- what going on says, where it is to go on from a place, if it is one
+-- ---- what going on answers, where it is to go on from a place, if it is one: none where the session is none of the walk
 
 module _ {I : Type 0} (w : Walker I) where
   -- at the node at this depth as the last one
@@ -56,9 +54,9 @@ module _ {I : Type 0} (w : Walker I) where
     pub leaves : Leaves w facts path depth done count limit x left_facts left
     pub ended : Ended w (record { start = start; base = count; brought = deepest_at path; limit = limit }) path depth x left_facts left
 
-  abbrev pub Resumes : Option (Place I) → List ℕ → List ℕ → ℕ → ℕ → ℕ → ℕ → Resumed → List ℕ → List ℕ → Type 0
-  Resumes o facts path depth done count limit Nowhere left_facts left = o ≡ none
-  Resumes o facts path depth done count limit (On x) left_facts left = GoneOn o facts path depth done count limit x left_facts left
+  abbrev pub Resumes : Option (Place I) → List ℕ → List ℕ → ℕ → ℕ → ℕ → ℕ → Answered Walked → List ℕ → List ℕ → Type 0
+  Resumes o facts path depth done count limit None left_facts left = o ≡ none
+  Resumes o facts path depth done count limit (Some x) left_facts left = GoneOn o facts path depth done count limit x left_facts left
 
   -- ---- a whole run on from where a session stands, if it is one of the walk
 
@@ -67,6 +65,6 @@ module _ {I : Type 0} (w : Walker I) where
     pub stands : o ≡ some start
     pub walks : Walks w (record { start = start; base = count; brought = brought; limit = limit }) x facts path
 
-  abbrev pub GoesOn : Option (Place I) → ℕ → ℕ → ℕ → Resumed → List ℕ → List ℕ → Type 0
-  GoesOn o count brought limit Nowhere facts path = o ≡ none
-  GoesOn o count brought limit (On x) facts path = WalksOn o count brought limit x facts path
+  abbrev pub GoesOn : Option (Place I) → ℕ → ℕ → ℕ → Answered Walked → List ℕ → List ℕ → Type 0
+  GoesOn o count brought limit None facts path = o ≡ none
+  GoesOn o count brought limit (Some x) facts path = WalksOn o count brought limit x facts path
