@@ -68,11 +68,11 @@
  * measured:
  *
  *   entries on the path             0       64      256    1,024
- *   a first run by relevancy   40,000   44,000   68,000  166,000
- *   a first run by magic       45,000   54,000   81,000  192,000
+ *   a first run by relevancy   32,000   32,000   57,000  155,000
+ *   a first run by magic       33,000   42,000   70,000  181,000
  *   a run by stages            26,000   35,000   72,000  220,000
- *   going on by relevancy      61,000   67,000  113,000  297,000
- *   going on by magic          86,000   93,000  142,000  338,000
+ *   going on by relevancy      46,000   50,000   96,000  280,000
+ *   going on by magic          74,000   78,000  127,000  324,000
  *
  * With open facts a call needs up to 7,000 more than a first run on a path of that length, and by parts up to 24,000
  * more.

@@ -55,6 +55,8 @@ fn path_left<S: Sites>(sites: &S, path: &[u8], walked: Walked, used: u8) -> Left
 }
 
 // How a run ends that has made its walk in these buffers under a limit, with so many alternatives of the root used where all is closed: of every run that ends so.
+// Not put in line: the session's 3,084 bytes, some four times, would lie on the stack beneath the whole walk.
+#[inline(never)]
 pub fn conclude<S: Sites>(
     sites: &S,
     facts: &[u8],

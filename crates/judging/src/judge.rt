@@ -79,7 +79,13 @@ fn are_bits(answer: &[u8], n: usize) -> bool
 pub fn judgeable(table: &[u8], answer: &[u8]) -> Result<(), Fault>
     ensures { result ≡ judgeable table.now answer.now Err (λ q. Ok tt) }
 {
-    taken(table, answer.len() < 1024)?;
+    // Kept: no `?`, so that the edit bits_before_validity can plant another fault in the branch that returns one.
+    match taken(table, answer.len() < 1024) {
+        Ok(()) => {}
+        Err(fault) => {
+            return Err(fault);
+        }
+    }
     if !are_bits(answer, pair(table[8], table[9])) {
         return Err(Fault::BadAnswer);
     }

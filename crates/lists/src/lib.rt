@@ -37,11 +37,11 @@ pub fn pair(low: u8, high: u8) -> usize
 }
 
 // Puts the low two bytes of a number at a place, the lowest first.
+// Kept: `to_le_bytes` gives an array, as at `pair`.
 pub fn put_pair(bytes: &mut [u8], at: usize, n: usize)
     requires { at + 2 ≤ length bytes.old }
     ensures { bytes.new ≡ set (set bytes.old at (n % 256)) (at + 1) (n / 256 % 256) }
 {
-    let digits = n.to_le_bytes();
-    bytes[at] = digits[0];
-    bytes[at + 1] = digits[1];
+    bytes[at] = (n % 256) as u8;
+    bytes[at + 1] = (n / 256 % 256) as u8;
 }

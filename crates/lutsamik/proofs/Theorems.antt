@@ -22,7 +22,7 @@ use Rattle.problem.specs.declared.fault.Fault.TheVariants.{BadLine, BadKind, Bad
 use Rattle.problem.specs.Faults.{fault_number}
 use Rattle.problem.proofs.Faults.{fault_back}
 use Rattle.reading.specs.Read.{Reading, read_result}
-use Rattle.writing.specs.Write.{write_result}
+use Rattle.writing.specs.Write.{write_result, writing_numbers}
 use Rattle.offering.specs.Offer.{Offering, offer_result, set_result}
 use Rattle.ground.specs.declared.verdict.Verdict.{Verdict}
 use Rattle.ground.specs.declared.verdict.Verdict.TheVariants as verdict
@@ -31,8 +31,8 @@ use Rattle.ground.specs.Instance.{ground_in}
 use Rattle.judging.specs.declared.judge.Judgement.{Judgement}
 use Rattle.judging.specs.declared.judge.Judgement.TheVariants as judging
 use Rattle.judging.specs.ModelCheck.{judge_result, judging_numbers}
-use Rattle.judging.specs.Holding.{holding_result}
-use Rattle.rewriting.specs.Rewrite.{rewrite_result}
+use Rattle.judging.specs.Holding.{holding_result, holding_numbers}
+use Rattle.rewriting.specs.Rewrite.{rewrite_result, rewriting_numbers}
 use Rattle.session.specs.Calls.{screened, verdict_told, deepest_told}
 use Rattle.relevancy.specs.Engine.{too_short}
 use Rattle.relevancy.specs.Sessions.{begun, resumed}
@@ -40,7 +40,7 @@ use Rattle.relevancy.proofs.Theorems.{theorems as relevancy}
 use Rattle.staged.specs.Engine.{staged_outcome, staged_result}
 use Rattle.magic.specs.Sessions.{magic_begun, magic_resumed}
 use Rattle.magic.proofs.Theorems.{theorems as magic}
-use Rattle.lutsamik.specs.Pack.{pack_value, as_value, packed, pack_reading, pack_offering, pack_judging, with_deepest, pack_verdict, unpacked, as_reading, as_offering, violated_by, as_judging, verdict_by, as_verdict}
+use Rattle.lutsamik.specs.Pack.{as_value, packed, pack_reading, pack_offering, pack_judging, with_deepest, pack_verdict, unpacked, as_reading, as_offering, violated_by, as_judging, verdict_by, as_verdict}
 use Rattle.lutsamik.specs.Claims.{Narrow, VerdictBack, Theorems}
 use Rattle.lutsamik.proofs.AssumeLaws.{relevancy_assumed_back, magic_assumed_back}
 use Rattle.lutsamik.proofs.PartsLaws.{parted_back}
@@ -100,9 +100,21 @@ fault_small BadFacts = (omega arith, omega arith)
 fault_told : (e : Fault) → unpacked (packed (refused_at (fault_number e) 0)) ≡ refused_at (fault_number e) 0
 fault_told e = parts_back (refused_at (fault_number e) 0) (refused_narrow (fault_number e) 0 (fault_small e).1 (omega arith))
 
-value_back : (r : Result ℕ Fault) → NarrowValue r → as_value (unpacked (pack_value r)) ≡ r
+value_back : (r : Result ℕ Fault) → NarrowValue r → as_value (unpacked (packed (writing_numbers r))) ≡ r
 value_back (Err e) h = ap as_value (fault_told e) ∙ rw (ne_eqb (fault_number e) 0 (omega (arith, fault_small e)), fault_back e)
 value_back (Ok n) h = ap as_value (parts_back (answered 0 n) (answered-Narrow 0 n (omega arith) h))
+
+-- what writing, asking and rewriting answer has the same numbers
+holding_same : (r : Result ℕ Fault) → holding_numbers r ≡ writing_numbers r
+holding_same (Err e) = refl
+holding_same (Ok n) = refl
+
+rewriting_same : (r : Result ℕ Fault) → rewriting_numbers r ≡ writing_numbers r
+rewriting_same (Err e) = refl
+rewriting_same (Ok n) = refl
+
+abbrev as_packed : Numbers → Result ℕ Fault
+as_packed a = as_value (unpacked (packed a))
 
 offering_back : (o : Offering) → as_offering (unpacked (pack_offering o)) ≡ o
 offering_back (Err e) = ap as_offering (fault_told e) ∙ rw (ne_eqb (fault_number e) 0 (omega (arith, fault_small e)), fault_back e)
@@ -165,8 +177,10 @@ theorems =
       offer_back = λ tb f slip. offering_back (offer_result tb f slip);
       set_back = λ tb slip. offering_back (set_result tb slip);
       judging_back = λ tb answer. judging_back (judge_result tb answer) (narrow_judging tb answer);
-      holding_back = λ tb answer k a b c d. value_back (holding_result tb answer k a b c d) (narrow_holding tb answer k a b c d);
-      rewriting_back = λ tb rules. value_back (rewrite_result tb rules) (narrow_rewriting tb rules);
+      holding_back = λ tb answer k a b c d.
+          let r = holding_result tb answer k a b c d in
+          ap as_packed (holding_same r) ∙ value_back r (narrow_holding tb answer k a b c d);
+      rewriting_back = λ tb rules. let r = rewrite_result tb rules in ap as_packed (rewriting_same r) ∙ value_back r (narrow_rewriting tb rules);
       relevancy_back = λ tb answer work.
           rw (← (relevancy.begun_same tb answer work).0, ← (relevancy.begun_shows tb answer work)) (call_back (begun tb answer work) (narrow_begun tb answer work));
       magic_back = λ tb rules answer work.

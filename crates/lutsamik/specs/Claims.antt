@@ -2,11 +2,11 @@
 use Rattle.std.specs.Prelude.{ℕ, ◌<◌, Bool, List, ◌≡◌}
 use Rattle.problem.specs.Numbers.{Numbers}
 use Rattle.reading.specs.Read.{read_result}
-use Rattle.writing.specs.Write.{write_result}
+use Rattle.writing.specs.Write.{write_result, writing_numbers}
 use Rattle.offering.specs.Offer.{offer_result, set_result}
 use Rattle.judging.specs.ModelCheck.{judge_result}
-use Rattle.judging.specs.Holding.{holding_result}
-use Rattle.rewriting.specs.Rewrite.{rewrite_result}
+use Rattle.judging.specs.Holding.{holding_result, holding_numbers}
+use Rattle.rewriting.specs.Rewrite.{rewrite_result, rewriting_numbers}
 use Rattle.ground.specs.declared.verdict.Verdict.{Verdict}
 use Rattle.session.specs.declared.record.Session.{Session as Record}
 use Rattle.session.specs.Calls.{verdict_told, deepest_told}
@@ -18,7 +18,7 @@ use Rattle.magic.specs.Sessions.{magic_resumed}
 use Rattle.assuming.specs.Assume.{assumed_of}
 use Rattle.assuming.specs.Engines.{relevancy_runs, magic_runs}
 use Rattle.parting.specs.Runs.{parts_result}
-use Rattle.lutsamik.specs.Pack.{packed, pack_reading, pack_value, pack_offering, pack_judging, pack_verdict, pack_staged, pack_assumed, pack_parting, unpacked, deepest_of, as_reading, as_value, as_offering, as_judging, as_verdict, as_assumed, as_parting}
+use Rattle.lutsamik.specs.Pack.{packed, pack_reading, pack_offering, pack_judging, pack_verdict, pack_staged, pack_assumed, pack_parting, unpacked, deepest_of, as_reading, as_value, as_offering, as_judging, as_verdict, as_assumed, as_parting}
 
 -- numbers that have room in their bits
 pub record Narrow (a : Numbers) : Type 0 where
@@ -35,12 +35,12 @@ pub record VerdictBack (v : Verdict) (d : ℕ) : Type 0 where
 pub record Theorems : Type 0 where
   pub parts_back : (a : Numbers) → Narrow a → unpacked (packed a) ≡ a
   pub reading_back : (x tb : List ℕ) → as_reading (unpacked (pack_reading (read_result x tb))) ≡ read_result x tb
-  pub writing_back : (tb out : List ℕ) → as_value (unpacked (pack_value (write_result tb out))) ≡ write_result tb out
+  pub writing_back : (tb out : List ℕ) → as_value (unpacked (packed (writing_numbers (write_result tb out)))) ≡ write_result tb out
   pub offer_back : (tb f slip : List ℕ) → as_offering (unpacked (pack_offering (offer_result tb f slip))) ≡ offer_result tb f slip
   pub set_back : (tb slip : List ℕ) → as_offering (unpacked (pack_offering (set_result tb slip))) ≡ set_result tb slip
   pub judging_back : (tb answer : List ℕ) → as_judging (unpacked (pack_judging (judge_result tb answer))) ≡ judge_result tb answer
-  pub holding_back : (tb answer : List ℕ) (k a b c d : ℕ) → as_value (unpacked (pack_value (holding_result tb answer k a b c d))) ≡ holding_result tb answer k a b c d
-  pub rewriting_back : (tb rules : List ℕ) → as_value (unpacked (pack_value (rewrite_result tb rules))) ≡ rewrite_result tb rules
+  pub holding_back : (tb answer : List ℕ) (k a b c d : ℕ) → as_value (unpacked (packed (holding_numbers (holding_result tb answer k a b c d)))) ≡ holding_result tb answer k a b c d
+  pub rewriting_back : (tb rules : List ℕ) → as_value (unpacked (packed (rewriting_numbers (rewrite_result tb rules)))) ≡ rewrite_result tb rules
   -- an engine's verdict, and its deepest figure, which is 0 where it is refused
   pub relevancy_back : (tb answer work : List ℕ) → VerdictBack (fit_result tb answer work) (fit_deepest tb answer work)
   pub magic_back : (tb rules answer work : List ℕ) → VerdictBack (magic_result tb rules answer work) (magic_deepest tb rules answer work)

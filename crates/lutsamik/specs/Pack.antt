@@ -3,8 +3,8 @@
 use Rattle.std.specs.Prelude.{ℕ, zero, suc, ◌+◌, ◌*◌, ◌/◌, ◌%◌, cond, List, eqb, get_or, Result, Ok, Err}
 use Rattle.lists.specs.Digits.{bytes_of}
 use Rattle.problem.specs.declared.fault.Fault.{Fault}
-use Rattle.problem.specs.Faults.{fault_number, fault_of}
-use Rattle.problem.specs.Numbers.{Numbers, refused_as, answered}
+use Rattle.problem.specs.Faults.{fault_of}
+use Rattle.problem.specs.Numbers.{Numbers}
 use Rattle.reading.specs.Read.{Reading, reading_numbers}
 use Rattle.offering.specs.Offer.{Offering, offering_numbers}
 use Rattle.judging.specs.declared.judge.Judgement.{Judgement}
@@ -25,11 +25,6 @@ packed a = a.refusal + 256 * a.number + 16777216 * a.clause + 4294967296 * a.val
 
 abbrev pub pack_reading : Reading → ℕ
 pack_reading r = packed (reading_numbers r)
-
--- a number, or a refusal: what writing, rewriting and asking how far an instance holds answer
-abbrev pub pack_value : Result ℕ Fault → ℕ
-pack_value (Err e) = packed (refused_as (fault_number e))
-pack_value (Ok n) = packed (answered 0 n)
 
 abbrev pub pack_offering : Offering → ℕ
 pack_offering o = packed (offering_numbers o)
@@ -69,6 +64,7 @@ deepest_of n = n / 65536 % 65536
 abbrev pub as_reading : Numbers → Reading
 as_reading a = cond (eqb a.refusal 0) (Ok tt) (Err (record { fault = fault_of a.refusal; line = a.value }))
 
+-- a number, or a refusal: what writing, rewriting and asking how far an instance holds answer
 abbrev pub as_value : Numbers → Result ℕ Fault
 as_value a = cond (eqb a.refusal 0) (Ok a.value) (Err (fault_of a.refusal))
 

@@ -9,14 +9,14 @@ pub mod parts;
 ghost use Rattle.std.specs.Prelude.{◌≡◌};
 ghost use Rattle.problem.specs.Numbers.{answered};
 ghost use Rattle.reading.specs.Read.{read_result, read_leaves};
-ghost use Rattle.writing.specs.Write.{write_result, write_leaves};
+ghost use Rattle.writing.specs.Write.{write_result, write_leaves, writing_numbers};
 ghost use Rattle.offering.specs.Offer.{offer_result, offer_leaves, set_result, set_leaves};
 ghost use Rattle.judging.specs.ModelCheck.{judge_result};
-ghost use Rattle.judging.specs.Holding.{holding_result};
+ghost use Rattle.judging.specs.Holding.{holding_result, holding_numbers};
 ghost use Rattle.relevancy.specs.Engine.{fit_result, fit_deepest, fit_answer, fit_work};
 ghost use Rattle.magic.specs.Engine.{magic_result, magic_deepest, magic_rules, magic_answer, magic_work};
-ghost use Rattle.rewriting.specs.Rewrite.{rewrite_result, rewrite_leaves};
-ghost use Rattle.lutsamik.specs.Pack.{packed, pack_reading, pack_value, pack_offering, pack_judging, with_deepest, pack_verdict};
+ghost use Rattle.rewriting.specs.Rewrite.{rewrite_result, rewrite_leaves, rewriting_numbers};
+ghost use Rattle.lutsamik.specs.Pack.{packed, pack_reading, pack_offering, pack_judging, with_deepest, pack_verdict};
 
 use ground::verdict::{Verdict, number_of};
 use judging::judge::Judgement;
@@ -44,7 +44,8 @@ fn pack_reading(r: Result<(), Refusal>) -> u64
 
 // A count, or the refusal.
 fn pack_count(r: Result<u16, Fault>) -> u64
-    ensures { result ≡ pack_value r }
+    ensures writing { result ≡ packed (writing_numbers r) }
+    ensures rewriting { result ≡ packed (rewriting_numbers r) }
 {
     match r {
         Err(fault) => packed(fault.number(), 0, 0, 0),
@@ -72,7 +73,7 @@ fn pack_judging(j: Result<Judgement, Fault>) -> u64
 }
 
 fn pack_holding(h: Result<u8, Fault>) -> u64
-    ensures { result ≡ pack_value h }
+    ensures { result ≡ packed (holding_numbers h) }
 {
     match h {
         Err(fault) => packed(fault.number(), 0, 0, 0),
@@ -117,7 +118,7 @@ pub extern "C" fn lutsamik_read(text: &[u8], table: &mut [u8]) -> u64
 // Writes a table out as text, into 7,168 bytes.
 #[unsafe(no_mangle)]
 pub extern "C" fn lutsamik_write(table: &[u8], out: &mut [u8]) -> u64
-    ensures { (result ≡ pack_value (write_result table.now out.old)) × (out.new ≡ write_leaves table.now out.old) }
+    ensures { (result ≡ packed (writing_numbers (write_result table.now out.old))) × (out.new ≡ write_leaves table.now out.old) }
 {
     pack_count(writing::write::write(table, out))
 }
@@ -157,7 +158,7 @@ pub extern "C" fn lutsamik_holding(
     c: u32,
     d: u32,
 ) -> u64
-    ensures { result ≡ pack_value (holding_result table.now answer.now clause a b c d) }
+    ensures { result ≡ packed (holding_numbers (holding_result table.now answer.now clause a b c d)) }
 {
     pack_holding(judging::how_far::how_far(table, answer, clause, a, b, c, d))
 }
@@ -173,7 +174,7 @@ pub extern "C" fn lutsamik_fit_relevancy(table: &[u8], answer: &mut [u8], work: 
 // Rewrites a table into magic rules, in a rules buffer of 16,384 bytes.
 #[unsafe(no_mangle)]
 pub extern "C" fn lutsamik_rewrite(table: &[u8], rules: &mut [u8]) -> u64
-    ensures { (result ≡ pack_value (rewrite_result table.now rules.old)) × (rules.new ≡ rewrite_leaves table.now rules.old) }
+    ensures { (result ≡ packed (rewriting_numbers (rewrite_result table.now rules.old))) × (rules.new ≡ rewrite_leaves table.now rules.old) }
 {
     pack_count(rewriting::rewrite::rewrite(table, rules))
 }

@@ -34,6 +34,8 @@ fn decide(rules: &[u8], limit: u32, answer: &mut [u8], path: &mut [u8]) -> Reply
 }
 
 // Rewrites a valid table, runs by the rules alone in the first part of the work buffer, and leaves it zero.
+// Not put in line, so that its buffers do not lie under the check of the table.
+#[inline(never)]
 pub fn run(table: &[u8], rules: &mut [u8], answer: &mut [u8], work: &mut [u8]) -> Reply
     requires lawful { Lawful table.now }
     requires rules_len { (length rules.old ≡ 16384) × (1024 ≤ length answer.old) × (length work.old ≡ 65536) }

@@ -6,12 +6,16 @@ ghost use Rattle.std.specs.Prelude.{◌≡◌, ◌^◌, ◌≤◌};
 // The descriptor of standard output.
 const STDOUT_FILENO: i32 = 1;
 
-// c to the power k.
+// c to the power k, by multiplying.
 fn power(c: u8, k: u8) -> u64
     requires { (c ≤ 32) × (k ≤ 4) }
     ensures { result ≡ c ^ k }
 {
-    (c as u64).pow(k as u32)
+    let mut product = 1;
+    for _ in 0..k {
+        product *= c as u64;
+    }
+    product
 }
 
 // A number on a line of its own.

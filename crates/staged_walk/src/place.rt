@@ -16,6 +16,35 @@ use store::add;
 use walk::answer::Found;
 use walk::node::{mark, pass};
 
+// What a path can be read by: a valid table.
+#[derive(Clone, Copy)]
+pub struct ByTable<'a> {
+    pub table: &'a [u8],
+}
+
+impl<'a> Sites for ByTable<'a> {
+    ghost walker = { λ e. staged_walker e.table.now };
+
+    ghost Known = { λ e. Lawful e.table.now };
+
+    // It is read from the record as in the relevancy engine's walk.
+    fn alternative_at(&self, path: &[u8], depth: usize, j: u8) -> Option<usize> {
+        relevancy_walk::place::alternative_at(self.table, path, depth, j)
+    }
+
+    fn atoms(&self) -> usize {
+        relevancy_walk::place::atoms(self.table)
+    }
+
+    ghost sound = { λ e known. sound e.table.now known };
+
+    ghost small = { λ e known. small e.table.now known };
+
+    ghost genuine = { λ e known bs. (λ g. g, λ g. g) };
+
+    ghost tied = { λ e known. tied e.table.now };
+}
+
 // What the walk goes by: a valid table, the table of its chaining clauses, the index of its conditions, and the index of that table's alternatives.
 #[derive(Clone, Copy)]
 pub struct Staged<'a> {
@@ -44,13 +73,12 @@ impl<'a> Sites for Staged<'a> {
 
     ghost Known = { λ e. Lawful e.table.now };
 
-    // It is read from the record as in the relevancy engine's walk.
     fn alternative_at(&self, path: &[u8], depth: usize, j: u8) -> Option<usize> {
-        relevancy_walk::place::alternative_at(self.table, path, depth, j)
+        ByTable { table: self.table }.alternative_at(path, depth, j)
     }
 
     fn atoms(&self) -> usize {
-        relevancy_walk::place::atoms(self.table)
+        ByTable { table: self.table }.atoms()
     }
 
     ghost sound = { λ e known. sound e.table.now known };

@@ -16,10 +16,10 @@ const POWERS: [u32; 165] = [
 ];
 
 // The table, which is laid out anew at each call that names the constant: so reading makes it once for a text, and lends it.
-#[derive(Drop)]
+#[derive(Clone, Copy, Debug)]
 pub struct Powers {
-    table: [u32; 165],
-    ghost listed: { table ≡ allPowers },
+    pub table: [u32; 165],
+    pub ghost listed: { table ≡ allPowers },
 }
 
 impl Powers {

@@ -1,5 +1,5 @@
 use Rattle.staged_walk.proofs.AltLaws.{named_alike, next_alike}
-use Rattle.staged_walk.proofs.place.StagedSites.alternative_at.Goals as goal
+use Rattle.staged_walk.proofs.place.ByTableSites.alternative_at.Goals as goal
 
 pub alternative_at-requires-clause-room : goal.alternative_at-requires-clause-room
 alternative_at-requires-clause-room c = (c.requires.room.0, named_alike c.args.self.now.table.now c.args.path.now c.args.depth c.requires.room.1)
